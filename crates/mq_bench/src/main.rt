@@ -1,0 +1,47 @@
+//! Work for the clock: `mq_bench WORD COUNT` does a piece of work so often and prints a checksum, and no time.
+//! The scripts under `bench/` time it from outside.
+#![tactic(auto)]
+
+mod varint;
+
+use std::alloc::Global;
+use std::env;
+use std::process::ExitCode;
+
+/// The checksum of a piece of work, where there is one of this name and it found its memory.
+fn checksum(alloc: Global, word: &str, count: u32) -> Option<u64> {
+    match word {
+        "varint" => varint::checksum(alloc, count).ok(),
+        _ => None,
+    }
+}
+
+fn words_of(rt: &HostRuntime) -> Option<Vec<String>> {
+    let args = env::args(rt).ok()?;
+    let mut words = Vec::new(rt.alloc());
+    for word in args.skip(1) {
+        words.push(word).ok()?;
+    }
+    Some(words)
+}
+
+/// Does each pair of a word and a count, and prints a line for it.
+fn bench(rt: &HostRuntime) -> Option<()> {
+    let words = words_of(rt)?;
+    for pair in words.as_slice().chunks(2) {
+        let [word, count] = pair else {
+            return None;
+        };
+        let count = count.as_str().parse::<u32>().ok()?;
+        let sum = checksum(rt.alloc(), word.as_str(), count)?;
+        println!(rt; "{word} {sum}").ok()?;
+    }
+    Some(())
+}
+
+fn main(rt: HostRuntime) -> ExitCode {
+    match bench(&rt) {
+        Some(()) => ExitCode::from(0),
+        None => ExitCode::from(2),
+    }
+}
