@@ -1,1 +1,2 @@
 pub mod AddrTexts
+pub mod Blocks

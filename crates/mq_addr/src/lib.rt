@@ -10,5 +10,5 @@ mod range;
 pub use addr::{Addr, AddrFault, one_addr, parse_addr};
 pub use entry::{Asked, Given};
 pub use kind::Kind;
-pub use prefix::Prefix;
+pub use prefix::{Prefix, contains, overlaps};
 pub use range::{Flow, Range};
