@@ -35,8 +35,8 @@ by_type (Some kind) bytes =
 unfoldable pub front_of : List ℕ → Front
 front_of bytes = by_type (int_of bytes) bytes
 
--- The bytes of a data stream, from payload n on, ask for these acts, and left isn't a whole capsule. Behind a malformed
--- capsule nothing is asked for.
+-- The bytes of a data stream, from payload n on, ask for these acts, and left is what stands behind the whole capsules: less
+-- than one, or a malformed one and what follows it, of which nothing is asked.
 abbrev pub Reads : ℕ → ℕ → List ℕ → List Act → List ℕ → Type 0
 Reads stream n bytes [] left = (front_of bytes ≡ More) × (left ≡ bytes)
 Reads stream n bytes (act.Payload on k payload ∷ acts) left =
@@ -44,4 +44,4 @@ Reads stream n bytes (act.Payload on k payload ∷ acts) left =
 Reads stream n bytes (act.Malformed on ∷ acts) left = (on ≡ stream) × (front_of bytes ≡ Broken) × (acts ≡ []) × (left ≡ bytes)
 Reads stream n bytes (act.Bind on goal ∷ acts) left = ⊥
 Reads stream n bytes (act.Open on goal ∷ acts) left = ⊥
-Reads stream n bytes (act.Refuse on status ∷ acts) left = ⊥
+Reads stream n bytes (act.Refuse on status rule ∷ acts) left = ⊥

@@ -20,7 +20,7 @@ said b =
 -- the bytes in hex, or said by a text
 abbrev pub SaysPiece : List ℕ → ℕ → List ℕ → Type 0
 SaysPiece line conn bytes =
-    (line ≡ codes "bytes" ++ number conn ++ 32 ∷ encode_lower bytes)
+    (All (λ b. b < 256) bytes × (line ≡ codes "bytes" ++ number conn ++ 32 ∷ encode_lower bytes))
     ⊎ (All IsSayable bytes × (line ≡ codes "text" ++ number conn ++ 32 ∷ flat_map said bytes))
 
 -- a count, which may be left out where it is 1

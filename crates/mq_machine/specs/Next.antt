@@ -5,7 +5,7 @@ use Rattle.mq_talk.specs.declared.book.Entry.{Entry}
 use Rattle.mq_talk.specs.declared.note.End.{End}
 use Rattle.mq_talk.specs.declared.note.Note.{Note}
 use Rattle.mq_talk.specs.declared.note.Note.TheVariants.{Accepted, Took, Ported, Opened, Refused, Sent, Wrote, Closed, Ended}
-use Rattle.mq_machine.specs.ConnNext.{ConnNext, TookNext, IsOver}
+use Rattle.mq_machine.specs.ConnNext.{WantNext, WroteNext, TookNext, IsOver}
 use Rattle.mq_machine.specs.State.{Conn, new_conn, Feed, Offer, Held, Worker, Shared, State}
 
 -- an actor writes these calls into the book
@@ -34,20 +34,39 @@ pub record ReadNext (old : Held) (conn count : ℕ) (new : Held) : Type 0 where
   pub takes : Takes old.link.pieces bytes pieces
   pub count_is : count ≡ length bytes
   pub took : TookNext old.conn bytes after
-  pub new_is : new ≡ record old { link = record { pieces = pieces }; conn = after }
+  pub new_is : new ≡ record old { link = record old.link { pieces = pieces }; conn = after }
 
--- a connection does something by itself, and may write into the book
-pub record AloneNext (actor : ℕ) (old : Held) (sh : Shared) (note : Note) (new : Held) (after : Shared) : Type 0 where
+-- a connection does what is next, and may write into the book
+pub record DueNext (actor : ℕ) (old : Held) (sh : Shared) (note : Note) (new : Held) (after : Shared) : Type 0 where
   pub conn : Conn
   pub calls : List Call
-  pub next : ConnNext old.number (length sh.book) old.conn note conn calls
+  pub next : WantNext old.number (length sh.book) old.conn note conn calls
   pub new_is : new ≡ record old { conn = conn }
-  pub after_is : after ≡ record { book = sh.book ++ entries_of actor calls }
+  pub after_is : after ≡ record sh { book = sh.book ++ entries_of actor calls }
 
--- what a connection of this actor does
-abbrev pub HeldNext : ℕ → Held → Shared → Note → Held → Shared → Type 0
-HeldNext actor old sh (Took conn count) new after = ReadNext old conn count new × (after ≡ sh)
-HeldNext actor old sh note new after = AloneNext actor old sh note new after
+-- a connection writes to its link
+pub record WriteNext (old : Held) (conn : ℕ) (bytes : List ℕ) (new : Held) : Type 0 where
+  pub after : Conn
+  pub conn_is : conn ≡ old.number
+  pub wrote : WroteNext old.conn bytes after
+  pub new_is : new ≡ record old { conn = after }
+
+-- what a connection tries, in this order
+pub data Try : Type 0 where
+  Want Write Read : Try
+
+abbrev pub order : Try → ℕ
+order Want = 0
+order Write = 1
+order Read = 2
+
+-- what a try of a connection of this actor does
+abbrev pub HeldNext : ℕ → Held → Shared → Try → Note → Held → Shared → Type 0
+HeldNext actor old sh Read (Took conn count) new after = ReadNext old conn count new × (after ≡ sh)
+HeldNext actor old sh Read note new after = ⊥
+HeldNext actor old sh Write (Wrote conn bytes) new after = WriteNext old conn bytes new × (after ≡ sh)
+HeldNext actor old sh Write note new after = ⊥
+HeldNext actor old sh Want note new after = DueNext actor old sh note new after
 
 -- the seats of a worker: its offered links, then each of its connections
 pub data Seat : Type 0 where
@@ -85,33 +104,21 @@ pub record EndNext (old : Worker) (c conn : ℕ) (why : End) (new : Worker) : Ty
   pub over : IsOver h.conn why
   pub new_is : new ≡ record old { conns = remove old.conns i; next_seat = place (Of c) + 1 }
 
--- a connection does something
-pub record OfNext (old : Worker) (sh : Shared) (c : ℕ) (note : Note) (new : Worker) (after : Shared) : Type 0 where
+-- a connection tries something
+pub record OfNext (old : Worker) (sh : Shared) (c : ℕ) (try : Try) (note : Note) (new : Worker) (after : Shared) : Type 0 where
   pub i : ℕ
   pub h : Held
   pub g : Held
   pub has : HasConn old c i h
-  pub next : HeldNext old.id h sh note g after
+  pub next : HeldNext old.id h sh try note g after
   pub new_is : new ≡ record old { conns = slice_set old.conns i g; next_seat = place (Of c) + 1 }
 
--- In this state, with these shared contents, the note is allowed at the seat, and leads to new.
-abbrev pub SeatNext : Worker → Shared → Seat → Note → Worker → Shared → Type 0
-SeatNext old sh Offers (Accepted conn actor) new after = AcceptNext old conn actor new × (after ≡ sh)
-SeatNext old sh Offers note new after = ⊥
-SeatNext old sh (Of c) (Ended conn why) new after = EndNext old c conn why new × (after ≡ sh)
-SeatNext old sh (Of c) note new after = OfNext old sh c note new after
-
--- in which order a connection tries its acts: what is due or its end, then a write, then a read
-abbrev pub rank : Note → ℕ
-rank (Accepted conn actor) = 0
-rank (Took conn count) = 2
-rank (Ported conn stream) = 0
-rank (Opened tunnel conn stream kind) = 0
-rank (Refused conn stream status rule) = 0
-rank (Sent from n packet) = 0
-rank (Wrote conn bytes) = 1
-rank (Closed tunnel reason left) = 0
-rank (Ended conn reason) = 0
+-- In this state, with these shared contents, the note is allowed at a try of the seat, and leads to new.
+abbrev pub SeatNext : Worker → Shared → Seat → Try → Note → Worker → Shared → Type 0
+SeatNext old sh Offers Want (Accepted conn actor) new after = AcceptNext old conn actor new × (after ≡ sh)
+SeatNext old sh Offers try note new after = ⊥
+SeatNext old sh (Of c) Want (Ended conn why) new after = EndNext old c conn why new × (after ≡ sh)
+SeatNext old sh (Of c) try note new after = OfNext old sh c try note new after
 
 -- in the ring that begins with from, a comes no later than b
 pub record NoLater (from a b : ℕ) : Type 0 where
@@ -119,16 +126,17 @@ pub record NoLater (from a b : ℕ) : Type 0 where
   pub above : from ≤ b → a ≤ b
   pub below : a < from → a ≤ b
 
--- nothing is allowed at this seat
-abbrev pub IsIdle : Worker → Shared → Seat → Type 0
-IsIdle old sh seat = (note : Note) (new : Worker) (after : Shared) → SeatNext old sh seat note new after → ⊥
+-- nothing is allowed at this try of the seat
+abbrev pub IsIdle : Worker → Shared → Seat → Try → Type 0
+IsIdle old sh seat try = (note : Note) (new : Worker) (after : Shared) → SeatNext old sh seat try note new after → ⊥
 
--- The note is allowed at the first seat that has one, and it is what that seat tries first.
+-- The note is allowed at the first seat that has one, and it is of what that seat tries first.
 pub record WorkerTurn (old : Worker) (sh : Shared) (note : Note) (new : Worker) (after : Shared) : Type 0 where
   pub seat : Seat
-  pub allowed : SeatNext old sh seat note new after
-  pub first : (other : Seat) → (NoLater old.next_seat (place seat) (place other) → ⊥) → IsIdle old sh other
-  pub inner : (other : Note) (then : Worker) (later : Shared) → SeatNext old sh seat other then later → rank note ≤ rank other
+  pub try : Try
+  pub allowed : SeatNext old sh seat try note new after
+  pub first : (other : Seat) → (NoLater old.next_seat (place seat) (place other) → ⊥) → (any : Try) → IsIdle old sh other any
+  pub inner : (other : Try) → order other < order try → IsIdle old sh seat other
 
 -- the note is the turn of this actor, and leads to new
 pub record Turn (old : State) (actor : ℕ) (note : Note) (new : State) : Type 0 where
@@ -143,4 +151,4 @@ pub record Turn (old : State) (actor : ℕ) (note : Note) (new : State) : Type 0
 pub record Quiet (old : State) (actor : ℕ) : Type 0 where
   pub worker : Worker
   pub at : slice_get old.workers actor ≡ Some worker
-  pub idle : (seat : Seat) → IsIdle worker old.shared seat
+  pub idle : (seat : Seat) (try : Try) → IsIdle worker old.shared seat try

@@ -28,7 +28,7 @@ pub record OffersLink (old : State) (worker : ℕ) (new : State) : Type 0 where
 
 -- one more piece
 abbrev pub with_piece : Feed → List ℕ → Feed
-with_piece feed bytes = record { pieces = feed.pieces ++ bytes ∷ [] }
+with_piece feed bytes = record feed { pieces = feed.pieces ++ bytes ∷ [] }
 
 -- a piece arrives on a link that is offered
 pub record ArrivesOffered (old : State) (number : ℕ) (bytes : List ℕ) (new : State) : Type 0 where
@@ -73,7 +73,7 @@ LinePlays old (Conn worker) text new = (old.links ≡ 0) × (text ≡ []) × Off
 LinePlays old (Piece conn bytes) text new = (conn < old.links) × (text ≡ []) × Arrives old conn bytes new
 LinePlays old (Steps actor count) text new = (actor < length old.workers) × Runs old actor count text new
 
--- A line names what never was, or offers a second link, while one is served.
+-- It names what never was, or offers a second link: only one is served yet.
 abbrev pub IsBadHere : State → Line → Type 0
 IsBadHere old Blank = ⊥
 IsBadHere old (Conn worker) = (0 < old.links) ⊎ (length old.workers ≤ worker)
@@ -127,13 +127,14 @@ pub record IsPlayed (script out : List ℕ) : Type 0 where
   pub fits : length script ≤ script_limit
   pub plays : Plays start (with_tail lines tail) out new
 
--- all whole lines are good, and were played
+-- All whole lines are good, and were played; the begun one, and the script so far, are within their limits.
 pub record IsPlayedSoFar (script out : List ℕ) : Type 0 where
   pub lines : List (List ℕ)
   pub tail : List ℕ
   pub new : State
   pub script_is : IsScript script lines tail
-  pub fits : length (text_of lines) ≤ script_limit
+  pub fits : length script ≤ script_limit
+  pub begun : length tail ≤ line_limit
   pub plays : Plays start lines out new
 
 -- The script goes on behind these lines, which are all within its limit, with these bytes of one line.
@@ -188,40 +189,40 @@ pub record IsPlayedBad (script out : List ℕ) : Type 0 where
   pub bad : HasBad script before state
   pub out_is : out ≡ text ++ bad_line (length before + 1)
 
--- the text is a front of the other
-abbrev pub IsFrontOf : List ℕ → List ℕ → Type 0
-IsFrontOf text whole = (rest : List ℕ) × (whole ≡ text ++ rest)
-
--- a run that is cut off somewhere
+-- Up to so many steps that stop somewhere.
 abbrev pub RunsPart : State → ℕ → ℕ → List ℕ → Type 0
 RunsPart old actor zero text = text ≡ []
 RunsPart old actor (suc n) text =
     (text ≡ [])
-    ⊎ (((note : Note) × (mid : State) × Turn old actor note mid × IsFrontOf text (note_line note))
     ⊎ (((note : Note) × (mid : State) × (rest : List ℕ) × Turn old actor note mid × (text ≡ note_line note ++ rest) × RunsPart mid actor n rest)
-    ⊎ (Quiet old actor × IsFrontOf text (idle_line actor))))
+    ⊎ (Quiet old actor × (text ≡ idle_line actor)))
 
--- a good line that is cut off: only steps print anything
+-- what a good line printed when it stopped: only steps print anything
 abbrev pub LinePart : State → Line → List ℕ → Type 0
 LinePart old (Steps actor count) text = (actor < length old.workers) × RunsPart old actor count text
 LinePart old said text = text ≡ []
 
--- in the line behind these the play was cut off
-pub record PartIn (script : List ℕ) (before : List (List ℕ)) (state : State) (part : List ℕ) : Type 0 where
+-- the play stopped in the line behind these
+pub record StopsIn (script : List ℕ) (before : List (List ℕ)) (state : State) (text : List ℕ) : Type 0 where
   pub line : List ℕ
   pub said : Line
   pub has : HasLine script before line
   pub says : Says line said
-  pub cut : LinePart state said part
+  pub part : LinePart state said text
 
--- The play was cut off: before a line, in one, or in saying that one is bad.
+-- the text is a front of the other
+abbrev pub IsFrontOf : List ℕ → List ℕ → Type 0
+IsFrontOf text whole = (rest : List ℕ) × (whole ≡ text ++ rest)
+
+-- The lines of the script were played until the play stopped: before a line, in one, or behind saying that one is bad.
+-- A front of what that prints was printed.
 pub record IsPlayedPart (script out : List ℕ) : Type 0 where
   pub before : List (List ℕ)
   pub state : State
   pub text : List ℕ
   pub part : List ℕ
   pub plays : Plays start before text state
-  pub out_is : out ≡ text ++ part
-  pub cut : (HasFront script before [] × (part ≡ []))
-      ⊎ (PartIn script before state part
-      ⊎ (HasBad script before state × IsFrontOf part (bad_line (length before + 1))))
+  pub stops : (HasFront script before [] × (part ≡ []))
+      ⊎ (StopsIn script before state part
+      ⊎ (HasBad script before state × (part ≡ bad_line (length before + 1))))
+  pub front : IsFrontOf out (text ++ part)

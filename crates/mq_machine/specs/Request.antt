@@ -50,10 +50,15 @@ IsRefusedRequest bytes status =
     ⊎ (((path : List ℕ) × (used : ℕ) × IsUpgrade bytes kind.Ip path used × (status ≡ 501))
     ⊎ ((path : List ℕ) × (used : ℕ) × IsUpgrade bytes kind.Udp path used × IsOtherPath path × (status ≡ 400)))
 
--- the last of these reads decides what the head asks for
+-- Behind these bytes, nothing is decided before these reads or after any of them.
+abbrev pub AreBegun : List ℕ → List (List ℕ) → Type 0
+AreBegun front [] = IsBegun front
+AreBegun front (bytes ∷ reads) = IsBegun front × AreBegun (front ++ bytes) reads
+
+-- this read is the first that decides what the head asks for
 pub record Decides (reads before : List (List ℕ)) (last : List ℕ) (after : List (List ℕ)) : Type 0 where
   pub is : reads ≡ before ++ last ∷ after
-  pub begun : IsBegun (concat before)
+  pub begun : AreBegun [] before
 
 -- a request for a tunnel, and payloads behind it
 pub record AsksTunnel (reads : List (List ℕ)) (acts : List Act) : Type 0 where
@@ -78,11 +83,11 @@ pub record AsksRefusal (reads : List (List ℕ)) (acts : List Act) : Type 0 wher
   pub status : ℕ
   pub decides : Decides reads before last after
   pub refused : IsRefusedRequest (concat before ++ last) status
-  pub acts_are : acts ≡ act.Refuse 0 status ∷ []
+  pub acts_are : acts ≡ act.Refuse 0 status 0 ∷ []
 
 -- the head isn't whole
 pub record AsksNothing (reads : List (List ℕ)) (acts : List Act) : Type 0 where
-  pub begun : IsBegun (concat reads)
+  pub begun : AreBegun [] reads
   pub acts_are : acts ≡ []
 
 -- The reads ask for these acts, and no others.
