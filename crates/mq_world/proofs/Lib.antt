@@ -1,0 +1,5 @@
+pub mod Arriving
+pub mod Going
+pub mod Linked
+pub mod Reading
+pub mod Turning

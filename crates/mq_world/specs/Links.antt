@@ -1,0 +1,76 @@
+-- What one step of a connection on its link does.
+use Rattle.std.specs.Prelude.{◌≡◌, ℕ, ◌⊎◌, List, [], length, Option, Some, None}
+use Rattle.mq_talk.specs.declared.book.Call.{Call}
+use Rattle.mq_talk.specs.declared.note.End.{End}
+use Rattle.mq_talk.specs.declared.note.Note.{Note}
+use Rattle.mq_talk.specs.declared.note.Note.TheVariants.{Accepted, Took, Ported, Opened, Refused, Sent, Wrote, Closed, Ended}
+use Rattle.mq_machine.specs.ConnNext.{WantNext, WroteNext, TookNext, IsOver}
+use Rattle.mq_machine.specs.Next.{Takes}
+use Rattle.mq_machine.specs.State.{Conn, owed}
+use Rattle.mq_conn.specs.declared.connection.Connection.{Connection}
+use Rattle.mq_conn.specs.Connections.{IsConn}
+
+-- how many entries an act writes into the book
+abbrev pub written : Note → ℕ
+written (Accepted conn actor) = 0
+written (Took conn count) = 0
+written (Ported conn stream) = 0
+written (Opened tunnel conn stream kind) = 1
+written (Refused conn stream status rule) = 0
+written (Sent from n packet) = 0
+written (Wrote conn bytes) = 0
+written (Closed tunnel reason left) = 1
+written (Ended conn reason) = 0
+
+abbrev pub NotOver : Conn → Type 0
+NotOver s = (why : End) → IsOver s why → ⊥
+
+-- a read
+pub record DidRead (conn : ℕ) (pieces : List (List ℕ)) (s : Conn) (note : Note) (left : List (List ℕ)) (c : Connection) : Type 0 where
+  pub t : Conn
+  pub bytes : List ℕ
+  pub takes : Takes pieces bytes left
+  pub note_is : note ≡ Took conn (length bytes)
+  pub took : TookNext s bytes t
+  pub is : IsConn c t
+
+abbrev pub Reads : ℕ → List (List ℕ) → Conn → Option Note → List (List ℕ) → Connection → Type 0
+Reads conn pieces s None left c = (pieces ≡ []) × (left ≡ []) × IsConn c s
+Reads conn pieces s (Some note) left c = DidRead conn pieces s note left c
+
+-- what is due, or the end
+pub record DidWant (conn entries : ℕ) (pieces : List (List ℕ)) (s : Conn) (note : Note) (left : List (List ℕ)) (c : Connection) : Type 0 where
+  pub t : Conn
+  pub calls : List Call
+  pub next : WantNext conn entries s note t calls
+  pub left_is : left ≡ pieces
+  pub is : IsConn c t
+
+-- a write
+pub record DidWrite (conn : ℕ) (pieces : List (List ℕ)) (s : Conn) (note : Note) (left : List (List ℕ)) (c : Connection) : Type 0 where
+  pub t : Conn
+  pub bytes : List ℕ
+  pub note_is : note ≡ Wrote conn bytes
+  pub due : s.due ≡ []
+  pub wrote : WroteNext s bytes t
+  pub left_is : left ≡ pieces
+  pub is : IsConn c t
+
+-- a read where nothing is owed
+pub record ReadLast (conn : ℕ) (pieces : List (List ℕ)) (s : Conn) (note : Note) (left : List (List ℕ)) (c : Connection) : Type 0 where
+  pub owed : owed s ≡ []
+  pub did : DidRead conn pieces s note left c
+
+-- nothing is left to do
+pub record DidNothing (pieces : List (List ℕ)) (s : Conn) (left : List (List ℕ)) (c : Connection) : Type 0 where
+  pub due : s.due ≡ []
+  pub owed : owed s ≡ []
+  pub ending : s.ending ≡ None
+  pub none : pieces ≡ []
+  pub left_is : left ≡ []
+  pub is : IsConn c s
+
+abbrev pub Does : ℕ → ℕ → List (List ℕ) → Conn → Option Note → List (List ℕ) → Connection → Type 0
+Does conn entries pieces s None left c = DidNothing pieces s left c
+Does conn entries pieces s (Some note) left c =
+    DidWant conn entries pieces s note left c ⊎ (DidWrite conn pieces s note left c ⊎ ReadLast conn pieces s note left c)

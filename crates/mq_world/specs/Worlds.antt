@@ -1,0 +1,85 @@
+-- What the world stands for, and what happens to it.
+use Rattle.std.specs.Prelude.{◌≡◌, ℕ, ◌+◌, ◌≤◌, List, [], ◌∷◌, length, Option, Some, None, Result, Ok, Err}
+use Rattle.mq_machine.specs.declared.line.Line.TheVariants as line
+use Rattle.mq_machine.specs.Next.{Turn, Quiet}
+use Rattle.mq_machine.specs.Play.{LinePlays, IsBadHere, Arrives}
+use Rattle.mq_machine.specs.State.{State, start}
+use Rattle.mq_world.specs.declared.event.Event.{Event}
+use Rattle.mq_world.specs.declared.event.Event.TheVariants.{Conn, Piece, Step}
+use Rattle.mq_world.specs.declared.event.Stepped.{Stepped}
+use Rattle.mq_world.specs.declared.event.Stepped.TheVariants.{Done, Did, Idle}
+use Rattle.mq_world.specs.declared.event.WorldFault.{WorldFault}
+use Rattle.mq_world.specs.declared.event.WorldFault.TheVariants.{Missing, NoMemory}
+use Rattle.mq_world.specs.declared.world.World.{World}
+use Rattle.mq_wire.specs.declared.NoMemory as wire
+use Rattle.mq_talk.specs.declared.note.Note.{Note}
+use Rattle.mq_machine.specs.State as spec
+use Rattle.mq_conn.specs.Connections.{IsConn}
+use Rattle.mq_world.specs.declared.link.Link.{Link}
+use Rattle.mq_world.specs.declared.link.Seat.{Seat}
+use Rattle.mq_world.specs.declared.link.Seat.TheVariants.{Offered, Held, Gone}
+use Rattle.mq_world.specs.Links.{written}
+
+-- a link with these pieces is the worker's only offer, or that of its only connection, or its connection has ended
+abbrev pub IsSeat : Seat → List (List ℕ) → spec.Worker → Type 0
+IsSeat Offered pieces w = (w.offered ≡ record { number = 0; link = record { pieces = pieces } } ∷ []) × (w.conns ≡ [])
+IsSeat (Held c) pieces w =
+    (w.offered ≡ []) × (conn : spec.Conn) × (w.conns ≡ record { number = 0; link = record { pieces = pieces }; conn = conn } ∷ []) × IsConn c conn
+IsSeat Gone pieces w = (w.offered ≡ []) × (w.conns ≡ [])
+
+-- the link stands for this state, in which the book has so many entries
+pub record IsLinked (link : Link) (s : State) (entries : ℕ) : Type 0 where
+  pub worker : spec.Worker
+  pub links : s.links ≡ 1
+  pub workers : s.workers ≡ worker ∷ []
+  pub id : worker.id ≡ 0
+  pub book : length s.shared.book ≡ entries
+  pub seat : IsSeat link.seat link.pieces worker
+
+abbrev pub MayBeLinked : Option Link → State → ℕ → Type 0
+MayBeLinked None s entries = (s ≡ start) × (entries ≡ 0)
+MayBeLinked (Some link) s entries = IsLinked link s entries
+
+-- the world stands for this state
+abbrev pub IsWorld : World → State → Type 0
+IsWorld w s = MayBeLinked w.link s w.entries
+
+-- a piece arrives on link 0
+abbrev pub ArrivedOn : State → List ℕ → Link → ℕ → Type 0
+ArrivedOn s bytes link entries = (t : State) × Arrives s 0 bytes t × IsLinked link t entries
+
+-- the worker's turn on its link, or it has none
+abbrev pub LinkSteps : State → ℕ → Result (Option Note) wire.NoMemory → Link → Type 0
+LinkSteps s entries (Ok (Some note)) link = (t : State) × Turn s 0 note t × IsLinked link t (entries + written note)
+LinkSteps s entries (Ok None) link = Quiet s 0 × IsLinked link s entries
+LinkSteps s entries (Err e) link = Unit {0}
+
+-- a new link, or that there can be none
+abbrev pub Offers : State → ℕ → Result Stepped WorldFault → World → Type 0
+Offers s actor (Ok Done) w = (t : State) × LinePlays s (line.Conn actor) [] t × IsWorld w t
+Offers s actor (Err Missing) w = IsBadHere s (line.Conn actor) × IsWorld w s
+Offers s actor (Err NoMemory) w = Unit {0}
+Offers s actor (Ok (Did note)) w = ⊥
+Offers s actor (Ok Idle) w = ⊥
+
+-- a piece arrives, or its link never was
+abbrev pub Arrived : State → ℕ → List ℕ → Result Stepped WorldFault → World → Type 0
+Arrived s conn bytes (Ok Done) w = (t : State) × LinePlays s (line.Piece conn bytes) [] t × IsWorld w t
+Arrived s conn bytes (Err Missing) w = IsBadHere s (line.Piece conn bytes) × IsWorld w s
+Arrived s conn bytes (Err NoMemory) w = Unit {0}
+Arrived s conn bytes (Ok (Did note)) w = ⊥
+Arrived s conn bytes (Ok Idle) w = ⊥
+
+-- an actor's turn, or it has none, or never was
+abbrev pub Stepping : State → ℕ → Result Stepped WorldFault → World → Type 0
+Stepping s actor (Ok (Did note)) w = (t : State) × Turn s actor note t × IsWorld w t
+Stepping s actor (Ok Idle) w = Quiet s actor × IsWorld w s
+Stepping s actor (Err Missing) w = (length s.workers ≤ actor) × IsWorld w s
+Stepping s actor (Err NoMemory) w = Unit {0}
+Stepping s actor (Ok Done) w = ⊥
+
+-- what an event does
+abbrev pub Happens : State → Event → Result Stepped WorldFault → World → Type 0
+Happens s (Conn actor) answer w = Offers s actor answer w
+Happens s (Piece conn bytes) answer w = Arrived s conn bytes answer w
+Happens s (Step actor) answer w = Stepping s actor answer w

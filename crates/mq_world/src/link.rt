@@ -1,0 +1,77 @@
+//! A link in memory, and its connection.
+ghost use Rattle.std.specs.Prelude.{◌≡◌, ℕ, List, [], ◌+◌, IfOk, Some, None, length, ◌<◌};
+ghost use Rattle.mq_talk.specs.declared.book.Call.{Call};
+ghost use Rattle.mq_machine.specs.State.{Conn};
+ghost use Rattle.mq_machine.specs.ConnNext.{CanRead};
+ghost use Rattle.mq_conn.specs.Connections.{IsConn};
+ghost use Rattle.mq_world.specs.Links.{Reads, Does, NotOver, written};
+
+use crate::pieces::Pieces;
+use mq_conn::Connection;
+use mq_talk::Note;
+use mq_wire::NoMemory;
+use std::alloc::Global;
+
+/// A link is offered, held by its connection, or gone.
+#[derive(Drop)]
+pub enum Seat {
+    Offered,
+    Held(Connection),
+    Gone,
+}
+
+/// A link.
+#[derive(Drop)]
+pub struct Link {
+    pub pieces: Pieces,
+    pub seat: Seat,
+}
+
+/// How many entries an act writes into the book.
+pub fn written(note: &Note) -> u32
+    ensures { result ≡ written note.now }
+{
+    match note {
+        Note::Opened { .. } => 1,
+        Note::Closed { .. } => 1,
+        _ => 0,
+    }
+}
+
+/// One read, where a piece is there.
+fn read(
+    alloc: Global,
+    conn: u32,
+    pieces: &mut Pieces,
+    connection: &mut Connection,
+) -> Result<Option<Note>, NoMemory>
+    ensures { (s : Conn) → IsConn connection.old s → CanRead s → IfOk result (λ note. Reads conn pieces.old s note pieces.new connection.new) }
+{
+    let Some(bytes) = pieces.first() else {
+        return Ok(None);
+    };
+    let count = bytes.len() as u32;
+    connection.feed(alloc, bytes)?;
+    pieces.advance();
+    Ok(Some(Note::Took { conn, count }))
+}
+
+/// One step of a connection that isn't over: what is due, a write, or a read.
+pub fn go_on(
+    alloc: Global,
+    conn: u32,
+    entries: u32,
+    pieces: &mut Pieces,
+    connection: &mut Connection,
+) -> Result<Option<Note>, NoMemory>
+    ensures { (s : Conn) → IsConn connection.old s → NotOver s → IfOk result (λ note. Does conn entries pieces.old s note pieces.new connection.new) }
+{
+    if let Some(note) = connection.act(conn, entries)? {
+        return Ok(Some(note));
+    }
+    if connection.owes() {
+        let bytes = connection.write(alloc);
+        return Ok(Some(Note::Wrote { conn, bytes }));
+    }
+    read(alloc, conn, pieces, connection)
+}
