@@ -1,0 +1,12 @@
+use Rattle.mq_script.proofs.Lines.{no_word, other_word, word_read}
+use Rattle.mq_script.proofs.line.parse_words.Goals as goal
+
+pub returns-in_default : goal.returns-in_default
+returns-in_default c = λ said h. no_word c.args.line.now said c.in_default.ensures h
+
+pub returns-in_default-parse_word : goal.returns-in_default-parse_word
+returns-in_default-parse_word c = other_word c.cut_once.ensures c.args.line.now c.in-Some.text.now c.in-Some.rest.now c.in-Some.ensures
+    (λ w is. let none = c.in_default-parse_word.ensures.none w is in cc none)
+
+pub returns : goal.returns
+returns c = word_read c.cut_once.ensures c.args.line.now c.in-Some.text.now c.in-Some.rest.now c.in-Some-parse_word.word c.parse_behind.result c.in-Some.ensures c.in-Some-parse_word.ensures.some c.parse_behind.ensures

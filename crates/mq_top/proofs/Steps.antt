@@ -1,0 +1,110 @@
+-- Steps that go on from a state are steps from the start.
+use Rattle.std.proofs.Common.{◌≡◌, ℕ, zero, suc, ◌<◌, ◌≤◌, List, [], ◌∷◌, ◌++◌, length, Some, Ok, Err, refl, sym, ap, subst, ◌∙◌, arith, append_assoc, append-nil, ◌⊎◌, inl, inr}
+use Rattle.std.specs.List.{slice_get}
+use Rattle.std.proofs.lemmas.List.{length-set}
+use Rattle.mq_machine.specs.Next.{Turn, Quiet}
+use Rattle.mq_machine.specs.Play.{Runs, RunsPart}
+use Rattle.mq_machine.specs.State.{State}
+use Rattle.mq_machine.specs.Text.{note_line, idle_line}
+use Rattle.mq_talk.specs.declared.note.Note.{Note}
+use Rattle.mq_top.specs.Playing.{StepTo, IsActor, RunsTo}
+use Rattle.mq_top.specs.declared.status.Stop.{Stop}
+use Rattle.mq_top.specs.declared.status.Stop.TheVariants.{BadLine, WriteFault, NoMemory}
+use Rattle.mq_world.specs.declared.world.World.{World}
+use Rattle.mq_world.specs.Worlds.{IsWorld}
+
+pub got_within : {X : Type 0} (xs : List X) (i : ℕ) (x : X) → slice_get xs i ≡ Some x → i < length xs
+got_within [] i x e = absurd cc
+got_within (y ∷ ys) zero x e = omega arith
+got_within (y ∷ ys) (suc i) x e = let h = got_within ys i x e in omega (arith, h)
+
+-- what goes on from here goes on from the start
+pub record Far (s : State) (actor count : ℕ) (shown : List ℕ) (t : State) (left : ℕ) : Type 0 where
+  pub runs : (rest : List ℕ) (new : State) → Runs t actor left rest new → Runs s actor count (shown ++ rest) new
+  pub part : (rest : List ℕ) → RunsPart t actor left rest → RunsPart s actor count (shown ++ rest)
+  pub some : ((shown ≡ []) × (left ≡ count)) ⊎ (actor < length s.workers)
+  pub same : length t.workers ≡ length s.workers
+
+pub far_none : (s : State) (actor count : ℕ) → Far s actor count [] s count
+far_none s actor count = record { runs = λ rest new r. r; part = λ rest r. r; some = inl (refl, refl); same = refl }
+
+-- a turn leaves the number of workers, and its actor is one
+turn_same : (t : State) (actor : ℕ) (note : Note) (u : State) → Turn t actor note u → length u.workers ≡ length t.workers
+turn_same t actor note u turn = ap (λ (x : State). length x.workers) turn.new_is ∙ length-set t.workers actor turn.after
+
+turn_within : (t : State) (actor : ℕ) (note : Note) (u : State) → Turn t actor note u → actor < length t.workers
+turn_within t actor note u turn = got_within t.workers actor turn.worker turn.at
+
+within_start : (s t : State) (actor : ℕ) → length t.workers ≡ length s.workers → actor < length t.workers → actor < length s.workers
+within_start s t actor same h = omega (arith, same, h)
+
+pub far_more : (s t u : State) (actor count left less : ℕ) (shown : List ℕ) (note : Note) → left ≡ suc less → Far s actor count shown t left → Turn t actor note u
+    → Far s actor count (shown ++ note_line note) u less
+far_more s t u actor count left less shown note e far turn = record {
+  runs = λ rest new r.
+      let Q : ℕ → Type 0 = λ n. Runs t actor n (note_line note ++ rest) new in
+      let R : List ℕ → Type 0 = λ text. Runs s actor count text new in
+      subst R (sym (append_assoc shown (note_line note) rest)) (far.runs (note_line note ++ rest) new (subst Q (sym e) (inl (note, u, rest, turn, refl, r))));
+  part = λ rest r.
+      let Q : ℕ → Type 0 = λ n. RunsPart t actor n (note_line note ++ rest) in
+      let R : List ℕ → Type 0 = λ text. RunsPart s actor count text in
+      subst R (sym (append_assoc shown (note_line note) rest)) (far.part (note_line note ++ rest) (subst Q (sym e) (inr (inl (note, u, rest, turn, refl, r)))));
+  some = inr (within_start s t actor far.same (turn_within t actor note u turn));
+  same = turn_same t actor note u turn ∙ far.same;
+}
+
+runs_none : (s : State) (actor n : ℕ) → RunsPart s actor n []
+runs_none s actor zero = refl
+runs_none s actor (suc n) = inl refl
+
+-- no step is left
+pub far_done : (s t : State) (actor count left : ℕ) (shown : List ℕ) (w : World) → left ≡ 0 → 1 ≤ count → Far s actor count shown t left → (stands : IsWorld w t)
+    → RunsTo s actor count shown (Ok tt) w
+far_done s t actor count left shown w none some far stands =
+    let Q : ℕ → Type 0 = λ n. Runs t actor n [] t in
+    let P : List ℕ → Type 0 = λ text. Runs s actor count text t in
+    let runs = subst P (append-nil shown) (far.runs [] t (subst Q (sym none) (refl, refl))) in
+    elim far.some [
+      | inl e ↦ absurd (omega (arith, e.1, none, some))
+      | inr within ↦ (t, within, runs, stands)
+    ]
+
+-- the actor has no step
+pub far_idle : (s t : State) (actor count left less : ℕ) (shown idle : List ℕ) (w : World) → left ≡ suc less → Far s actor count shown t left → Quiet t actor → idle ≡ idle_line actor
+    → (stands : IsWorld w t) → RunsTo s actor count (shown ++ idle) (Ok tt) w
+far_idle s t actor count left less shown idle w e far quiet is stands =
+    let Q : ℕ → Type 0 = λ n. Runs t actor n (idle_line actor) t in
+    let P : List ℕ → Type 0 = λ text. Runs s actor count (shown ++ text) t in
+    let runs = subst P (sym is) (far.runs (idle_line actor) t (subst Q (sym e) (inr (quiet, refl, refl)))) in
+    (t, within_start s t actor far.same (got_within t.workers actor quiet.worker quiet.at), runs, stands)
+
+-- whether the actor is one, when nothing more was shown
+still_actor : (s t : State) (actor count left : ℕ) (shown more : List ℕ) → more ≡ [] → Far s actor count shown t left → IsActor s actor (shown ++ more)
+still_actor s t actor count left shown more none far =
+    elim far.some [
+      | inl e ↦ inl (ap (λ (xs : List ℕ). xs ++ more) e.0 ∙ none)
+      | inr within ↦ inr within
+    ]
+
+-- the step stopped
+pub far_stopped : (s t : State) (actor count left less : ℕ) (shown more : List ℕ) (why : Stop) (w v : World) → left ≡ suc less → Far s actor count shown t left
+    → StepTo t actor more (Err why) w → RunsTo s actor count (shown ++ more) (Err why) v
+far_stopped s t actor count left less shown more BadLine w v e far step =
+    let P : List ℕ → Type 0 = λ text. text ≡ [] in
+    elim far.some [
+      | inl none ↦ (omega (arith, far.same, step.0), ap (λ (xs : List ℕ). xs ++ more) none.0 ∙ step.1)
+      | inr within ↦ absurd (omega (arith, far.same, step.0, within))
+    ]
+far_stopped s t actor count left less shown more WriteFault w v e far step =
+    let note = step.0 in
+    let line = note_line note in
+    let is : more ≡ line ++ [] = step.3 ∙ sym (append-nil line) in
+    let Q : ℕ → Type 0 = λ n. RunsPart t actor n more in (
+      far.part more (subst Q (sym e) (inr (inl (note, step.1, [], step.2, is, runs_none step.1 actor less)))),
+      inr (within_start s t actor far.same (turn_within t actor note step.1 step.2)),
+    )
+far_stopped s t actor count left less shown more NoMemory w v e far step =
+    let Q : List ℕ → Type 0 = λ text. RunsPart t actor left text in (
+      far.part more (subst Q (sym step) (runs_none t actor left)),
+      still_actor s t actor count left shown more step far,
+    )

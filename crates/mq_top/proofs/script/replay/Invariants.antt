@@ -1,0 +1,19 @@
+use Rattle.std.proofs.Common.{◌≡◌, ℕ, List, []}
+use Rattle.mq_outside.specs.Outside.{Gives}
+use Rattle.mq_top.specs.Printing.{Adds}
+use Rattle.mq_top.specs.Reading.{IsRead}
+use Rattle.mq_top.proofs.script.replay.Given as goal
+
+-- what the source gave was read, and all that its lines print is written
+abbrev pub invariant-loop-turn : goal.invariant-loop-turn
+invariant-loop-turn g l = record {
+  script : List ℕ;
+  lines : List (List ℕ);
+  out : List ℕ;
+  gave : Gives (g.S.Source.left l.initial.source) (g.S.Source.left l.source) script;
+  took : Adds (g.K.Sink.taken l.initial.sink) (g.K.Sink.taken l.sink) out;
+  read : IsRead l.session script lines out;
+  written : l.owed.items ≡ [];
+  reading : g.S.Source.faults l.source ≡ g.S.Source.faults l.initial.source;
+  writing : g.K.Sink.faults l.sink ≡ g.K.Sink.faults l.initial.sink;
+}

@@ -1,0 +1,15 @@
+use Rattle.std.proofs.Common.{[]}
+use Rattle.mq_top.proofs.Ending.{unsaid, says_part}
+use Rattle.mq_top.proofs.Shown.{prints_none, prints_said, prints_flushed}
+use Rattle.mq_top.proofs.script.stop.Goals as goal
+
+pub returns-then-eq-clause-stops : goal.returns-then-eq-clause-stops
+returns-then-eq-clause-stops g c = ([], prints_none _ _, λ whole text s. unsaid whole text c.args.why c.args.number s)
+
+pub returns-in-Err-clause-stops : goal.returns-in-Err-clause-stops
+returns-in-Err-clause-stops g c =
+    let said = c.say-status.ensures.says in (
+      said.0,
+      prints_flushed _ _ _ _ _ _ said.0 (prints_said _ _ _ said.0 said.1) c.flush.ensures.prints,
+      λ whole text s. says_part whole _ c.say-status.result (said.2 whole text s),
+    )

@@ -1,0 +1,4 @@
+pub mod Printing
+pub mod Playing
+pub mod Reading
+pub mod Replay

@@ -1,0 +1,108 @@
+//! A line of a script is played, and what it prints gathers.
+ghost use Rattle.std.specs.Prelude.{◌≡◌, ℕ, ◌<◌, ◌≤◌, List, ◌++◌, length, Option, Some, None, Ok, Err};
+ghost use Rattle.mq_machine.specs.State.{State};
+ghost use Rattle.mq_world.specs.Worlds.{IsWorld};
+ghost use Rattle.mq_top.specs.Printing.{Prints, StopCounts, IsSilent};
+ghost use Rattle.mq_top.specs.Playing.{StepTo, RunsTo, EventTo, LineTo};
+
+use crate::print::spill;
+use crate::status::Stop;
+use mq_machine::Line;
+use mq_outside::Sink;
+use mq_script::{LineFault, parse_line, print_idle, print_note};
+use mq_world::{Event, Stepped, World, WorldFault};
+use std::alloc::Global;
+
+/// What an actor did.
+#[derive(Clone, Copy, Debug, PartialEq, Eq)]
+pub enum Moved {
+    /// It acted.
+    Acted,
+    /// It has no step.
+    Idle,
+}
+
+/// Takes a step of an actor, and prints its note or that it is idle.
+fn take_step<K: Sink>(
+    alloc: Global,
+    world: &mut World,
+    actor: u32,
+    owed: &mut Vec<u8>,
+    sink: &mut K,
+) -> Result<Moved, Stop>
+    ensures step { (shown : List ℕ) × Prints (K.taken sink.old) (K.taken sink.new) owed.old.items owed.new.items shown
+        × ((s : State) → IsWorld world.old s → StepTo s actor shown result world.new) }
+    ensures counts { StopCounts (K.faults sink.old) (K.faults sink.new) result }
+{
+    match world.step(alloc, Event::Step { actor }) {
+        Ok(Stepped::Did(note)) => {
+            print_note(owed, &note)?;
+            spill(owed, sink)?;
+            Ok(Moved::Acted)
+        }
+        Ok(Stepped::Idle) => {
+            print_idle(owed, actor)?;
+            Ok(Moved::Idle)
+        }
+        Ok(Stepped::Done) => Err(Stop::NoMemory),
+        Err(WorldFault::Missing) => Err(Stop::BadLine),
+        Err(WorldFault::NoMemory) => Err(Stop::NoMemory),
+    }
+}
+
+/// Takes up to so many steps of an actor, at least one.
+fn take_steps<K: Sink>(
+    alloc: Global,
+    world: &mut World,
+    actor: u32,
+    count: u32,
+    owed: &mut Vec<u8>,
+    sink: &mut K,
+) -> Result<(), Stop>
+    ensures runs { (shown : List ℕ) × Prints (K.taken sink.old) (K.taken sink.new) owed.old.items owed.new.items shown
+        × ((s : State) → IsWorld world.old s → 1 ≤ count → RunsTo s actor count shown result world.new) }
+    ensures counts { StopCounts (K.faults sink.old) (K.faults sink.new) result }
+{
+    let mut left = count;
+    while left > 0 {
+        match take_step(alloc, world, actor, owed, sink)? {
+            Moved::Acted => left -= 1,
+            Moved::Idle => return Ok(()),
+        }
+    }
+    Ok(())
+}
+
+/// What is no step happens.
+fn happen(alloc: Global, world: &mut World, event: Event) -> Result<(), Stop>
+    ensures happens { (s : State) → IsWorld world.old s → EventTo s event result world.new }
+    ensures silent { IsSilent result }
+{
+    match world.step(alloc, event) {
+        Ok(_) => Ok(()),
+        Err(WorldFault::Missing) => Err(Stop::BadLine),
+        Err(WorldFault::NoMemory) => Err(Stop::NoMemory),
+    }
+}
+
+/// Does what a whole line says, without its newline.
+pub fn play_line<K: Sink>(
+    alloc: Global,
+    world: &mut World,
+    line: &[u8],
+    owed: &mut Vec<u8>,
+    sink: &mut K,
+) -> Result<(), Stop>
+    ensures line { (shown : List ℕ) × Prints (K.taken sink.old) (K.taken sink.new) owed.old.items owed.new.items shown
+        × ((s : State) → IsWorld world.old s → LineTo s line.now shown result world.new) }
+    ensures counts { StopCounts (K.faults sink.old) (K.faults sink.new) result }
+{
+    match parse_line(alloc, line) {
+        Ok(Line::Blank) => Ok(()),
+        Ok(Line::Conn { worker }) => happen(alloc, world, Event::Conn { actor: worker }),
+        Ok(Line::Piece { conn, bytes }) => happen(alloc, world, Event::Piece { conn, bytes }),
+        Ok(Line::Steps { actor, count }) => take_steps(alloc, world, actor, count, owed, sink),
+        Err(LineFault::Syntax) => Err(Stop::BadLine),
+        Err(LineFault::NoMemory) => Err(Stop::NoMemory),
+    }
+}

@@ -1,0 +1,56 @@
+//! What is printed gathers, owed to a sink, and is written where it has grown or the sink is to have it.
+ghost use Rattle.std.specs.Prelude.{◌≡◌, ℕ, ◌≤◌, List, [], ◌++◌, length, take};
+ghost use Rattle.mq_top.specs.Printing.{Adds, Prints, FrontCounts, StopCounts, Flushes, Spills};
+
+use crate::status::Stop;
+use mq_outside::{Put, Sink};
+
+/// How many bytes gather before they are written, while steps are taken.
+const MOST_OWED: usize = 65_536;
+
+/// Writes bytes from the front until the sink has taken all, or fails. Answers how many it took.
+fn write_front<K: Sink>(sink: &mut K, bytes: &[u8]) -> usize
+    ensures within { result ≤ length bytes.now }
+    ensures adds { Adds (K.taken sink.old) (K.taken sink.new) (take result bytes.now) }
+    ensures counts { FrontCounts (K.faults sink.old) (K.faults sink.new) result (length bytes.now) }
+{
+    let mut rest = bytes;
+    while !rest.is_empty() {
+        match sink.write(rest) {
+            Put::Took(count) => {
+                let (_, after) = rest.split_at(count as usize);
+                rest = after;
+            }
+            Put::Failed => return bytes.len() - rest.len(),
+        }
+    }
+    bytes.len()
+}
+
+/// Writes all that is owed. What the sink didn't take at a fault stays owed.
+pub fn flush<K: Sink>(owed: &mut Vec<u8>, sink: &mut K) -> Result<(), Stop>
+    ensures prints { Prints (K.taken sink.old) (K.taken sink.new) owed.old.items owed.new.items [] }
+    ensures all { Flushes owed.new.items result }
+    ensures counts { StopCounts (K.faults sink.old) (K.faults sink.new) result }
+{
+    let written = write_front(sink, owed.as_slice());
+    if written == owed.len() {
+        owed.clear();
+        return Ok(());
+    }
+    owed.rotate_left(written);
+    owed.truncate(owed.len() - written);
+    Err(Stop::WriteFault)
+}
+
+/// Writes what is owed, where it is much.
+pub fn spill<K: Sink>(owed: &mut Vec<u8>, sink: &mut K) -> Result<(), Stop>
+    ensures prints { Prints (K.taken sink.old) (K.taken sink.new) owed.old.items owed.new.items [] }
+    ensures fault { Spills result }
+    ensures counts { StopCounts (K.faults sink.old) (K.faults sink.new) result }
+{
+    if owed.len() < MOST_OWED {
+        return Ok(());
+    }
+    flush(owed, sink)
+}

@@ -1,0 +1,226 @@
+//! Whole replays over sources and sinks in memory.
+
+mod rows;
+
+use crate::{MemSink, MemSource, Status, replay, run};
+use rows::{BAD, BAD_PRINTS, FIRST, FIRST_PRINTS, REFUSED, REFUSED_PRINTS};
+use std::alloc::{AllocError, Global};
+use std::test::Fail;
+
+/// How a source gives a script and a sink takes what is printed: the calls that fail, and the most bytes of a call.
+#[derive(Drop)]
+struct Way {
+    fail_read: u64,
+    read: usize,
+    fail_write: u64,
+    written: usize,
+}
+
+/// No call fails, and each gives or takes as much as it can.
+const PLAIN: Way = Way {
+    fail_read: 0,
+    read: usize::MAX,
+    fail_write: 0,
+    written: usize::MAX,
+};
+
+/// Replays a script. Answers the status, and what the sink took.
+fn replayed(alloc: Global, script: &[u8], way: &Way) -> Result<(Status, Vec<u8>), AllocError> {
+    let contents = Vec::from_slice(alloc, script)?;
+    let reads = vec![in alloc; way.fail_read]?;
+    let writes = vec![in alloc; way.fail_write]?;
+    let mut source = MemSource::new(contents, reads, way.read);
+    let mut sink = MemSink::new(alloc, writes, way.written);
+    let status = replay(alloc, &mut source, &mut sink);
+    Ok((status, Vec::from_slice(alloc, sink.taken())?))
+}
+
+#[test]
+fn rows_print_what_they_should(rt: HostRuntime) -> Result<(), Fail> {
+    let nothing: &[u8] = b"";
+    let cases = [
+        (nothing, Status::Done, nothing),
+        (FIRST, Status::Done, FIRST_PRINTS),
+        (REFUSED, Status::Done, REFUSED_PRINTS),
+        (BAD, Status::BadScript, BAD_PRINTS),
+        (b"# said\n\nstep 1\n", Status::BadScript, b"bad line 3\n"),
+        (b"step 0", Status::Done, b"idle 0\n"),
+        (
+            b"step 0\nstep  0",
+            Status::BadScript,
+            b"idle 0\nbad line 2\n",
+        ),
+    ];
+    for (script, want, text) in cases {
+        let (status, out) = replayed(rt.alloc(), script, &PLAIN)?;
+        assert_eq!(rt; out.as_slice(), text);
+        assert_eq!(rt; status, want);
+    }
+    Ok(())
+}
+
+#[test]
+fn any_cutting_prints_the_same(rt: HostRuntime) -> Result<(), Fail> {
+    for read in 1..=REFUSED.len() {
+        for written in [1, 7, usize::MAX] {
+            let way = Way {
+                fail_read: 0,
+                read,
+                fail_write: 0,
+                written,
+            };
+            let (status, out) = replayed(rt.alloc(), REFUSED, &way)?;
+            assert_eq!(rt; out.as_slice(), REFUSED_PRINTS, "reads of {read} bytes");
+            assert_eq!(rt; status, Status::Done);
+        }
+    }
+    Ok(())
+}
+
+#[test]
+fn failing_reads_end_with_what_was_played(rt: HostRuntime) -> Result<(), Fail> {
+    for (script, text) in [(FIRST, FIRST_PRINTS), (REFUSED, REFUSED_PRINTS)] {
+        let mut ended = Status::ReadFault;
+        for fail_read in 1..400 {
+            let way = Way {
+                fail_read,
+                read: 9,
+                fail_write: 0,
+                written: usize::MAX,
+            };
+            let (status, out) = replayed(rt.alloc(), script, &way)?;
+            assert!(rt; text.starts_with(out.as_slice()), "read {fail_read}");
+            ended = status;
+            if status != Status::ReadFault {
+                assert_eq!(rt; out.as_slice(), text);
+                break;
+            }
+            assert!(rt; fail_read > 1 || out.is_empty());
+        }
+        assert_eq!(rt; ended, Status::Done);
+    }
+    Ok(())
+}
+
+#[test]
+fn failing_writes_end_with_a_front(rt: HostRuntime) -> Result<(), Fail> {
+    for (script, text) in [(FIRST, FIRST_PRINTS), (REFUSED, REFUSED_PRINTS)] {
+        let mut ended = Status::WriteFault;
+        for fail_write in 1..400 {
+            let way = Way {
+                fail_read: 0,
+                read: usize::MAX,
+                fail_write,
+                written: 5,
+            };
+            let (status, out) = replayed(rt.alloc(), script, &way)?;
+            assert!(rt; text.starts_with(out.as_slice()), "write {fail_write}");
+            ended = status;
+            if status != Status::WriteFault {
+                assert_eq!(rt; out.as_slice(), text);
+                break;
+            }
+            assert!(rt; out.len() < text.len(), "write {fail_write}");
+        }
+        assert_eq!(rt; ended, Status::Done);
+    }
+    Ok(())
+}
+
+/// A comment of so many bytes.
+fn comment(alloc: Global, length: usize) -> Result<Vec<u8>, AllocError> {
+    vec![in alloc; b'#'; length]
+}
+
+#[test]
+fn a_line_has_at_most_200000_bytes(rt: HostRuntime) -> Result<(), Fail> {
+    let nothing: &[u8] = b"";
+    let cases = [
+        (200_000, Status::Done, nothing),
+        (200_001, Status::BadScript, b"bad line 1\n"),
+    ];
+    for (length, want, text) in cases {
+        for read in [4_096, usize::MAX] {
+            let way = Way {
+                fail_read: 0,
+                read,
+                fail_write: 0,
+                written: usize::MAX,
+            };
+            let mut script = comment(rt.alloc(), length)?;
+            let (status, out) = replayed(rt.alloc(), script.as_slice(), &way)?;
+            assert_eq!(rt; out.as_slice(), text, "{length} bytes");
+            assert_eq!(rt; status, want);
+            script.push(b'\n')?;
+            let (status, out) = replayed(rt.alloc(), script.as_slice(), &way)?;
+            assert_eq!(rt; out.as_slice(), text, "{length} bytes and a newline");
+            assert_eq!(rt; status, want);
+        }
+    }
+    Ok(())
+}
+
+/// A script of 335 comments, together 67,000,335 bytes.
+fn long_script(alloc: Global) -> Result<Vec<u8>, AllocError> {
+    let mut line = comment(alloc, 200_000)?;
+    line.push(b'\n')?;
+    let mut script = Vec::with_capacity(alloc, 67_108_865)?;
+    for _ in 0..335 {
+        script.extend_from_slice(line.as_slice())?;
+    }
+    Ok(script)
+}
+
+#[test]
+fn a_script_has_at_most_2_to_the_26_bytes(rt: HostRuntime) -> Result<(), Fail> {
+    let cases = [
+        // The last line ends with the last byte, with and without a newline.
+        (108_529, false, Status::Done),
+        (108_528, true, Status::Done),
+        // The first byte past the limit stands in a line, or is its newline.
+        (108_530, false, Status::BadScript),
+        (108_529, true, Status::BadScript),
+    ];
+    let nothing: &[u8] = b"";
+    for (length, ends, want) in cases {
+        let mut script = long_script(rt.alloc())?;
+        script.extend_from_slice(comment(rt.alloc(), length)?.as_slice())?;
+        if ends {
+            script.push(b'\n')?;
+        }
+        let (status, out) = replayed(rt.alloc(), script.as_slice(), &PLAIN)?;
+        let text = if want == Status::Done {
+            nothing
+        } else {
+            b"bad line 336\n"
+        };
+        assert_eq!(rt; status, want, "{length} bytes in the last line");
+        assert_eq!(rt; out.as_slice(), text);
+    }
+    Ok(())
+}
+
+#[test]
+fn one_word_is_a_command(rt: HostRuntime) -> Result<(), Fail> {
+    let none: &[&str] = &[];
+    let cases = [
+        (none, 2, ""),
+        (&["replay", "x"], 2, ""),
+        (&["Replay"], 2, ""),
+        (&[""], 2, ""),
+        (&["replay"], 0, "idle 0\n"),
+    ];
+    for (words, want, text) in cases {
+        let alloc = rt.alloc();
+        let mut list = Vec::new(alloc);
+        for word in words {
+            list.push(String::from_str(alloc, word)?)?;
+        }
+        let contents = Vec::from_slice(alloc, b"step 0\n")?;
+        let mut source = MemSource::new(contents, Vec::new(alloc), 4);
+        let mut sink = MemSink::new(alloc, Vec::new(alloc), 4);
+        assert_eq!(rt; run(alloc, list.as_slice(), &mut source, &mut sink), want);
+        assert_eq!(rt; sink.taken(), text.as_bytes());
+    }
+    Ok(())
+}

@@ -1,0 +1,19 @@
+//! Scripts, and what they print.
+
+/// The example request of RFC 9298, section 3, over HTTP/1.1, and one datagram.
+pub const FIRST: &[u8] =
+    b"conn 0\ntext 0 GET https://example.org/.well-known/masque/udp/192.0.2.6/443/ HTTP/1.1\\r\\nHost: example.org\\r\\nConnection: Upgrade\\r\\nUpgrade: connect-udp\\r\\nCapsule-Protocol: ?1\\r\\n\\r\\n\nbytes 0 0003006869\nstep 0 8\n";
+
+pub const FIRST_PRINTS: &[u8] =
+    b"accepted 0 0\ntook 0 158\nported 0 0\nopened 0 0 0 udp\nwrote 0 485454502f312e312031303120537769746368696e672050726f746f636f6c730d0a436f6e6e656374696f6e3a20557067726164650d0a557067726164653a20636f6e6e6563742d7564700d0a43617073756c652d50726f746f636f6c3a203f310d0a0d0a\ntook 0 5\nsent 0 0 6869\nidle 0\n";
+
+/// A request that asks for no tunnel.
+pub const REFUSED: &[u8] = b"conn 0\ntext 0 GET / HTTP/1.1\\r\\n\\r\\n\nstep 0 9\n";
+
+pub const REFUSED_PRINTS: &[u8] =
+    b"accepted 0 0\ntook 0 18\nrefused 0 0 400\nwrote 0 485454502f312e31203430302042616420526571756573740d0a436f6e6e656374696f6e3a20636c6f73650d0a436f6e74656e742d4c656e6774683a20300d0a0d0a\nended 0 Refused\nidle 0\n";
+
+/// A second line that names a link that never was.
+pub const BAD: &[u8] = b"conn 0\nbytes 1 00\n";
+
+pub const BAD_PRINTS: &[u8] = b"bad line 2\n";
