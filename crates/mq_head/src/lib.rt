@@ -1,0 +1,18 @@
+//! The heads of HTTP/1.1 requests for a tunnel, and their answers.
+#![tactic(auto)]
+
+mod answers;
+mod fields;
+mod kind;
+mod laws;
+mod list;
+mod reader;
+mod rules;
+mod step;
+mod target;
+
+pub use answers::{refusal, success};
+pub use kind::Kind;
+pub use laws::{head_stands, head_waits, one_answer, refusal_stays, upgrade_stays};
+pub use reader::HeadReader;
+pub use step::HeadStep;
