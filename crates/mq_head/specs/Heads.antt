@@ -24,9 +24,12 @@ abbrev pub skip_line_bytes : List ℕ → List ℕ
 skip_line_bytes [] = []
 skip_line_bytes (b ∷ bs) = if is_line_byte b then skip_line_bytes bs else b ∷ bs
 
+abbrev pub is_space : ℕ → Bool
+is_space b = b == 32
+
 -- one space, and no CR or LF
 abbrev pub has_one_space : List ℕ → Bool
-has_one_space line = (count_by (λ b. b == 32) line == 1) && not (list_any is_line_byte line)
+has_one_space line = (count_by is_space line == 1) && not (list_any is_line_byte line)
 
 -- the bytes end inside the request target, which follows the first space of the request line
 unfoldable pub ends_in_target : List ℕ → Bool

@@ -1,5 +1,5 @@
 -- What holds of the answers to all bytes of a connection, however they are cut.
-use Rattle.std.specs.Prelude.{◌≡◌, ℕ, ◌<◌, ◌⊎◌, List, ◌++◌, length, IsTrue}
+use Rattle.std.specs.Prelude.{◌≡◌, ℕ, ◌<◌, ◌≤◌, ◌⊎◌, List, ◌++◌, length, IsTrue}
 use Rattle.httparse.specs.Grammar.{RequestHead, print_request}
 use Rattle.mq_head.specs.declared.kind.Kind.{Kind}
 use Rattle.mq_head.specs.declared.step.HeadStep.{HeadStep}

@@ -1,5 +1,5 @@
 -- What the parsing functions answer.
-use Rattle.std.specs.Prelude.{◌≡◌, ℕ, ◌-◌, List, length, Result, Ok, Err}
+use Rattle.std.specs.Prelude.{◌≡◌, ℕ, ◌-◌, List, length, Bool, true, false, Option, Some, None, Result, Ok, Err}
 use Rattle.httparse.specs.Grammar.{RequestHead, print_request, HasNoRequest, NeverHasRequest, MayBecomeRequest}
 use Rattle.httparse.specs.Spans.{IsRequestWithin, IsRequestOf}
 use Rattle.httparse.specs.declared.spans.HeaderSpan.{HeaderSpan}
@@ -10,12 +10,20 @@ use Rattle.mq_head.specs.declared.reader.Parsed.{Parsed}
 use Rattle.mq_head.specs.declared.reader.Parsed.TheVariants.{Whole, Open, Never}
 use Rattle.mq_head.specs.declared.step.HeadStep.{HeadStep}
 use Rattle.mq_head.specs.declared.step.HeadStep.TheVariants.{More, Upgrade, Refuse}
+use Rattle.mq_head.specs.declared.fields.Fields.{Fields}
+use Rattle.mq_head.specs.Rules.{fields_of, is_sound}
+use Rattle.mq_head.specs.Kept.{Keeps}
 use Rattle.mq_head.specs.Heads.{IsMore, IsUpgrade, IsRefused}
 
 -- the meaning of what a head asks for
 abbrev pub meaning : Asked → Result (Kind × List ℕ) ℕ
 meaning (Tunnel kind path) = Ok (kind, path.now)
 meaning (Refused status) = Err status
+
+-- these are the fields of a head that keeps the general rules, or it doesn't
+abbrev pub IsSoundAs : RequestHead → Option Fields → Type 0
+IsSoundAs head (Some fields) = (is_sound head ≡ true) × Keeps fields (fields_of head)
+IsSoundAs head None = is_sound head ≡ false
 
 -- a head at the front, or that there is none, and whether there may be
 abbrev pub IsParsed : List ℕ → List HeaderSpan → Parsed → Type 0

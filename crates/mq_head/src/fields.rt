@@ -1,5 +1,5 @@
 //! What the fields of a request's head say.
-ghost use Rattle.std.specs.Prelude.{◌≡◌, ◌≤◌, ℕ, List, length, map, codes, All, IfOk, flat_map};
+ghost use Rattle.std.specs.Prelude.{◌≡◌, ◌≤◌, ◌<◌, ℕ, List, length, map, codes, All, IfOk, flat_map, ◌||◌};
 ghost use Rattle.http_header.specs.Token.{lowercase};
 ghost use Rattle.http_header.specs.FieldValue.{plain_value};
 ghost use Rattle.http_header.specs.HeaderMap.{append};
@@ -58,6 +58,7 @@ fn kind_of(token: &[u8]) -> Option<Kind>
 }
 
 /// The kind of the first member that stands for one.
+#[tactic(auto, using(crate::proofs::FieldsLemmas::first_kind_value))]
 fn first_kind_in(value: &[u8]) -> Option<Kind>
     ensures { result ≡ first_kind (members value.now) }
 {
@@ -70,8 +71,9 @@ fn first_kind_in(value: &[u8]) -> Option<Kind>
 }
 
 /// The kind of the first member of all values that stands for one.
+#[tactic(auto, using(crate::proofs::FieldsLemmas::first_kind_append))]
 fn first_kind(values: GetAll<'_, HeaderValue>) -> Option<Kind>
-    ensures { result ≡ first_kind (flat_map members (bytes_of values)) }
+    ensures { result ≡ first_kind (flat_map members (bytes_of values.entry)) }
 {
     for value in values {
         if let Some(kind) = first_kind_in(value.as_bytes()) {
@@ -81,28 +83,37 @@ fn first_kind(values: GetAll<'_, HeaderValue>) -> Option<Kind>
     None
 }
 
-/// Whether one of the members is `upgrade`.
-fn names_upgrade_in(value: &[u8]) -> bool
-    ensures { result ≡ has_member (codes "upgrade") (members value.now) }
+/// Whether one of the members is this token.
+#[tactic(auto, using(crate::proofs::FieldsLemmas::has_member_value))]
+fn has_member_in(token: &[u8], value: &[u8]) -> bool
+    requires { 0 < length token.now }
+    ensures { result ≡ has_member token.now (members value.now) }
 {
     for part in Parts::of(value) {
-        if is_same(part, b"upgrade") {
+        if is_same(part, token) {
             return true;
         }
     }
     false
 }
 
-/// Whether one of the members of all values is `upgrade`.
-fn names_upgrade(values: GetAll<'_, HeaderValue>) -> bool
-    ensures { result ≡ has_member (codes "upgrade") (flat_map members (bytes_of values)) }
+/// Whether one of the members of all values is this token.
+fn has_member(token: &[u8], values: GetAll<'_, HeaderValue>) -> bool
+    requires { 0 < length token.now }
+    ensures { result ≡ has_member token.now (flat_map members (bytes_of values.entry)) }
 {
     for value in values {
-        if names_upgrade_in(value.as_bytes()) {
+        if has_member_in(token, value.as_bytes()) {
             return true;
         }
     }
     false
+}
+
+fn count_of(values: GetAll<'_, HeaderValue>) -> usize
+    ensures { result ≡ length values.entry }
+{
+    values.iter().count()
 }
 
 fn either(a: bool, b: bool) -> bool
@@ -131,17 +142,23 @@ impl Fields {
         self.map.get_all(name)
     }
 
+    fn count(&self, name: &str) -> usize
+        ensures { (fields : List (List ℕ × List ℕ)) → Keeps self.now fields → result ≡ length (values_of name.now fields) }
+    {
+        count_of(self.named(name))
+    }
+
     fn has(&self, name: &str) -> bool
         ensures { (fields : List (List ℕ × List ℕ)) → Keeps self.now fields → result ≡ is_there name.now fields }
     {
-        self.named(name).iter().count() > 0
+        self.count(name) > 0
     }
 
     /// How many Host fields there are.
     pub fn hosts(&self) -> usize
         ensures { (fields : List (List ℕ × List ℕ)) → Keeps self.now fields → result ≡ hosts fields }
     {
-        self.named("host").iter().count()
+        self.count("host")
     }
 
     /// The tunnel that Upgrade asks for.
@@ -155,7 +172,7 @@ impl Fields {
     pub fn connection_upgrades(&self) -> bool
         ensures { (fields : List (List ℕ × List ℕ)) → Keeps self.now fields → result ≡ connection_upgrades fields }
     {
-        names_upgrade(self.named("connection"))
+        has_member(b"upgrade", self.named("connection"))
     }
 
     /// Whether a field says that content follows.

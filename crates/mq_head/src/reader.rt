@@ -1,7 +1,9 @@
 //! The reader of heads: any cutting of a connection's bytes into pieces.
-ghost use Rattle.std.specs.Prelude.{◌≡◌, ◌≤◌, ◌<◌, ◌-◌, ◌/◌, take, ◌++◌, ℕ, List, length, [], IfOk, OnErr, IsErr, Ok};
+ghost use Rattle.std.specs.Prelude.{◌≡◌, ◌≤◌, ◌<◌, ◌-◌, ◌/◌, take, ◌++◌, ℕ, List, length, count_by, [], IfOk, OnErr, IsErr, Ok, IsTrue, ◌⊎◌};
+ghost use Rattle.std.specs.List.{list_any};
+ghost use Rattle.httparse.specs.Grammar.{HasNoRequest};
 ghost use Rattle.httparse.specs.Spans.{IsRequestWithin, IsRequestOf};
-ghost use Rattle.mq_head.specs.Heads.{ends_in_target, has_one_space, skip_line_bytes, is_line_byte, head_limit};
+ghost use Rattle.mq_head.specs.Heads.{CanBecomeHead, ends_in_target, has_one_space, is_space, skip_line_bytes, is_line_byte, head_limit};
 ghost use Rattle.mq_head.specs.Steps.{IsStep};
 ghost use Rattle.mq_head.specs.Reader.{IsHeadOf, IsSpent, IsBegun};
 ghost use Rattle.mq_head.specs.Parsed.{IsParsed, IsAnswer};
@@ -34,10 +36,22 @@ fn skip_line_bytes(mut bytes: &[u8]) -> &[u8]
     bytes
 }
 
+fn count_spaces(line: &[u8]) -> usize
+    ensures { result ≡ count_by is_space line.now }
+{
+    line.iter().filter(|b| **b == b' ').count()
+}
+
+fn has_line_byte(line: &[u8]) -> bool
+    ensures { result ≡ list_any is_line_byte line.now }
+{
+    line.iter().any(|b| is_line_byte(*b))
+}
+
 fn has_one_space(line: &[u8]) -> bool
     ensures { result ≡ has_one_space line.now }
 {
-    line.iter().filter(|b| **b == b' ').count() == 1 && !line.iter().any(|b| is_line_byte(*b))
+    count_spaces(line) == 1 && !has_line_byte(line)
 }
 
 /// Whether the bytes end inside the request target.
@@ -94,21 +108,33 @@ fn answer(
     }
 }
 
+/// The answer to bytes that hold no head yet: more are waited for, up to the limit.
+fn without_head(front: &[u8], before: usize) -> HeadStep
+    requires none { HasNoRequest front.now }
+    requires goes_on { IsTrue (ends_in_target front.now) ⊎ CanBecomeHead front.now }
+    ensures { IsAnswer front.now before result }
+{
+    if front.len() < MAX_HEAD {
+        HeadStep::More
+    } else {
+        HeadStep::Refuse { status: 400 }
+    }
+}
+
 /// The answer to the first bytes of a connection, of which so many came with earlier pieces.
 fn decide(alloc: Global, front: &[u8], before: usize) -> Result<HeadStep, NoMemory>
     requires { length front.now ≤ head_limit }
     ensures { IfOk result (IsAnswer front.now before) }
 {
-    let is_open = front.len() < MAX_HEAD;
     if ends_in_target(front) {
-        return Ok(if is_open { HeadStep::More } else { HeadStep::Refuse { status: 400 } });
+        return Ok(without_head(front, before));
     }
     let mut room = vec![in alloc; EMPTY_HEADER_SPAN; front.len() / 3 + 1]?;
     let headers = room.as_mut_slice();
     match parse(front, headers) {
         Parsed::Whole(head) => answer(alloc, front, headers, &head, before),
-        Parsed::Open if is_open => Ok(HeadStep::More),
-        _ => Ok(HeadStep::Refuse { status: 400 }),
+        Parsed::Open => Ok(without_head(front, before)),
+        Parsed::Never => Ok(HeadStep::Refuse { status: 400 }),
     }
 }
 
@@ -125,7 +151,8 @@ enum State {
 
 /// The bytes of a piece that can belong to a head of which so many came before.
 fn within_limit(piece: &[u8], before: usize) -> &[u8]
-    ensures { result.now ≡ take (head_limit - before) piece.now }
+    ensures front { result.now ≡ take (head_limit - before) piece.now }
+    ensures short { length result.now ≤ head_limit }
 {
     let (front, _) = piece.split_at(piece.len().min(MAX_HEAD.saturating_sub(before)));
     front
@@ -171,7 +198,7 @@ impl HeadReader {
     {
         let before = kept.len();
         kept.extend_from_slice(within_limit(piece, before))?;
-        let step = decide(alloc, kept.as_slice(), before)?;
+        let step = decide(alloc, within_limit(kept.as_slice(), 0), before)?;
         if matches!(&step, HeadStep::More) {
             self.state = State::Begun(kept);
         }
