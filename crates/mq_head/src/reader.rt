@@ -5,7 +5,7 @@ ghost use Rattle.httparse.specs.Grammar.{HasNoRequest};
 ghost use Rattle.httparse.specs.Spans.{IsRequestWithin, IsRequestOf};
 ghost use Rattle.mq_head.specs.Heads.{CanBecomeHead, ends_in_target, has_one_space, is_space, skip_line_bytes, is_line_byte, head_limit};
 ghost use Rattle.mq_head.specs.Steps.{IsStep};
-ghost use Rattle.mq_head.specs.Reader.{IsHeadOf, IsSpent, IsBegun};
+ghost use Rattle.mq_head.specs.Reader.{IsHeadOf, IsSpent, IsBegun, StandsFor};
 ghost use Rattle.mq_head.specs.Parsed.{IsParsed, IsAnswer};
 
 use crate::rules::{Asked, asked_for};
@@ -158,6 +158,33 @@ fn within_limit(piece: &[u8], before: usize) -> &[u8]
     front
 }
 
+/// What a reader goes on with, after this answer to these bytes.
+fn state_after(step: &HeadStep, kept: Vec<u8>) -> State
+    ensures { step.now ≡ HeadStep.More → result ≡ State.Begun kept }
+{
+    match step {
+        HeadStep::More => State::Begun(kept),
+        HeadStep::Upgrade { .. } => State::Spent,
+        HeadStep::Refuse { .. } => State::Spent,
+    }
+}
+
+/// The answer to a piece that follows these bytes, and what the reader goes on with.
+fn step_behind(
+    alloc: Global,
+    mut kept: Vec<u8>,
+    piece: &[u8],
+) -> Result<(HeadStep, State), NoMemory>
+    ensures step { IfOk result (λ r. IsBegun kept.items → IsStep kept.items piece.now r.0) }
+    ensures more { IfOk result (λ r. r.0 ≡ HeadStep.More → IsBegun kept.items → StandsFor r.1 (kept.items ++ piece.now)) }
+{
+    let before = kept.as_slice().len();
+    kept.extend_from_slice(within_limit(piece, before))?;
+    let step = decide(alloc, within_limit(kept.as_slice(), 0), before)?;
+    let state = state_after(&step, kept);
+    Ok((step, state))
+}
+
 /// Reads the head of a connection, in pieces of any length. It keeps at most 8,191 bytes.
 #[derive(Drop)]
 pub struct HeadReader {
@@ -182,26 +209,12 @@ impl HeadReader {
         ensures err { OnErr result (IsSpent self.new) }
         ensures spent { IsSpent self.old → IsErr result }
     {
-        match replace(&mut self.state, State::Spent) {
-            State::Fresh => self.feed_behind(alloc, Vec::new(alloc), piece),
-            State::Begun(kept) => self.feed_behind(alloc, kept, piece),
-            State::Spent => Err(NoMemory),
-        }
-    }
-
-    /// The answer to a piece that follows these bytes.
-    fn feed_behind(&mut self, alloc: Global, mut kept: Vec<u8>, piece: &[u8]) -> Result<HeadStep, NoMemory>
-        requires { IsSpent self.old }
-        ensures step { IfOk result (λ step. IsBegun kept.items → IsStep kept.items piece.now step) }
-        ensures more { result ≡ Ok HeadStep.More → IsBegun kept.items → IsHeadOf self.new (kept.items ++ piece.now) }
-        ensures err { OnErr result (IsSpent self.new) }
-    {
-        let before = kept.len();
-        kept.extend_from_slice(within_limit(piece, before))?;
-        let step = decide(alloc, within_limit(kept.as_slice(), 0), before)?;
-        if matches!(&step, HeadStep::More) {
-            self.state = State::Begun(kept);
-        }
+        let (step, state) = match replace(&mut self.state, State::Spent) {
+            State::Fresh => step_behind(alloc, Vec::new(alloc), piece)?,
+            State::Begun(kept) => step_behind(alloc, kept, piece)?,
+            State::Spent => return Err(NoMemory),
+        };
+        self.state = state;
         Ok(step)
     }
 }
