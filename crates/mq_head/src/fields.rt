@@ -62,12 +62,11 @@ fn kind_of(token: &[u8]) -> Option<Kind>
 fn first_kind_in(value: &[u8]) -> Option<Kind>
     ensures { result ≡ first_kind (members value.now) }
 {
+    let mut kind = None;
     for part in Parts::of(value) {
-        if let Some(kind) = kind_of(part) {
-            return Some(kind);
-        }
+        kind = kind.or(kind_of(part));
     }
-    None
+    kind
 }
 
 /// The kind of the first member of all values that stands for one.
@@ -75,12 +74,11 @@ fn first_kind_in(value: &[u8]) -> Option<Kind>
 fn first_kind(values: GetAll<'_, HeaderValue>) -> Option<Kind>
     ensures { result ≡ first_kind (flat_map members (bytes_of values.entry)) }
 {
+    let mut kind = None;
     for value in values {
-        if let Some(kind) = first_kind_in(value.as_bytes()) {
-            return Some(kind);
-        }
+        kind = kind.or(first_kind_in(value.as_bytes()));
     }
-    None
+    kind
 }
 
 /// Whether one of the members is this token.

@@ -1,5 +1,14 @@
 //! What holds of the answers to all bytes of a connection, however they are cut into pieces.
+ghost use Rattle.std.specs.Prelude.{ℕ, List};
+ghost use Rattle.mq_head.specs.Reader.{IsHeadOf, IsBegun};
 ghost use Rattle.mq_head.specs.Laws.{OneAnswer, UpgradeStays, RefusalStays, HeadWaits, HeadStands};
+
+use crate::reader::HeadReader;
+
+/// A reader that goes on was fed nothing yet, or waits for more.
+pub fn reader_waits(_reader: &HeadReader)
+    ensures { (bytes : List ℕ) → IsHeadOf _reader.now bytes → IsBegun bytes }
+{}
 
 /// Bytes have one answer.
 pub fn one_answer()

@@ -13,6 +13,9 @@ mod target;
 
 pub use answers::{refusal, success};
 pub use kind::Kind;
-pub use laws::{head_stands, head_waits, one_answer, refusal_stays, upgrade_stays};
+pub use laws::{head_stands, head_waits, one_answer, reader_waits, refusal_stays, upgrade_stays};
 pub use reader::HeadReader;
 pub use step::HeadStep;
+
+#[cfg(test)]
+mod tests;

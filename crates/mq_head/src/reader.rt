@@ -1,5 +1,5 @@
 //! The reader of heads: any cutting of a connection's bytes into pieces.
-ghost use Rattle.std.specs.Prelude.{◌≡◌, ◌≤◌, ◌<◌, ◌-◌, ◌/◌, take, ◌++◌, ℕ, List, length, count_by, [], IfOk, OnErr, IsErr, Ok, IsTrue, ◌⊎◌};
+ghost use Rattle.std.specs.Prelude.{◌≡◌, ◌≢◌, ◌≤◌, ◌<◌, ◌-◌, ◌/◌, take, ◌++◌, ℕ, List, length, count_by, [], IfOk, OnErr, IsErr, Ok, IsTrue, ◌⊎◌};
 ghost use Rattle.std.specs.List.{list_any};
 ghost use Rattle.httparse.specs.Grammar.{HasNoRequest};
 ghost use Rattle.httparse.specs.Spans.{IsRequestWithin, IsRequestOf};
@@ -160,7 +160,8 @@ fn within_limit(piece: &[u8], before: usize) -> &[u8]
 
 /// What a reader goes on with, after this answer to these bytes.
 fn state_after(step: &HeadStep, kept: Vec<u8>) -> State
-    ensures { step.now ≡ HeadStep.More → result ≡ State.Begun kept }
+    ensures more { step.now ≡ HeadStep.More → result ≡ State.Begun kept }
+    ensures last { step.now ≢ HeadStep.More → result ≡ State.Spent }
 {
     match step {
         HeadStep::More => State::Begun(kept),
@@ -176,6 +177,7 @@ fn step_behind(
     piece: &[u8],
 ) -> Result<(HeadStep, State), NoMemory>
     ensures step { IfOk result (λ r. IsBegun kept.items → IsStep kept.items piece.now r.0) }
+    ensures last { IfOk result (λ r. r.0 ≢ HeadStep.More → r.1 ≡ State.Spent) }
     ensures more { IfOk result (λ r. r.0 ≡ HeadStep.More → IsBegun kept.items → StandsFor r.1 (kept.items ++ piece.now)) }
 {
     let before = kept.as_slice().len();
@@ -206,6 +208,7 @@ impl HeadReader {
     pub fn feed(&mut self, alloc: Global, piece: &[u8]) -> Result<HeadStep, NoMemory>
         ensures step { (bytes : List ℕ) → IsHeadOf self.old bytes → IfOk result (IsStep bytes piece.now) }
         ensures more { (bytes : List ℕ) → IsHeadOf self.old bytes → result ≡ Ok HeadStep.More → IsHeadOf self.new (bytes ++ piece.now) }
+        ensures last { IfOk result (λ step. step ≢ HeadStep.More → IsSpent self.new) }
         ensures err { OnErr result (IsSpent self.new) }
         ensures spent { IsSpent self.old → IsErr result }
     {

@@ -39,4 +39,4 @@ returns-clause-more c = λ is_more begun.
     let step : IsMore (c.args.kept.items ++ piece) =
         subst (IsStep c.args.kept.items piece) is_more
         (step_from_first c.args.kept.items piece kept front begun (kept_is c) (front_is c) c.in_ok-step.step (answer_is c)) in
-    subst (λ s. StandsFor s (c.args.kept.items ++ piece)) (sym (c.state_after-state.ensures is_more)) (all, step)
+    subst (λ s. StandsFor s (c.args.kept.items ++ piece)) (sym (c.state_after-state.ensures.more is_more)) (all, step)
