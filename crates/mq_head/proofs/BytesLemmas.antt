@@ -22,20 +22,18 @@ or_false ea eb = rw (ea, eb) refl
 
 tokens_plain : ArePlain is_token_byte
 unfolding is_token_byte
-tokens_plain b token =
-    (
-      ne_eqb b 32 (λ e. let bad : is_token_byte 32 ≡ true = subst (λ n. is_token_byte n ≡ true) e token in cc),
-      or_false (ne_eqb b 13 (λ e. let bad : is_token_byte 13 ≡ true = subst (λ n. is_token_byte n ≡ true) e token in cc))
+tokens_plain b token = (
+  ne_eqb b 32 (λ e. let bad : is_token_byte 32 ≡ true = subst (λ n. is_token_byte n ≡ true) e token in cc),
+  or_false (ne_eqb b 13 (λ e. let bad : is_token_byte 13 ≡ true = subst (λ n. is_token_byte n ≡ true) e token in cc))
       (ne_eqb b 10 (λ e. let bad : is_token_byte 10 ≡ true = subst (λ n. is_token_byte n ≡ true) e token in cc)),
-    )
+)
 
 uris_plain : ArePlain is_uri_byte
-uris_plain b uri =
-    (
-      ne_eqb b 32 (λ e. let bad : is_uri_byte 32 ≡ true = subst (λ n. is_uri_byte n ≡ true) e uri in cc),
-      or_false (ne_eqb b 13 (λ e. let bad : is_uri_byte 13 ≡ true = subst (λ n. is_uri_byte n ≡ true) e uri in cc))
+uris_plain b uri = (
+  ne_eqb b 32 (λ e. let bad : is_uri_byte 32 ≡ true = subst (λ n. is_uri_byte n ≡ true) e uri in cc),
+  or_false (ne_eqb b 13 (λ e. let bad : is_uri_byte 13 ≡ true = subst (λ n. is_uri_byte n ≡ true) e uri in cc))
       (ne_eqb b 10 (λ e. let bad : is_uri_byte 10 ≡ true = subst (λ n. is_uri_byte n ≡ true) e uri in cc)),
-    )
+)
 
 count_plain : (test : ℕ → Bool) → ArePlain test → (xs ys : List ℕ) → AllPass test xs
     → count_by is_space (xs ++ ys) ≡ count_by is_space ys
@@ -92,7 +90,7 @@ two_spaces method target rest token uri =
     let more = count_plain is_uri_byte uris_plain target (32 ∷ rest) uri in
     let line = method ++ 32 ∷ (target ++ 32 ∷ rest) in
     let many : (count_by is_space line == 1) ≡ false =
-        ne_eqb (count_by is_space line) 1 (λ e. omega (arith, e, spaces, more, count_space (target ++ 32 ∷ rest), count_space rest)) in
+    ne_eqb (count_by is_space line) 1 (λ e. omega (arith, e, spaces, more, count_space (target ++ 32 ∷ rest), count_space rest)) in
     ap (λ t. t && not (list_any is_line_byte line)) many
 
 -- behind the first space the target comes
@@ -103,7 +101,7 @@ target_ends bytes x =
     let method = x.1 in
     let target = x.2 in
     let line : skip_line_bytes bytes ≡ method ++ 32 ∷ target =
-        ap skip_line_bytes x.5 ∙ ap skip_line_bytes (append_assoc (print_blank blank) method (32 ∷ target)) ∙ skip_start blank method (32 ∷ target) x.3 in
+    ap skip_line_bytes x.5 ∙ ap skip_line_bytes (append_assoc (print_blank blank) method (32 ∷ target)) ∙ skip_start blank method (32 ∷ target) x.3 in
     ap has_one_space line ∙ one_space method target x.3 x.4
 
 -- a whole head has two spaces in its first line

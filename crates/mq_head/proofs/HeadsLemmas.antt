@@ -17,7 +17,7 @@ front_of : (front more text rest : List ℕ) → front ++ more ≡ text ++ rest 
 front_of front more text rest e within =
     let n = length text in
     let begins : take n front ≡ text =
-        sym (take-append-le n front more within) ∙ ap (take n) e ∙ take_at text rest n refl in
+    sym (take-append-le n front more within) ∙ ap (take n) e ∙ take_at text rest n refl in
     sym (take-append-drop n front) ∙ ap (λ t. t ++ drop n front) begins
 
 -- a head that ends within the front part stands there

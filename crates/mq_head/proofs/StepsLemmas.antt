@@ -60,7 +60,7 @@ upgrade_or_refused bytes kind path used status up refused =
           let ok = up.asks in
           let err = head.2 in
           absurd cc
-        )
+          )
       | inr none ↦ head_or_none bytes up.head up.has none.0
     ]
 
@@ -131,14 +131,14 @@ front_waits front more h has within =
     let text = print_request h in
     let fits = has.fits in
     let begins : take (length front) text ≡ front =
-        sym (take-append-le (length front) text has.rest (omega (arith, within))) ∙ ap (take (length front)) (sym has.reads.1) ∙ take_at front more (length front) refl in
+    sym (take-append-le (length front) text has.rest (omega (arith, within))) ∙ ap (take (length front)) (sym has.reads.1) ∙ take_at front more (length front) refl in
     let whole : front ++ drop (length front) text ≡ text ++ [] =
-        ap (λ b. b ++ drop (length front) text) (sym begins) ∙ take-append-drop (length front) text ∙ sym (append-nil text) in
+    ap (λ b. b ++ drop (length front) text) (sym begins) ∙ take-append-drop (length front) text ∙ sym (append-nil text) in
     record {
       no_head = λ k rest reads.
-        let same = (request_prefix_free front more k h rest has.rest reads has.reads).0 in
-        let lens = ap (λ (j : RequestHead). length (print_request j)) same in
-        omega (arith, lens, head_within front k rest reads, within);
+          let same = (request_prefix_free front more k h rest has.rest reads has.reads).0 in
+          let lens = ap (λ (j : RequestHead). length (print_request j)) same in
+          omega (arith, lens, head_within front k rest reads, within);
       short = omega (arith, within, fits);
       goes_on = inr (drop (length front) text, h, (has.reads.0, whole));
     }
@@ -224,7 +224,7 @@ step_from_first bytes piece kept front begun kept_is front_is = at_limit head_li
         let short = begun_short bytes begun in
         let joined = kept_at ∙ take_joined n bytes piece (omega arith) in
         let first_is : front ≡ take n (bytes ++ piece) =
-            front_at ∙ ap (take n) joined ∙ take-take n n (bytes ++ piece) (omega arith) in
+        front_at ∙ ap (take n) joined ∙ take-take n n (bytes ++ piece) (omega arith) in
         step_total n bytes piece limit begun step (subst (λ b. IsAnswer b (length bytes) step) first_is x)
 
 -- where more is waited for, all bytes were kept

@@ -6,8 +6,8 @@ use Rattle.httparse.specs.declared.spans.HeaderSpan.{HeaderSpan}
 use Rattle.mq_head.specs.declared.kind.Kind.{Kind}
 use Rattle.mq_head.specs.declared.rules.Asked.{Asked}
 use Rattle.mq_head.specs.declared.rules.Asked.TheVariants.{Tunnel, Refused}
-use Rattle.mq_head.specs.declared.reader.Parsed.{Parsed}
-use Rattle.mq_head.specs.declared.reader.Parsed.TheVariants.{Whole, Open, Never}
+use Rattle.mq_head.specs.declared.front.Parsed.{Parsed}
+use Rattle.mq_head.specs.declared.front.Parsed.TheVariants.{Whole, Open, Never}
 use Rattle.mq_head.specs.declared.step.HeadStep.{HeadStep}
 use Rattle.mq_head.specs.declared.step.HeadStep.TheVariants.{More, Upgrade, Refuse}
 use Rattle.mq_head.specs.declared.fields.Fields.{Fields}

@@ -23,12 +23,7 @@ pub struct Fields {
 
 /// Keeps one more field. An error of `http_header` is want of memory: what `httparse` reads is a name and a value, and
 /// a map has room for 64.
-fn keep(
-    alloc: Global,
-    map: &mut HeaderMap,
-    name: &[u8],
-    value: &[u8],
-) -> Result<(), NoMemory>
+fn keep(alloc: Global, map: &mut HeaderMap, name: &[u8], value: &[u8]) -> Result<(), NoMemory>
     ensures { IfOk result (λ _. map.new ≡ append map.old (lowercase name.now) (plain_value value.now)) }
 {
     let Ok(name) = HeaderName::from_bytes(alloc, name) else {

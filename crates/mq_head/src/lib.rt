@@ -3,8 +3,10 @@
 
 mod answers;
 mod fields;
+mod front;
 mod kind;
 mod laws;
+mod line;
 mod list;
 mod reader;
 mod rules;

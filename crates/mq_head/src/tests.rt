@@ -1,6 +1,7 @@
 //! Heads with their answers: from the RFCs, from the rules read by hand, and from other parsers' tests.
 use super::*;
 use std::alloc::Global;
+use std::process::Abort;
 use std::test::Fail;
 
 mod answers;
@@ -48,4 +49,29 @@ fn answer(alloc: Global, bytes: &[u8], size: usize) -> Result<(HeadStep, usize),
         }
     }
     Ok((HeadStep::More, before))
+}
+
+/// Each of the bytes has its answer, in one piece and in small ones; a head that asks for a tunnel has no bytes behind.
+fn all_hold(rt: &impl Abort, alloc: Global, cases: &[(&'static [u8], Want)]) -> Result<(), Fail> {
+    for (bytes, want) in cases {
+        for size in [1usize, 7, 8192] {
+            holds(rt, alloc, bytes, *want, size)?;
+        }
+    }
+    Ok(())
+}
+
+fn holds(
+    rt: &impl Abort,
+    alloc: Global,
+    bytes: &[u8],
+    want: Want,
+    size: usize,
+) -> Result<(), Fail> {
+    let (step, used) = answer(alloc, bytes, size)?;
+    assert!(rt; is_wanted(&step, want), "{bytes:?} in pieces of {size}");
+    if matches!(&step, HeadStep::Upgrade { .. }) {
+        assert_eq!(rt; used, bytes.len(), "{bytes:?} in pieces of {size}");
+    }
+    Ok(())
 }

@@ -6,13 +6,11 @@ fn success_and_refusals_are_these_bytes(rt: HostRuntime) -> Result<(), Fail> {
     for (kind, text) in [
         (
             Kind::Udp,
-            b"HTTP/1.1 101 Switching Protocols\r\nConnection: Upgrade\r\nUpgrade: connect-udp\r\nCapsule-Protocol: ?1\r\n\r\n"
-                .as_slice(),
+            b"HTTP/1.1 101 Switching Protocols\r\nConnection: Upgrade\r\nUpgrade: connect-udp\r\nCapsule-Protocol: ?1\r\n\r\n".as_slice(),
         ),
         (
             Kind::Ip,
-            b"HTTP/1.1 101 Switching Protocols\r\nConnection: Upgrade\r\nUpgrade: connect-ip\r\nCapsule-Protocol: ?1\r\n\r\n"
-                .as_slice(),
+            b"HTTP/1.1 101 Switching Protocols\r\nConnection: Upgrade\r\nUpgrade: connect-ip\r\nCapsule-Protocol: ?1\r\n\r\n".as_slice(),
         ),
     ] {
         let mut out = Vec::new(rt.alloc());

@@ -33,7 +33,11 @@ fn every_cutting_gives_the_same_answer(rt: HostRuntime) -> Result<(), Fail> {
             assert!(rt; is_wanted(&first, Want::More), "cut at {cut}");
             assert!(rt; is_wanted(&second, want), "cut at {cut}");
             if let HeadStep::Upgrade { used, .. } = &second {
-                assert_eq!(rt; *used as usize, head.len().saturating_sub(cut), "cut at {cut}");
+                assert_eq!(rt;
+                    *used as usize,
+                    head.len().saturating_sub(cut),
+                    "cut at {cut}"
+                );
             }
         }
     }

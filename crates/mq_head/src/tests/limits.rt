@@ -36,7 +36,10 @@ fn a_head_has_up_to_64_fields(rt: HostRuntime) -> Result<(), Fail> {
         let head = with_fields(rt.alloc(), count)?;
         for size in [1000usize, 8192] {
             let (step, _) = answer(rt.alloc(), head.as_slice(), size)?;
-            assert!(rt; is_wanted(&step, want), "{count} fields in pieces of {size}");
+            assert!(rt;
+                is_wanted(&step, want),
+                "{count} fields in pieces of {size}"
+            );
         }
     }
     Ok(())

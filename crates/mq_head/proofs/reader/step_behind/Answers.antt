@@ -37,6 +37,6 @@ returns-clause-more c = λ is_more begun.
     let more : IsMore front = subst (IsAnswer front (length c.args.kept.items)) is_more (answer_is c) in
     let all : kept ≡ c.args.kept.items ++ piece = kept_from_first c.args.kept.items piece kept front begun (kept_is c) (front_is c) more in
     let step : IsMore (c.args.kept.items ++ piece) =
-        subst (IsStep c.args.kept.items piece) is_more
-        (step_from_first c.args.kept.items piece kept front begun (kept_is c) (front_is c) c.in_ok-step.step (answer_is c)) in
+    subst (IsStep c.args.kept.items piece) is_more
+    (step_from_first c.args.kept.items piece kept front begun (kept_is c) (front_is c) c.in_ok-step.step (answer_is c)) in
     subst (λ s. StandsFor s (c.args.kept.items ++ piece)) (sym (c.state_after-state.ensures.more is_more)) (all, step)

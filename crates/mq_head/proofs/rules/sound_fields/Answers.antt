@@ -10,7 +10,7 @@ use Rattle.mq_head.proofs.rules.sound_fields.Goals as goal
 pub returns-then-hosts-eq1 : goal.returns-then-hosts-eq1
 returns-then-hosts-eq1 c = λ h at.
     let keeps : Keeps c.in_ok-fields.fields (fields_of h) =
-        c.in_ok-fields.ensures ∙ ap (λ fields. append_all [] (map kept fields)) at.fields in
+    c.in_ok-fields.ensures ∙ ap (λ fields. append_all [] (map kept fields)) at.fields in
     let few : length h.fields ≤ 64 = omega (
       arith,
       c.if-head-gt-MAX_FIELDS.false,

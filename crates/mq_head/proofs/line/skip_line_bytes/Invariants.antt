@@ -1,6 +1,6 @@
 use Rattle.std.proofs.Common.{◌≡◌, length}
 use Rattle.mq_head.specs.Heads.{skip_line_bytes}
-use Rattle.mq_head.proofs.reader.skip_line_bytes.Given as goal
+use Rattle.mq_head.proofs.line.skip_line_bytes.Given as goal
 
 abbrev pub invariant-loop-bytes : goal.invariant-loop-bytes
 invariant-loop-bytes l = skip_line_bytes l.bytes ≡ skip_line_bytes l.fn.bytes

@@ -1,6 +1,6 @@
 use Rattle.std.proofs.Common.{◌≡◌, Bool, true, false, sym, ap, ◌∙◌, inl, inr}
 use Rattle.mq_head.proofs.BytesLemmas.{target_ends, head_has_two}
-use Rattle.mq_head.proofs.reader.decide.Goals as goal
+use Rattle.mq_head.proofs.front.decide.Goals as goal
 
 pub without_head-requires-clause-none : goal.without_head-requires-clause-none
 without_head-requires-clause-none c = λ h rest reads.

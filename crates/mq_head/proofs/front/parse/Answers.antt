@@ -1,6 +1,6 @@
 use Rattle.std.proofs.Common.{Err, ap, arith}
 use Rattle.mq_head.proofs.HeadsLemmas.{fits_room}
-use Rattle.mq_head.proofs.reader.parse.Goals as goal
+use Rattle.mq_head.proofs.front.parse.Goals as goal
 
 pub returns-in-Err : goal.returns-in-Err
 returns-in-Err c =
