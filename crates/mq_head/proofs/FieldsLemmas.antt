@@ -10,7 +10,7 @@ use Rattle.http_header.specs.HeaderMap.{Entries, get_all, append, append_all}
 use Rattle.http_header.specs.Token.{lowercase}
 use Rattle.http_header.proofs.HeaderMapLemmas.{get_all-append_same, get_all-append_other}
 use Rattle.std.specs.Option.{option_or}
-use Rattle.mq_head.specs.declared.kind.Kind.{Kind}
+use Rattle.mq_addr.specs.declared.kind.Kind.{Kind}
 use Rattle.mq_head.specs.Lists.{same_text, parts, is_member, members, has_member}
 use Rattle.mq_head.specs.Fields.{values_of, kind_of, first_kind}
 use Rattle.mq_head.specs.Kept.{kept, bytes_of}

@@ -4,7 +4,7 @@ use Rattle.std.proofs.lemmas.Bool.{cases_lt}
 use Rattle.std.proofs.lemmas.List.{take-append-drop, take-append-le, append-nil, take_at, take-take, length-take, take_all}
 use Rattle.httparse.specs.Grammar.{RequestHead, print_request, ReadsRequest, HasNoRequest, NeverHasRequest}
 use Rattle.httparse.proofs.GrammarLemmas.{request_prefix_free, ReadsRequest-append}
-use Rattle.mq_head.specs.declared.kind.Kind.{Kind}
+use Rattle.mq_addr.specs.declared.kind.Kind.{Kind}
 use Rattle.mq_head.specs.declared.step.HeadStep.{HeadStep}
 use Rattle.mq_head.specs.declared.step.HeadStep.TheVariants.{More, Upgrade, Refuse}
 use Rattle.mq_head.specs.Heads.{head_limit, HasHead, CanBecomeHead, IsMore, IsUpgrade, HasNoHead, IsRefused, ends_in_target}

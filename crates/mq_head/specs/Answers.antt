@@ -1,7 +1,7 @@
 -- The answers on HTTP/1.1 (RFC 9110, section 15; RFC 9298, section 3.3; RFC 9484, section 4.2).
 use Rattle.std.specs.Prelude.{ℕ, List, ◌++◌, codes, if◌then◌else◌, ◌==◌, ◌≡◌, ◌⊎◌}
-use Rattle.mq_head.specs.declared.kind.Kind.{Kind}
-use Rattle.mq_head.specs.declared.kind.Kind.TheVariants.{Udp, Ip}
+use Rattle.mq_addr.specs.declared.kind.Kind.{Kind}
+use Rattle.mq_addr.specs.declared.kind.Kind.TheVariants.{Udp, Ip}
 
 abbrev pub token_of : Kind → List ℕ
 token_of Udp = codes "connect-udp"

@@ -2,8 +2,8 @@
 use Rattle.std.specs.Prelude.{ℕ, Bool, List, [], ◌∷◌, length, map, codes, if◌then◌else◌, nat_lt, ◌||◌, Option, Some, None, flat_map}
 use Rattle.std.specs.List.{filter}
 use Rattle.std.specs.Option.{option_or}
-use Rattle.mq_head.specs.declared.kind.Kind.{Kind}
-use Rattle.mq_head.specs.declared.kind.Kind.TheVariants.{Udp, Ip}
+use Rattle.mq_addr.specs.declared.kind.Kind.{Kind}
+use Rattle.mq_addr.specs.declared.kind.Kind.TheVariants.{Udp, Ip}
 use Rattle.mq_head.specs.Lists.{same_text, members, has_member}
 
 -- the values of the fields of this name, in order (names in any letter case: RFC 9110, section 5.1)

@@ -1,7 +1,7 @@
 -- What holds of the answers to all bytes of a connection, however they are cut.
 use Rattle.std.specs.Prelude.{◌≡◌, ℕ, ◌<◌, ◌≤◌, ◌⊎◌, List, ◌++◌, length, IsTrue}
 use Rattle.httparse.specs.Grammar.{RequestHead, print_request}
-use Rattle.mq_head.specs.declared.kind.Kind.{Kind}
+use Rattle.mq_addr.specs.declared.kind.Kind.{Kind}
 use Rattle.mq_head.specs.declared.step.HeadStep.{HeadStep}
 use Rattle.mq_head.specs.Heads.{HasHead, IsMore, IsUpgrade, IsRefused, ends_in_target}
 use Rattle.mq_head.specs.Steps.{IsStep}

@@ -2,7 +2,7 @@
 use Rattle.std.specs.Prelude.{ℕ, Bool, not, ◌||◌, ◌&&◌, ◌==◌, List, length, map, codes, bytes_eq, Option, Some, None, Result, Ok, Err, if◌then◌else◌, nat_lt}
 use Rattle.httparse.specs.Grammar.{RequestHead}
 use Rattle.httparse.specs.Spans.{name_and_value}
-use Rattle.mq_head.specs.declared.kind.Kind.{Kind}
+use Rattle.mq_addr.specs.declared.kind.Kind.{Kind}
 use Rattle.mq_head.specs.Fields.{hosts, upgrade_kind, connection_upgrades, has_content}
 use Rattle.mq_head.specs.Target.{path_of}
 

@@ -1,8 +1,8 @@
 //! The answers to a request for a tunnel.
 ghost use Rattle.std.specs.Prelude.{◌≡◌, ◌++◌, OnOk, OnErr};
-ghost use Rattle.mq_head.specs.Answers.{success_text, refusal_text, IsRefusal};
+ghost use Rattle.mq_head.specs.Answers.{success_text, refusal_text};
 
-use crate::kind::Kind;
+use mq_addr::Kind;
 use mq_wire::NoMemory;
 
 #[tactic(auto, unfolding(crate::specs::Answers::success_text))]
@@ -19,7 +19,6 @@ fn success_text(kind: Kind) -> &'static [u8]
 
 #[tactic(auto, unfolding(crate::specs::Answers::refusal_text))]
 fn refusal_text(status: u16) -> &'static [u8]
-    requires { IsRefusal status }
     ensures { result.now ≡ refusal_text status }
 {
     match status {
@@ -44,7 +43,6 @@ pub fn success(out: &mut Vec<u8>, kind: Kind) -> Result<(), NoMemory>
 
 /// Writes the refusal of this status at the end, after which the connection ends. An `Err` changes nothing.
 pub fn refusal(out: &mut Vec<u8>, status: u16) -> Result<(), NoMemory>
-    requires { IsRefusal status }
     ensures ok { OnOk result (out.new.items ≡ out.old.items ++ refusal_text status) }
     ensures err { OnErr result (out.new.items ≡ out.old.items) }
 {

@@ -8,10 +8,10 @@ ghost use Rattle.mq_head.specs.Lists.{members, has_member};
 ghost use Rattle.mq_head.specs.Fields.{values_of, hosts, kind_of, first_kind, upgrade_kind, connection_upgrades, is_there, has_content};
 ghost use Rattle.mq_head.specs.Kept.{Keeps, bytes_of};
 
-use crate::kind::Kind;
 use crate::list::{Parts, is_same};
 use http_header::{GetAll, HeaderMap, HeaderName, HeaderValue};
 use httparse::spans::HeaderSpan;
+use mq_addr::Kind;
 use mq_wire::NoMemory;
 use std::alloc::Global;
 

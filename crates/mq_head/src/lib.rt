@@ -4,7 +4,6 @@
 mod answers;
 mod fields;
 mod front;
-mod kind;
 mod laws;
 mod line;
 mod list;
@@ -14,8 +13,8 @@ mod step;
 mod target;
 
 pub use answers::{refusal, success};
-pub use kind::Kind;
 pub use laws::{head_stands, head_waits, one_answer, reader_waits, refusal_stays, upgrade_stays};
+pub use mq_addr::Kind;
 pub use reader::HeadReader;
 pub use step::HeadStep;
 

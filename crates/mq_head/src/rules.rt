@@ -7,9 +7,9 @@ ghost use Rattle.mq_head.specs.Kept.{Keeps};
 ghost use Rattle.mq_head.specs.Parsed.{meaning, IsSoundAs};
 
 use crate::fields::Fields;
-use crate::kind::Kind;
 use crate::target::path_of;
 use httparse::spans::{HeaderSpan, RequestSpans};
+use mq_addr::Kind;
 use mq_wire::NoMemory;
 use std::alloc::Global;
 

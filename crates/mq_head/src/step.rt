@@ -1,6 +1,6 @@
 //! What a reader of heads answers.
 
-use crate::kind::Kind;
+use mq_addr::Kind;
 use mq_wire::Bytes;
 
 /// What the bytes so far ask for.

@@ -1,0 +1,2 @@
+pub mod AddrTexts
+pub mod Blocks

@@ -1,0 +1,2 @@
+pub mod Addr
+pub mod Block

@@ -1,0 +1,35 @@
+//! An address and the texts that write it.
+ghost use Rattle.mq_addr.specs.Addr.{HasOneAddr, ReadsAddr};
+
+use std::net::IpAddr;
+
+/// An address as the number that its bytes spell, the high byte first.
+#[derive(Clone, Copy, Debug, PartialEq, Eq)]
+pub enum Addr {
+    V4(u32),
+    V6(u128),
+}
+
+/// Why a text is no address or no prefix: it breaks the grammar, or a bit past the prefix length is set.
+#[derive(Clone, Copy, Debug, PartialEq, Eq)]
+pub enum AddrFault {
+    Syntax,
+    Bits,
+}
+
+/// The address that a text writes: four decimals and dots, or the forms of RFC 4291, section 2.2, in either case
+/// of letters. `Syntax` is the only fault.
+pub fn parse_addr(text: &[u8]) -> Result<Addr, AddrFault>
+    ensures { ReadsAddr text.now result }
+{
+    match IpAddr::parse_ascii(text) {
+        Ok(IpAddr::V4(ip)) => Ok(Addr::V4(ip.to_bits())),
+        Ok(IpAddr::V6(ip)) => Ok(Addr::V6(ip.to_bits())),
+        Err(_) => Err(AddrFault::Syntax),
+    }
+}
+
+/// A text writes at most one address.
+pub fn one_addr()
+    ensures { HasOneAddr }
+{}
