@@ -2,6 +2,7 @@
 //! The scripts under `bench/` time it from outside.
 #![tactic(auto)]
 
+mod head;
 mod varint;
 
 use std::alloc::Global;
@@ -11,6 +12,8 @@ use std::process::ExitCode;
 /// The checksum of a piece of work, where there is one of this name and it found its memory.
 fn checksum(alloc: Global, word: &str, count: u32) -> Option<u64> {
     match word {
+        "head" => head::checksum(alloc, count).ok(),
+        "head_bytes" => head::checksum_by_bytes(alloc, count).ok(),
         "varint" => varint::checksum(alloc, count).ok(),
         _ => None,
     }
