@@ -2,6 +2,10 @@
 //! The scripts under `bench/` time it from outside.
 #![tactic(auto)]
 
+mod frames;
+mod head;
+mod huffman;
+mod streams;
 mod varint;
 
 use std::alloc::Global;
@@ -11,6 +15,13 @@ use std::process::ExitCode;
 /// The checksum of a piece of work, where there is one of this name and it found its memory.
 fn checksum(alloc: Global, word: &str, count: u32) -> Option<u64> {
     match word {
+        "frames_1" => frames::checksum(alloc, count, 1).ok(),
+        "frames_100" => frames::checksum(alloc, count, 100).ok(),
+        "frames_16384" => frames::checksum(alloc, count, 16_384).ok(),
+        "head" => head::checksum(alloc, count).ok(),
+        "head_bytes" => head::checksum_by_bytes(alloc, count).ok(),
+        "huffman" => huffman::checksum(alloc, count).ok(),
+        "streams" => streams::checksum(alloc, count).ok(),
         "varint" => varint::checksum(alloc, count).ok(),
         _ => None,
     }

@@ -1,12 +1,12 @@
 -- The spaces and line bytes of a request line.
-use Rattle.std.proofs.Common.{◌≡◌, ◌≢◌, ℕ, suc, ◌+◌, ◌<◌, ◌≤◌, Bool, true, false, not, ◌&&◌, ◌||◌, cond, ◌==◌, IsTrue, List, [], ◌∷◌, ◌++◌, length, All, refl, sym, ap, subst, ◌∙◌, arith, inl, inr, append_assoc, zero-add}
+use Rattle.std.proofs.Common.{◌≡◌, ℕ, ◌+◌, Bool, true, false, not, ◌&&◌, ◌||◌, cond, ◌==◌, IsTrue, List, [], ◌∷◌, ◌++◌, refl, sym, ap, subst, ◌∙◌, arith, append_assoc, zero-add}
 use Rattle.std.specs.Prelude.{count_by}
 use Rattle.std.specs.List.{list_any}
-use Rattle.std.proofs.lemmas.Bool.{cond-true, cond-false, ne_eqb, eq-eqb, and_from}
+use Rattle.std.proofs.lemmas.Bool.{cond-false, ne_eqb, eq-eqb, and_from}
 use Rattle.std.proofs.lemmas.List.{append-nil}
 use Rattle.std.proofs.lemmas.List.Sums.{sum_by-cons}
 use Rattle.std.proofs.lemmas.List.Elements.{All-head, All-tail}
-use Rattle.httparse.specs.Grammar.{AllPass, is_token_byte, is_uri_byte, IsToken, LineEnd, crlf, lf, print_end, print_blank, RequestHead, print_request, IsRequestHead, ReadsRequest, EndsInTarget, print_version, print_section}
+use Rattle.httparse.specs.Grammar.{AllPass, is_token_byte, is_uri_byte, IsToken, LineEnd, crlf, lf, print_end, print_blank, RequestHead, ReadsRequest, EndsInTarget, print_version, print_section}
 use Rattle.httparse.proofs.GrammarLemmas.{print_request-append}
 use Rattle.mq_head.specs.Heads.{is_line_byte, is_space, skip_line_bytes, has_one_space, ends_in_target}
 

@@ -1,12 +1,12 @@
 -- Heads at the front of bytes.
-use Rattle.std.proofs.Common.{◌≡◌, ℕ, suc, ◌+◌, ◌-◌, ◌*◌, ◌<◌, ◌≤◌, List, [], ◌∷◌, ◌++◌, length, take, drop, All, refl, sym, ap, subst, ◌∙◌, arith, inl, inr, length-append}
+use Rattle.std.proofs.Common.{◌≡◌, ℕ, suc, ◌+◌, ◌*◌, ◌<◌, ◌≤◌, List, [], ◌∷◌, ◌++◌, length, take, drop, All, refl, sym, ap, ◌∙◌, arith, length-append}
 use Rattle.std.specs.Prelude.{flat_map}
-use Rattle.std.proofs.lemmas.List.{take-append-le, take-append-drop, append-nil, take_at}
+use Rattle.std.proofs.lemmas.List.{take-append-le, take-append-drop, take_at}
 use Rattle.std.proofs.lemmas.List.Elements.{All-head, All-tail}
-use Rattle.httparse.specs.Grammar.{Field, IsField, LineEnd, crlf, lf, print_end, print_blank, print_version, print_field, RequestHead, print_request, ReadsRequest, HasNoRequest, NeverHasRequest}
+use Rattle.httparse.specs.Grammar.{Field, IsField, LineEnd, crlf, lf, print_end, print_blank, print_version, print_field, RequestHead, print_request, ReadsRequest}
 use Rattle.httparse.specs.Spans.{RequestExceeds}
-use Rattle.httparse.proofs.GrammarLemmas.{print_request-append, request_unique, ReadsRequest-append, request_prefix_free}
-use Rattle.mq_head.specs.Heads.{head_limit, HasHead, IsMore, HasNoHead, IsRefused}
+use Rattle.httparse.proofs.GrammarLemmas.{print_request-append, request_unique, ReadsRequest-append}
+use Rattle.mq_head.specs.Heads.{HasHead}
 
 pub has_append : (bytes more : List ℕ) (h : RequestHead) → HasHead bytes h → HasHead (bytes ++ more) h
 has_append bytes more h x =

@@ -1,5 +1,5 @@
 -- Heads that keep the general rules.
-use Rattle.std.proofs.Common.{◌≡◌, ◌≤◌, true, not, sym, ap, length, inl, inr, arith}
+use Rattle.std.proofs.Common.{◌≡◌, ◌≤◌, true, not, ap, length}
 use Rattle.std.proofs.lemmas.Bool.{and_from, eq-eqb, le-ltb}
 use Rattle.httparse.specs.Grammar.{RequestHead}
 use Rattle.mq_head.specs.Rules.{fields_of, is_sound}

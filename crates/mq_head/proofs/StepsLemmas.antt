@@ -1,13 +1,13 @@
 -- The answers to bytes, and to more bytes.
-use Rattle.std.proofs.Common.{◌≡◌, ℕ, zero, suc, ◌+◌, ◌-◌, ◌<◌, ◌≤◌, ◌⊎◌, Bool, true, false, List, [], ◌∷◌, ◌++◌, length, take, drop, min, Result, Ok, Err, IsTrue, refl, sym, ap, subst, ◌∙◌, arith, inl, inr, length-append, append_assoc}
+use Rattle.std.proofs.Common.{◌≡◌, ℕ, zero, suc, ◌-◌, ◌<◌, ◌≤◌, ◌⊎◌, Bool, true, false, List, [], ◌∷◌, ◌++◌, length, take, drop, Result, Ok, IsTrue, refl, sym, ap, subst, ◌∙◌, arith, inl, inr, length-append, append_assoc}
 use Rattle.std.proofs.lemmas.Bool.{cases_lt}
 use Rattle.std.proofs.lemmas.List.{take-append-drop, take-append-le, append-nil, take_at, take-take, length-take, take_all}
 use Rattle.httparse.specs.Grammar.{RequestHead, print_request, ReadsRequest, HasNoRequest, NeverHasRequest}
-use Rattle.httparse.proofs.GrammarLemmas.{request_prefix_free, ReadsRequest-append}
+use Rattle.httparse.proofs.GrammarLemmas.{request_prefix_free}
 use Rattle.mq_addr.specs.declared.kind.Kind.{Kind}
 use Rattle.mq_head.specs.declared.step.HeadStep.{HeadStep}
 use Rattle.mq_head.specs.declared.step.HeadStep.TheVariants.{More, Upgrade, Refuse}
-use Rattle.mq_head.specs.Heads.{head_limit, HasHead, CanBecomeHead, IsMore, IsUpgrade, HasNoHead, IsRefused, ends_in_target}
+use Rattle.mq_head.specs.Heads.{head_limit, HasHead, IsMore, IsUpgrade, HasNoHead, IsRefused, ends_in_target}
 use Rattle.mq_head.specs.Rules.{asked}
 use Rattle.mq_head.specs.Steps.{IsStep}
 use Rattle.mq_head.specs.Reader.{IsBegun}

@@ -1,5 +1,5 @@
 -- Values that are lists with commas (RFC 9110, section 5.6.1).
-use Rattle.std.specs.Prelude.{ℕ, Bool, not, List, [], ◌∷◌, map, codes, bytes_eq, ◌==◌, if◌then◌else◌, Option, Some, None}
+use Rattle.std.specs.Prelude.{ℕ, Bool, not, List, [], ◌∷◌, map, bytes_eq, ◌==◌, if◌then◌else◌, Option, Some, None}
 use Rattle.std.specs.Borrow.{Bor}
 use Rattle.std.specs.List.{filter, list_any}
 use Rattle.httparse.specs.Grammar.{trim_ows}

@@ -1,6 +1,6 @@
 -- What the parsing functions answer.
-use Rattle.std.specs.Prelude.{◌≡◌, ℕ, ◌-◌, List, length, Bool, true, false, Option, Some, None, Result, Ok, Err}
-use Rattle.httparse.specs.Grammar.{RequestHead, print_request, HasNoRequest, NeverHasRequest, MayBecomeRequest}
+use Rattle.std.specs.Prelude.{◌≡◌, ℕ, ◌-◌, List, true, false, Option, Some, None, Result, Ok, Err}
+use Rattle.httparse.specs.Grammar.{RequestHead, HasNoRequest, NeverHasRequest, MayBecomeRequest}
 use Rattle.httparse.specs.Spans.{IsRequestWithin, IsRequestOf}
 use Rattle.httparse.specs.declared.spans.HeaderSpan.{HeaderSpan}
 use Rattle.mq_addr.specs.declared.kind.Kind.{Kind}

@@ -1,5 +1,5 @@
 -- What a whole head asks for: a tunnel, or the refusal of the first rule that it breaks.
-use Rattle.std.specs.Prelude.{ℕ, Bool, not, ◌||◌, ◌&&◌, ◌==◌, List, length, map, codes, bytes_eq, Option, Some, None, Result, Ok, Err, if◌then◌else◌, nat_lt}
+use Rattle.std.specs.Prelude.{ℕ, Bool, not, ◌&&◌, ◌==◌, List, length, map, codes, bytes_eq, Option, Some, None, Result, Ok, Err, if◌then◌else◌, nat_lt}
 use Rattle.httparse.specs.Grammar.{RequestHead}
 use Rattle.httparse.specs.Spans.{name_and_value}
 use Rattle.mq_addr.specs.declared.kind.Kind.{Kind}

@@ -1,4 +1,4 @@
-use Rattle.std.proofs.Common.{◌≡◌, Bool, true, false, sym, ap, ◌∙◌, inl, inr}
+use Rattle.std.proofs.Common.{inl, inr}
 use Rattle.mq_head.proofs.BytesLemmas.{target_ends, head_has_two}
 use Rattle.mq_head.proofs.front.decide.Goals as goal
 

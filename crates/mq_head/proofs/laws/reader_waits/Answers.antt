@@ -1,4 +1,4 @@
-use Rattle.std.proofs.Common.{ℕ, List, sym, inl, inr, subst}
+use Rattle.std.proofs.Common.{ℕ, List, inl, inr}
 use Rattle.mq_head.specs.declared.reader.State.{State}
 use Rattle.mq_head.specs.declared.reader.State.TheVariants.{Fresh, Begun, Spent}
 use Rattle.mq_head.specs.Reader.{StandsFor, IsBegun}

@@ -1,7 +1,4 @@
-use Rattle.std.proofs.Common.{◌≡◌, ℕ, ◌++◌, ◌-◌, List, length, take, Ok, sym, ap, subst, ◌∙◌}
-use Rattle.mq_head.specs.declared.reader.State.TheVariants.{Begun}
-use Rattle.mq_head.specs.declared.step.HeadStep.{HeadStep}
-use Rattle.mq_head.specs.declared.step.HeadStep.TheVariants.{More}
+use Rattle.std.proofs.Common.{◌≡◌, ◌++◌, ◌-◌, length, take, sym, ap, subst, ◌∙◌}
 use Rattle.mq_head.specs.Heads.{head_limit, IsMore}
 use Rattle.mq_head.specs.Reader.{StandsFor}
 use Rattle.mq_head.specs.Parsed.{IsAnswer}

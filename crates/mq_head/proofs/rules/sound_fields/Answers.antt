@@ -1,4 +1,4 @@
-use Rattle.std.proofs.Common.{◌≡◌, ◌≤◌, [], length, map, take, arith, sym, ap, ◌∙◌}
+use Rattle.std.proofs.Common.{◌≤◌, [], length, map, take, arith, sym, ap, ◌∙◌}
 use Rattle.std.proofs.lemmas.List.{length-map, length-take-le}
 use Rattle.httparse.specs.Spans.{name_and_value, header_bytes}
 use Rattle.http_header.specs.HeaderMap.{append_all}

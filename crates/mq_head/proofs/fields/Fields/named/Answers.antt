@@ -1,4 +1,4 @@
-use Rattle.std.proofs.Common.{◌≡◌, [], ◌∙◌, ap}
+use Rattle.std.proofs.Common.{[], ◌∙◌, ap}
 use Rattle.http_header.specs.HeaderMap.{get_all}
 use Rattle.http_header.specs.Token.{lowercase}
 use Rattle.mq_head.specs.Kept.{bytes_of}

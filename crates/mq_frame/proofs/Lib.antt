@@ -1,0 +1,5 @@
+pub mod Fronts
+pub mod Steps
+pub mod Streams
+pub mod Readers
+pub mod Writing

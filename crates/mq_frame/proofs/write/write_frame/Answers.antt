@@ -1,0 +1,18 @@
+use Rattle.std.proofs.Common.{◌≡◌, ℕ, ◌*◌, ◌++◌, List, length, ◌∙◌, sym, ap}
+use Rattle.std.specs.List.{flat_map}
+use Rattle.std.proofs.lemmas.Result.{on_ok_weaker}
+use Rattle.mq_frame.specs.declared.kind.Kind.TheVariants as kinds
+use Rattle.mq_frame.specs.declared.frame.Setting.{Setting}
+use Rattle.mq_frame.specs.Header.{header_text}
+use Rattle.mq_frame.specs.Writing.{pair_text, spelling_of}
+use Rattle.mq_frame.proofs.Writing.{settings_text}
+use Rattle.mq_frame.proofs.write.write_frame.Goals as goal
+
+pub returns-in-Settings-clause-ok : goal.returns-in-Settings-clause-ok
+returns-in-Settings-clause-ok c =
+    let text : header_text (6 * length c.as_slice-in-Settings.result.now) kinds.Settings c.flag-in-Settings.result 0 ++ flat_map pair_text c.as_slice-in-Settings.result.now
+    ≡ spelling_of c.args.frame.now =
+    ap (λ (p : List Setting). header_text (6 * length p) kinds.Settings c.flag-in-Settings.result 0 ++ flat_map pair_text p) c.as_slice-in-Settings.ensures
+    ∙ ap (λ (f : ℕ). header_text (6 * length c.in-Settings.pairs) kinds.Settings f 0 ++ flat_map pair_text c.in-Settings.pairs) c.flag-in-Settings.ensures
+    ∙ settings_text c.in-Settings.ack c.in-Settings.pairs ∙ ap spelling_of (sym c.in-Settings.is) in
+    on_ok_weaker c.put_settings.result (λ e. e ∙ ap (λ (s : List ℕ). c.args.out.now.items ++ s) text) c.put_settings.ensures.ok

@@ -1,0 +1,25 @@
+//! Frames of HTTP/2 (RFC 9113, sections 4 and 6), read from pieces in any cutting and written.
+#![tactic(auto)]
+
+mod codes;
+mod contents;
+mod fields;
+mod frame;
+mod header;
+mod kind;
+mod laws;
+mod padded;
+mod place;
+mod reader;
+mod settings;
+mod state;
+mod step;
+mod write;
+
+pub use frame::{Frame, Setting};
+pub use laws::{ends_at_fault, is_read_back, is_read_once, is_readable, stays_read};
+pub use reader::FrameReader;
+pub use write::write_frame;
+
+#[cfg(test)]
+mod tests;

@@ -1,0 +1,138 @@
+//! Writing frames, without padding.
+ghost use Rattle.std.specs.Prelude.{◌≡◌, ◌+◌, ◌*◌, ◌≤◌, ◌++◌, length, OnOk, OnErr, IsOk};
+ghost use Rattle.std.specs.List.{flat_map};
+ghost use Rattle.std.specs.Vec.{vec_len, vec_capacity};
+ghost use Rattle.mq_frame.specs.declared.kind.Kind.TheVariants as kinds;
+ghost use Rattle.mq_frame.specs.declared.frame.Frame.TheVariants.{GoAway};
+ghost use Rattle.mq_frame.specs.Header.{header_text};
+ghost use Rattle.mq_frame.specs.Writing.{flag, pair_text, spelling_of, IsWritable};
+
+use super::codes::{ACK, END_HEADERS, END_STREAM, MAX_FRAME_SIZE};
+use super::frame::{Frame, Setting};
+use super::kind::Kind;
+use mq_wire::NoMemory;
+
+/// Writes a frame at the end. An `Err` changes nothing.
+#[tactic(auto, unfolding(crate::specs::Writing::spelling_of))]
+pub fn write_frame(out: &mut Vec<u8>, frame: &Frame) -> Result<(), NoMemory>
+    requires { IsWritable frame.now }
+    ensures ok { OnOk result (out.new.items ≡ out.old.items ++ spelling_of frame.now) }
+    ensures err { OnErr result (out.new.items ≡ out.old.items) }
+{
+    match frame {
+        Frame::Content {
+            stream,
+            bytes,
+            end,
+            ..
+        } => put(
+            out,
+            Kind::Data,
+            flag(*end, END_STREAM),
+            *stream,
+            bytes.as_slice(),
+        ),
+        Frame::Headers {
+            stream,
+            block,
+            end,
+            whole,
+        } => {
+            let flags = flag(*end, END_STREAM) + flag(*whole, END_HEADERS);
+            put(out, Kind::Headers, flags, *stream, block.as_slice())
+        }
+        Frame::Continuation {
+            stream,
+            block,
+            whole,
+        } => put(
+            out,
+            Kind::Continuation,
+            flag(*whole, END_HEADERS),
+            *stream,
+            block.as_slice(),
+        ),
+        Frame::Priority { stream } => put(out, Kind::Priority, 0, *stream, &[0; 5]),
+        Frame::Reset { stream, code } => put(out, Kind::Reset, 0, *stream, &code.to_be_bytes()),
+        Frame::Settings { ack, pairs } => put_settings(out, flag(*ack, ACK), pairs.as_slice()),
+        Frame::Ping { ack, bytes } => put(
+            out,
+            Kind::Ping,
+            flag(*ack, ACK),
+            0,
+            &bytes.to_be_bytes(),
+        ),
+        Frame::GoAway { last, code } => put_goaway(out, *last, *code),
+        Frame::Window { stream, grow } => put(out, Kind::Window, 0, *stream, &grow.to_be_bytes()),
+        Frame::Unknown { .. } | Frame::Fault { .. } => unreachable!(),
+    }
+}
+
+fn flag(set: bool, bit: u8) -> u8
+    ensures { result ≡ flag set bit }
+{
+    if set { bit } else { 0 }
+}
+
+fn header_bytes(length: usize, kind: Kind, flags: u8, stream: u32) -> [u8; 9]
+    requires { length ≤ MAX_FRAME_SIZE }
+    ensures { result ≡ header_text length kind flags stream }
+{
+    let [_, a, b, c] = (length as u32).to_be_bytes();
+    let [d, e, f, g] = stream.to_be_bytes();
+    [a, b, c, kind.byte(), flags, d, e, f, g]
+}
+
+/// Writes a header and contents.
+fn put(
+    out: &mut Vec<u8>,
+    kind: Kind,
+    flags: u8,
+    stream: u32,
+    contents: &[u8],
+) -> Result<(), NoMemory>
+    requires { length contents.now ≤ MAX_FRAME_SIZE }
+    ensures ok { OnOk result (out.new.items ≡ out.old.items ++ (header_text (length contents.now) kind flags stream ++ contents.now)) }
+    ensures err { OnErr result (out.new.items ≡ out.old.items) }
+{
+    out.reserve(9 + contents.len())?;
+    out.extend_from_slice(&header_bytes(contents.len(), kind, flags, stream))?;
+    out.extend_from_slice(contents)?;
+    Ok(())
+}
+
+#[tactic(auto, unfolding(crate::specs::Writing::spelling_of))]
+fn put_goaway(out: &mut Vec<u8>, last: u32, code: u32) -> Result<(), NoMemory>
+    ensures ok { OnOk result (out.new.items ≡ out.old.items ++ spelling_of (GoAway last code)) }
+    ensures err { OnErr result (out.new.items ≡ out.old.items) }
+{
+    let [a, b, c, d] = last.to_be_bytes();
+    let [e, f, g, h] = code.to_be_bytes();
+    put(out, Kind::GoAway, 0, 0, &[a, b, c, d, e, f, g, h])
+}
+
+fn put_settings(out: &mut Vec<u8>, flags: u8, pairs: &[Setting]) -> Result<(), NoMemory>
+    requires { 6 * length pairs.now ≤ MAX_FRAME_SIZE }
+    ensures ok { OnOk result (out.new.items ≡ out.old.items ++ (header_text (6 * length pairs.now) kinds.Settings flags 0 ++ flat_map pair_text pairs.now)) }
+    ensures err { OnErr result (out.new.items ≡ out.old.items) }
+{
+    let length = 6 * pairs.len();
+    out.reserve(9 + length)?;
+    out.extend_from_slice(&header_bytes(length, Kind::Settings, flags, 0))?;
+    for pair in pairs {
+        put_pair(out, *pair)?;
+    }
+    Ok(())
+}
+
+fn put_pair(out: &mut Vec<u8>, pair: Setting) -> Result<(), NoMemory>
+    ensures ok { OnOk result (out.new.items ≡ out.old.items ++ pair_text pair) }
+    ensures len { OnOk result (vec_len out.new ≡ vec_len out.old + 6) }
+    ensures capacity { vec_capacity out.old ≤ vec_capacity out.new }
+    ensures succeeds { vec_len out.old + 6 ≤ vec_capacity out.old → IsOk result }
+{
+    let [a, b] = pair.id.to_be_bytes();
+    let [c, d, e, f] = pair.value.to_be_bytes();
+    out.extend_from_slice(&[a, b, c, d, e, f])?;
+    Ok(())
+}

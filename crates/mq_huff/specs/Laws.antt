@@ -1,0 +1,20 @@
+-- The laws of the code.
+use Rattle.std.specs.Prelude.{◌≡◌, ℕ, ◌≤◌, Bool, List, ◌++◌, length}
+use Rattle.mq_huff.specs.Code.{code_of}
+use Rattle.mq_huff.specs.Coded.{IsCoded, AreBytes}
+
+-- no code begins another
+abbrev pub IsPrefixFree : Type 0
+IsPrefixFree = (s t : ℕ) (x y : List Bool) → s ≤ 256 → t ≤ 256 → code_of s ++ x ≡ code_of t ++ y → s ≡ t
+
+-- any 30 bits begin with a code
+abbrev pub IsComplete : Type 0
+IsComplete = (bits : List Bool) → 30 ≤ length bits → (s : ℕ) × (rest : List Bool) × (s ≤ 256) × (bits ≡ code_of s ++ rest)
+
+-- the same bytes are the code of one text
+abbrev pub HaveOneReading : Type 0
+HaveOneReading = (a b bytes : List ℕ) → IsCoded a bytes → IsCoded b bytes → a ≡ b
+
+-- a text has one code
+abbrev pub HaveOneCoding : Type 0
+HaveOneCoding = (text a b : List ℕ) → AreBytes a → AreBytes b → IsCoded text a → IsCoded text b → a ≡ b

@@ -1,0 +1,9 @@
+pub mod Begins
+pub mod Consumption
+pub mod Events
+pub mod Grants
+pub mod Live
+pub mod Place
+pub mod Rooms
+pub mod Steps
+pub mod Updates

@@ -1,0 +1,6 @@
+pub mod Answers
+pub mod Balance
+pub mod History
+pub mod Rows
+pub mod Stand
+pub mod Takers
