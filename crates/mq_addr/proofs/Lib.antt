@@ -1,2 +1,4 @@
 pub mod AddrTexts
 pub mod Blocks
+pub mod Forms
+pub mod Slashes
