@@ -1,5 +1,5 @@
 -- Which prefix a text has the form of.
-use Rattle.std.proofs.Common.{◌≡◌, ℕ, ◌<◌, ◌≤◌, ◌^◌, ◌≢◌, List, ◌∷◌, ◌++◌, inl, inr, ap, sym, ◌∙◌, subst, refl, arith}
+use Rattle.std.proofs.Common.{◌≡◌, ℕ, ◌<◌, ◌≤◌, ◌^◌, List, inl, inr, ap, sym, ◌∙◌, subst, arith}
 use Rattle.mq_text.specs.Number.{Spells, IsReadAlone}
 use Rattle.mq_text.specs.Cut.{Lacks, IsCut, IsCutOnce}
 use Rattle.mq_addr.specs.declared.addr.Addr.{Addr}
@@ -7,7 +7,7 @@ use Rattle.mq_addr.specs.declared.addr.Addr.TheVariants.{V4, V6}
 use Rattle.mq_addr.specs.declared.prefix.Prefix.{Prefix}
 use Rattle.mq_addr.specs.Addr.{IsAddrText, HasOneAddr}
 use Rattle.mq_addr.specs.Block.{width}
-use Rattle.mq_addr.specs.Prefixes.{IsAlone, HasLength, IsPrefixForm}
+use Rattle.mq_addr.specs.Prefixes.{HasLength, IsPrefixForm}
 use Rattle.mq_addr.proofs.Slashes.{no_slash, has_it}
 
 -- a text with a length has a slash, and one that is an address has none

@@ -1,4 +1,4 @@
-use Rattle.mq_addr.proofs.prefix_text.one_prefix.Goals as goal
+use Rattle.mq_addr.proofs.prefix_form.one_prefix.Goals as goal
 use Rattle.mq_addr.proofs.Forms.{one_form}
 
 pub returns : goal.returns
