@@ -18,3 +18,6 @@ pub use prefix_form::{one_prefix, parse_prefix};
 pub use print::{addr_text, prefix_text, printed_again};
 pub use range::{Flow, Range};
 pub use text::Text;
+
+#[cfg(test)]
+mod tests;
