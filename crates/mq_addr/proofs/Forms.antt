@@ -8,7 +8,7 @@ use Rattle.mq_addr.specs.declared.prefix.Prefix.{Prefix}
 use Rattle.mq_addr.specs.Addr.{IsAddrText, HasOneAddr}
 use Rattle.mq_addr.specs.Block.{width}
 use Rattle.mq_addr.specs.Prefixes.{HasLength, IsPrefixForm}
-use Rattle.mq_addr.proofs.Slashes.{no_slash, has_it}
+use Rattle.mq_addr.proofs.Alphabet.{no_slash, has_it}
 
 -- a text with a length has a slash, and one that is an address has none
 not_both : (text : List ℕ) (a : Addr) (block : Prefix) → IsAddrText text a → HasLength text block → ⊥

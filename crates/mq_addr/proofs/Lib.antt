@@ -3,4 +3,4 @@ pub mod Blocks
 pub mod Decimals
 pub mod Forms
 pub mod Printing
-pub mod Slashes
+pub mod Alphabet

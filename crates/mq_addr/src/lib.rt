@@ -10,7 +10,7 @@ mod print;
 mod range;
 mod text;
 
-pub use addr::{Addr, AddrFault, one_addr, parse_addr};
+pub use addr::{Addr, AddrFault, addr_bytes, one_addr, parse_addr};
 pub use entry::{Asked, Given};
 pub use kind::Kind;
 pub use prefix::{Prefix, contains, overlaps};

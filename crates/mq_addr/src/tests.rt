@@ -9,7 +9,10 @@ const ADDRESSES: [(&str, &str); 42] = [
     ("255.255.255.255", "255.255.255.255"),
     ("192.0.2.16", "192.0.2.16"),
     ("7.10.100.250", "7.10.100.250"),
-    ("ABCD:EF01:2345:6789:ABCD:EF01:2345:6789", "abcd:ef01:2345:6789:abcd:ef01:2345:6789"),
+    (
+        "ABCD:EF01:2345:6789:ABCD:EF01:2345:6789",
+        "abcd:ef01:2345:6789:abcd:ef01:2345:6789",
+    ),
     ("2001:DB8:0:0:8:800:200C:417A", "2001:db8::8:800:200c:417a"),
     ("2001:DB8::8:800:200C:417A", "2001:db8::8:800:200c:417a"),
     ("FF01:0:0:0:0:0:0:101", "ff01::101"),
@@ -32,7 +35,10 @@ const ADDRESSES: [(&str, &str); 42] = [
     ("2001:db8:0000:0:1::1", "2001:db8::1:0:0:1"),
     ("2001:DB8:0:0:1::1", "2001:db8::1:0:0:1"),
     ("2001:DB8:0:0::1", "2001:db8::1"),
-    ("2001:db8:aaaa:bbbb:cccc:dddd:eeee:0001", "2001:db8:aaaa:bbbb:cccc:dddd:eeee:1"),
+    (
+        "2001:db8:aaaa:bbbb:cccc:dddd:eeee:0001",
+        "2001:db8:aaaa:bbbb:cccc:dddd:eeee:1",
+    ),
     ("2001:db8:0:0:0:0:2:1", "2001:db8::2:1"),
     ("2001:db8::0:1", "2001:db8::1"),
     ("2001:db8::1:1:1:1:1", "2001:db8:0:1:1:1:1:1"),
@@ -45,8 +51,14 @@ const ADDRESSES: [(&str, &str); 42] = [
     ("::2:3:4:5:6:7:8", "0:2:3:4:5:6:7:8"),
     ("1::8", "1::8"),
     ("1:0:3:0:5:0:7:0", "1:0:3:0:5:0:7:0"),
-    ("ffff:ffff:ffff:ffff:ffff:ffff:ffff:ffff", "ffff:ffff:ffff:ffff:ffff:ffff:ffff:ffff"),
-    ("FFFF:FFFF:FFFF:FFFF:FFFF:FFFF:255.255.255.255", "ffff:ffff:ffff:ffff:ffff:ffff:ffff:ffff"),
+    (
+        "ffff:ffff:ffff:ffff:ffff:ffff:ffff:ffff",
+        "ffff:ffff:ffff:ffff:ffff:ffff:ffff:ffff",
+    ),
+    (
+        "FFFF:FFFF:FFFF:FFFF:FFFF:FFFF:255.255.255.255",
+        "ffff:ffff:ffff:ffff:ffff:ffff:ffff:ffff",
+    ),
 ];
 
 /// Texts that are no address: IPv4 with a number above 255, a leading zero or other parts than four; IPv6 with other groups
@@ -109,7 +121,10 @@ const PREFIXES: [(&str, &str); 17] = [
     ("192.0.2.1/32", "192.0.2.1/32"),
     ("192.0.2.1", "192.0.2.1/32"),
     ("::/0", "::/0"),
-    ("2001:0DB8:0000:CD30:0000:0000:0000:0000/60", "2001:db8:0:cd30::/60"),
+    (
+        "2001:0DB8:0000:CD30:0000:0000:0000:0000/60",
+        "2001:db8:0:cd30::/60",
+    ),
     ("2001:0DB8::CD30:0:0:0:0/60", "2001:db8:0:cd30::/60"),
     ("2001:0DB8:0:CD30::/60", "2001:db8:0:cd30::/60"),
     ("8000::/1", "8000::/1"),
@@ -157,7 +172,11 @@ const BLOCKS: [(&str, &str, &str); 6] = [
     ("192.0.2.0/24", "192.0.2.0", "192.0.2.255"),
     ("0.0.0.0/0", "0.0.0.0", "255.255.255.255"),
     ("192.0.2.7/32", "192.0.2.7", "192.0.2.7"),
-    ("2001:db8::/32", "2001:db8::", "2001:db8:ffff:ffff:ffff:ffff:ffff:ffff"),
+    (
+        "2001:db8::/32",
+        "2001:db8::",
+        "2001:db8:ffff:ffff:ffff:ffff:ffff:ffff",
+    ),
     ("::/0", "::", "ffff:ffff:ffff:ffff:ffff:ffff:ffff:ffff"),
     ("2001:db8::1/128", "2001:db8::1", "2001:db8::1"),
 ];
@@ -200,14 +219,24 @@ fn addresses_are_read_and_printed(rt: HostRuntime) {
 #[test]
 fn addresses_are_these_numbers(rt: HostRuntime) {
     assert_eq!(rt; parse_addr(b"192.0.2.16"), Ok(Addr::V4(0xc000_0210)));
-    assert_eq!(rt; parse_addr(b"2001:db8::8:800:200c:417a"), Ok(Addr::V6(0x2001_0db8_0000_0000_0008_0800_200c_417a)));
-    assert_eq!(rt; parse_addr(b"::ffff:1.2.3.4"), Ok(Addr::V6(0xffff_0102_0304)));
+    assert_eq!(rt;
+        parse_addr(b"2001:db8::8:800:200c:417a"),
+        Ok(Addr::V6(0x2001_0db8_0000_0000_0008_0800_200c_417a))
+    );
+    assert_eq!(rt;
+        parse_addr(b"::ffff:1.2.3.4"),
+        Ok(Addr::V6(0xffff_0102_0304))
+    );
 }
 
 #[test]
 fn other_texts_are_no_addresses(rt: HostRuntime) {
     for text in NO_ADDRESSES {
-        assert_eq!(rt; parse_addr(text.as_bytes()), Err(AddrFault::Syntax), "{text}");
+        assert_eq!(rt;
+            parse_addr(text.as_bytes()),
+            Err(AddrFault::Syntax),
+            "{text}"
+        );
     }
 }
 
