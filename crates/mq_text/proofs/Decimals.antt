@@ -1,11 +1,11 @@
 -- The decimal digits of a number.
-use Rattle.std.proofs.Common.{◌≡◌, ◌≢◌, ℕ, ◌<◌, ◌≤◌, ◌^◌, ◌⊎◌, inl, inr, List, [], ◌∷◌, length, get_or, Result, Ok, Err, decimal, sym, ◌∙◌, ap, refl, subst, arith, Option}
+use Rattle.std.proofs.Common.{◌≡◌, ◌≢◌, ℕ, ◌<◌, ◌≤◌, ◌^◌, ◌⊎◌, inl, inr, List, [], ◌∷◌, length, get_or, Result, Ok, Err, decimal, sym, ◌∙◌, ap, arith, Option, Some}
 use Rattle.std.specs.Option.{IfSome}
 use Rattle.std.proofs.lemmas.Bool.{cases_lt}
 use Rattle.std.proofs.lemmas.Fmt.{decimal_is_IsNumeral, decimal_digit, first_decimal, decimal-digits_value}
 use Rattle.std.proofs.lemmas.Str.Parse.{IsNumeralModel, numerals_by_value, tells_digits, digit_at, parse_plain}
-use Rattle.std.specs.Result.{OkIff, result_ok}
-use Rattle.std.specs.Str.Parse.{AllDigits, digits_value, ParsesUnsigned}
+use Rattle.std.specs.Result.{result_ok}
+use Rattle.std.specs.Str.Parse.{AllDigits, IsNumeral, digits_value, ParsesUnsigned}
 
 own : IsNumeralModel (AllDigits 10) (digits_value 10)
 own = numerals_by_value (AllDigits 10) tells_digits
@@ -44,16 +44,33 @@ number_begins text n small is =
           )
     ]
 
--- what `parse` read, without a sign or leading zeros, is spelled so
-pub spelled : {E : Type 0} (text : List ℕ) (number : ℕ) (r : Result ℕ E) → ParsesUnsigned 64 10 text r → r ≡ Ok number
-    → 48 ≤ get_or text 0 0 → (get_or text 0 0 ≡ 48 → length text ≡ 1) → text ≡ decimal number
-spelled {E = E} text number r parses is digit zero =
-    let first : get_or text 0 0 ≢ 43 = λ e. omega arith in
-    let P : Result ℕ E → Type 0 = λ x. OkIff x (AllDigits 10 text × (0 < length text) × (digits_value 10 text < 2 ^ 64)) (digits_value 10 text) in
-    let told = subst P is (parse_plain own 64 text r parses first) in
-    sym (decimal-digits_value own text told.0.0 told.0.1 zero told.0.2) ∙ ap decimal (sym told.1)
+-- digits that begin as a number does are its decimal spelling
+pub spelled : (text : List ℕ) → IsNumeral 10 text → 48 ≤ get_or text 0 0 → (get_or text 0 0 ≡ 48 → length text ≡ 1) → digits_value 10 text < 2 ^ 64
+    → text ≡ decimal (digits_value 10 text)
+spelled text numeral digit zero small = sym (decimal-digits_value own text numeral.1 numeral.0 zero small)
 
-pub some_spelled : {E : Type 0} (text : List ℕ) (r : Result ℕ E) (answer : Option ℕ) → ParsesUnsigned 64 10 text r → answer ≡ result_ok r
-    → IfSome answer (λ n. 48 ≤ get_or text 0 0 → (get_or text 0 0 ≡ 48 → length text ≡ 1) → text ≡ decimal n)
-some_spelled {E = E} text (Ok n) answer parses is = rw is (λ digit zero. spelled {E = E} text n (Ok n) parses refl digit zero)
-some_spelled text (Err e) answer parses is = rw is tt
+-- what `parse` answers to a text without a plus
+pub parsed : {E : Type 0} (text : List ℕ) (r : Result ℕ E) (answer : Option ℕ) → get_or text 0 0 ≢ 43 → ParsesUnsigned 64 10 text r → answer ≡ result_ok r
+    → IfSome answer (λ n. IsNumeral 10 text × (n ≡ digits_value 10 text) × (n < 2 ^ 64))
+parsed {E = E} text (Ok n) answer plus parses is =
+    let told = parse_plain own {E = E} 64 text (Ok n) parses plus in
+    let value = told.1 in
+    let small = told.0.2 in
+    rw is ((told.0.1, told.0.0), told.1, omega arith)
+parsed text (Err e) answer plus parses is = rw is tt
+
+pub parses : {E : Type 0} (text : List ℕ) (r : Result ℕ E) (answer : Option ℕ) → get_or text 0 0 ≢ 43 → ParsesUnsigned 64 10 text r → answer ≡ result_ok r
+    → IsNumeral 10 text → digits_value 10 text < 2 ^ 64 → answer ≡ Some (digits_value 10 text)
+parses {E = E} text (Ok n) answer plus h is numeral small =
+    let told = parse_plain own {E = E} 64 text (Ok n) h plus in
+    is ∙ ap (λ (m : ℕ). Some m) told.1
+parses {E = E} text (Err e) answer plus h is numeral small =
+    let told = parse_plain own {E = E} 64 text (Err e) h plus in
+    absurd (told (numeral.1, numeral.0, small))
+
+pub no_plus : (text : List ℕ) → IsNumeral 10 text → get_or text 0 0 ≢ 43
+no_plus text numeral = λ e. let place = digit_at text 0 numeral.1 numeral.0 in let low = place.0 in omega arith
+
+-- a number's text is digits, and tells the number
+pub numeral_of : (text : List ℕ) (n : ℕ) → n < 2 ^ 64 → text ≡ decimal n → IsNumeral 10 text × (digits_value 10 text ≡ n)
+numeral_of text n small is = rw is (decimal_is_IsNumeral n small)

@@ -4,5 +4,5 @@
 mod number;
 mod parts;
 
-pub use number::{parse_number, reads_one};
+pub use number::{parse_digits, parse_number, reads_one};
 pub use parts::{cut, cut_once, place};

@@ -1,0 +1,131 @@
+-- What a connection does by itself: what each of its notes is allowed by, and changes.
+use Rattle.std.specs.Prelude.{◌≡◌, ◌≢◌, ℕ, ◌<◌, List, [], ◌∷◌, ◌++◌, length, slice_get, remove, Some, None, Bool, false, not, ◌==◌}
+use Rattle.std.specs.List.{filter}
+use Rattle.mq_addr.specs.declared.kind.Kind.{Kind}
+use Rattle.mq_addr.specs.declared.kind.Kind.TheVariants as kind
+use Rattle.mq_head.specs.Answers.{success_text, refusal_text}
+use Rattle.mq_talk.specs.declared.book.Call.{Call}
+use Rattle.mq_talk.specs.declared.book.Call.TheVariants as call
+use Rattle.mq_talk.specs.declared.goal.Goal.{Goal}
+use Rattle.mq_talk.specs.declared.goal.Goal.TheVariants as goal
+use Rattle.mq_talk.specs.declared.note.End.{End}
+use Rattle.mq_talk.specs.declared.note.End.TheVariants as end
+use Rattle.mq_talk.specs.declared.note.From.{From}
+use Rattle.mq_talk.specs.declared.note.From.TheVariants as origin
+use Rattle.mq_talk.specs.declared.note.Note.{Note}
+use Rattle.mq_talk.specs.declared.note.Note.TheVariants.{Accepted, Took, Ported, Opened, Refused, Sent, Wrote, Closed, Ended}
+use Rattle.mq_talk.specs.declared.note.Why.{Why}
+use Rattle.mq_talk.specs.declared.note.Why.TheVariants as why
+use Rattle.mq_machine.specs.declared.act.Act.{Act}
+use Rattle.mq_machine.specs.declared.act.Act.TheVariants as act
+use Rattle.mq_machine.specs.Request.{Asks}
+use Rattle.mq_machine.specs.State.{Conn, Tunnel, owed}
+
+abbrev pub goal_kind : Goal → Kind
+goal_kind (goal.Udp addr port) = kind.Udp
+
+-- tunnel t is at place i, and on this stream
+pub record HasTunnel (c : Conn) (stream i : ℕ) (t : Tunnel) : Type 0 where
+  pub at : slice_get c.tunnels i ≡ Some t
+  pub on : t.stream ≡ stream
+
+-- the request that is due passes the rules, and its port is bound
+pub record PortedNext (old : Conn) (stream : ℕ) (new : Conn) : Type 0 where
+  pub goal : Goal
+  pub rest : List Act
+  pub due : old.due ≡ act.Bind stream goal ∷ rest
+  pub new_is : new ≡ record old { due = act.Open stream goal ∷ rest }
+
+-- the tunnel opens, and the success is put for writing
+pub record OpenedNext (old : Conn) (tunnel stream : ℕ) (goal : Goal) (new : Conn) : Type 0 where
+  pub rest : List Act
+  pub due : old.due ≡ act.Open stream goal ∷ rest
+  pub new_is : new ≡ record old {
+      due = rest;
+      out = old.out ++ success_text (goal_kind goal);
+      tunnels = old.tunnels ++ record { id = tunnel; stream = stream; waiting = [] } ∷ [];
+    }
+
+-- the request that is due is refused, the refusal is put for writing, and the connection is ending
+pub record RefusedNext (old : Conn) (stream status rule : ℕ) (new : Conn) : Type 0 where
+  pub rest : List Act
+  pub due : old.due ≡ act.Refuse stream status rule ∷ rest
+  pub new_is : new ≡ record old { due = rest; out = old.out ++ refusal_text status; ending = Some end.Refused }
+
+-- the payload that is due goes, unchanged, to the port of its tunnel
+pub record SentNext (old : Conn) (from : From) (n : ℕ) (packet : List ℕ) (new : Conn) : Type 0 where
+  pub stream : ℕ
+  pub rest : List Act
+  pub i : ℕ
+  pub t : Tunnel
+  pub due : old.due ≡ act.Payload stream n packet ∷ rest
+  pub has : HasTunnel old stream i t
+  pub from_is : from ≡ origin.Tunnel t.id
+  pub new_is : new ≡ record old { due = rest }
+
+-- the act belongs to the tunnel of this stream
+abbrev pub is_on : ℕ → Act → Bool
+is_on stream (act.Payload on n payload) = on == stream
+is_on stream (act.Malformed on) = on == stream
+is_on stream (act.Bind on goal) = false
+is_on stream (act.Open on goal) = false
+is_on stream (act.Refuse on status rule) = false
+
+-- the acts that don't
+abbrev pub without : ℕ → List Act → List Act
+without stream acts = filter (λ a. not (is_on stream a)) acts
+
+-- A malformed capsule closes its tunnel: what waits there and what is due there is gone. The connection is ending.
+pub record ClosedNext (old : Conn) (tunnel left : ℕ) (new : Conn) : Type 0 where
+  pub stream : ℕ
+  pub rest : List Act
+  pub i : ℕ
+  pub t : Tunnel
+  pub due : old.due ≡ act.Malformed stream ∷ rest
+  pub has : HasTunnel old stream i t
+  pub tunnel_is : tunnel ≡ t.id
+  pub left_is : left ≡ length t.waiting
+  pub new_is : new ≡ record old { due = without stream rest; tunnels = remove old.tunnels i; ending = Some end.Tunnel }
+
+-- the link takes all owed bytes
+pub record WroteNext (old : Conn) (bytes : List ℕ) (new : Conn) : Type 0 where
+  pub some : owed old ≢ []
+  pub bytes_are : bytes ≡ owed old
+  pub new_is : new ≡ record old { given = length old.out }
+
+-- What connection number conn does next by itself, where the book has so many entries, and the calls by which it writes there.
+abbrev pub WantNext : ℕ → ℕ → Conn → Note → Conn → List Call → Type 0
+WantNext conn entries old (Ported c stream) new calls = (c ≡ conn) × PortedNext old stream new × (calls ≡ [])
+WantNext conn entries old (Opened tunnel c stream kind) new calls =
+    (c ≡ conn) × (tunnel ≡ entries) × (goal : Goal) × (kind ≡ goal_kind goal) × OpenedNext old tunnel stream goal new
+    × (calls ≡ call.Open conn stream goal ∷ [])
+WantNext conn entries old (Refused c stream status rule) new calls =
+    (c ≡ conn) × RefusedNext old stream status rule new × (calls ≡ [])
+WantNext conn entries old (Sent from n packet) new calls = SentNext old from n packet new × (calls ≡ [])
+WantNext conn entries old (Closed tunnel why.Malformed left) new calls =
+    ClosedNext old tunnel left new × (calls ≡ call.Close tunnel ∷ [])
+WantNext conn entries old (Accepted c actor) new calls = ⊥
+WantNext conn entries old (Took c count) new calls = ⊥
+WantNext conn entries old (Wrote c bytes) new calls = ⊥
+WantNext conn entries old (Ended c reason) new calls = ⊥
+
+-- the connection may read: nothing is due, little is owed, and it isn't ending
+pub record CanRead (c : Conn) : Type 0 where
+  pub due : c.due ≡ []
+  pub owed : length (owed c) < 65536
+  pub ending : c.ending ≡ None
+
+-- The bytes of one more read are taken, and what they ask for beyond the earlier ones is due.
+pub record TookNext (old : Conn) (bytes : List ℕ) (new : Conn) : Type 0 where
+  pub before : List Act
+  pub can : CanRead old
+  pub asked : Asks old.reads before
+  pub asks : Asks (old.reads ++ bytes ∷ []) (before ++ new.due)
+  pub new_is : new ≡ record old { reads = old.reads ++ bytes ∷ []; due = new.due }
+
+-- nothing is left but its end
+pub record IsOver (c : Conn) (why : End) : Type 0 where
+  pub due : c.due ≡ []
+  pub ending : c.ending ≡ Some why
+  pub tunnels : c.tunnels ≡ []
+  pub owed : owed c ≡ []

@@ -1,0 +1,16 @@
+//! The lines of a script.
+
+use mq_wire::Bytes;
+
+/// One line of a script.
+#[derive(Drop)]
+pub enum Line {
+    /// An empty line or a comment.
+    Blank,
+    /// A new link is offered to this worker. Links are numbered from 0, in order.
+    Conn { worker: u32 },
+    /// A piece arrives on this link.
+    Piece { conn: u32, bytes: Bytes },
+    /// Up to so many steps of this actor.
+    Steps { actor: u32, count: u32 },
+}
