@@ -1,0 +1,18 @@
+//! URI templates for the targets of tunnels, matched and expanded (RFC 6570; RFC 9298, section 2; RFC 9484, section 3).
+#![tactic(auto)]
+
+mod classes;
+mod escape;
+mod fault;
+mod form;
+mod outline;
+mod shape;
+mod split;
+mod target;
+mod template;
+mod values;
+
+pub use fault::TemplateFault;
+pub use mq_addr::Kind;
+pub use target::{Area, Host, Matched, Target};
+
