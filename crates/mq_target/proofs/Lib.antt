@@ -1,2 +1,4 @@
+pub mod Areas
 pub mod Bytes
+pub mod Outlines
 pub mod Stepping

@@ -2,6 +2,8 @@ pub mod Classes
 pub mod Form
 pub mod Stepping
 pub mod Template
+pub mod Outlines
+pub mod Parsed
 pub mod Values
 pub mod Matching
 pub mod Expansion

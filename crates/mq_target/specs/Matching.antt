@@ -16,11 +16,15 @@ use Rattle.mq_target.specs.Values.{IsTarget}
 abbrev pub IsValue : List ℕ → Type 0
 IsValue text = (0 < length text) × (list_all is_value_byte text ≡ true)
 
--- the path is the template with these values for its variables
-pub record Splits (shape : Shape) (path first second : List ℕ) : Type 0 where
-  pub is : path ≡ shape.before ++ (first ++ (shape.between ++ (second ++ shape.after)))
+-- the path is these literals with these values between them
+pub record SplitsAt (before between after path first second : List ℕ) : Type 0 where
+  pub is : path ≡ before ++ (first ++ (between ++ (second ++ after)))
   pub first_value : IsValue first
   pub second_value : IsValue second
+
+-- the path is the template with these values for its variables
+abbrev pub Splits : Shape → List ℕ → List ℕ → List ℕ → Type 0
+Splits shape path first second = SplitsAt shape.before shape.between shape.after path first second
 
 -- the values, percent-decoded once, are this target
 abbrev pub Reads : Kind → Order → List ℕ → List ℕ → Target → Type 0

@@ -33,27 +33,46 @@ abbrev pub second_name : Kind → Order → List ℕ
 second_name kind TargetFirst = detail_name kind
 second_name kind TargetLast = target_name kind
 
+-- what a last `{?a,b}` behind literals means: `?a={a}&b={b}`
+abbrev pub pair_shape : Kind → Order → List ℕ → Shape
+pair_shape kind order front = record {
+  kind = kind;
+  order = order;
+  before = front ++ question ∷ (first_name kind order ++ codes "=");
+  between = codes "&" ++ second_name kind order ++ codes "=";
+  after = [];
+}
+
+-- a template begins with `/`
+abbrev pub IsStart : List ℕ → Type 0
+IsStart text = (begins (λ b. b == 47) text ≡ true) × AreLiterals text
+
+-- the literals behind the first variable and behind the second, each of which a value can be told from
+pub record AreAround (between after : List ℕ) : Type 0 where
+  pub delimited : begins is_delimiter between ≡ true
+  pub between_literals : AreLiterals between
+  pub ended : ends_or_begins is_delimiter after ≡ true
+  pub after_literals : AreLiterals after
+
 -- each variable stands once, with literals around it
 pub record IsPlain (text : List ℕ) (shape : Shape) : Type 0 where
   pub is : text ≡ shape.before ++ opening ∷ (first_name shape.kind shape.order ++ closing ∷ (shape.between
     ++ opening ∷ (second_name shape.kind shape.order ++ closing ∷ shape.after)))
-  pub start : begins (λ b. b == 47) shape.before ≡ true
-  pub before : AreLiterals shape.before
-  pub between : AreLiterals shape.between
-  pub after : AreLiterals shape.after
-  pub delimited : begins is_delimiter shape.between ≡ true
-  pub ended : ends_or_begins is_delimiter shape.after ≡ true
+  pub start : IsStart shape.before
+  pub around : AreAround shape.between shape.after
 
--- literals, and a last `{?first,second}`
+-- literals, and a last `{?first,second}`, which means `?first={first}&second={second}`
 pub record IsPair (text : List ℕ) (shape : Shape) : Type 0 where
   pub front : List ℕ
   pub is : text ≡ front ++ opening ∷ question ∷ (first_name shape.kind shape.order ++ comma ∷ (second_name shape.kind shape.order ++ closing ∷ []))
-  pub start : begins (λ b. b == 47) front ≡ true
-  pub literals : AreLiterals front
-  pub before : shape.before ≡ front ++ question ∷ (first_name shape.kind shape.order ++ codes "=")
-  pub between : shape.between ≡ codes "&" ++ second_name shape.kind shape.order ++ codes "="
-  pub after : shape.after ≡ []
+  pub start : IsStart front
+  pub means : shape ≡ pair_shape shape.kind shape.order front
 
 -- the text is this template
 abbrev pub IsTemplate : List ℕ → Shape → Type 0
 IsTemplate text shape = IsPlain text shape ⊎ IsPair text shape
+
+-- no template of this kind is the text
+abbrev pub NoTemplate : Kind → List ℕ → Type 0
+NoTemplate kind text = (order : Order) (before between after : List ℕ)
+    → ¬ (IsTemplate text (record { kind = kind; order = order; before = before; between = between; after = after }))

@@ -50,11 +50,18 @@ fn protocol_number(text: &[u8]) -> Option<u8>
     }
 }
 
+/// Whether a text is `*`.
+fn is_all(text: &[u8]) -> bool
+    ensures { IsTrue result ↔ (text.now ≡ codes "*") }
+{
+    matches!(text, [b'*'])
+}
+
 /// `*` for all protocols, or the number of one.
 pub fn protocol_of(text: &[u8]) -> Option<Option<u8>>
     ensures { MatchOption result ((protocol : Option ℕ) → ¬ (IsProtocol text.now protocol)) (λ protocol. IsProtocol text.now protocol) }
 {
-    if let [b'*'] = text {
+    if is_all(text) {
         return Some(None);
     }
     match protocol_number(text) {
@@ -108,7 +115,7 @@ pub fn area_of(alloc: Global, text: &[u8]) -> Result<Option<Area>, NoMemory>
     ensures { IfOk result (λ found. MatchOption found ((area : Area) → ¬ (IsArea text.now area)) (λ area. IsArea text.now area)) }
 {
     one_prefix();
-    if let [b'*'] = text {
+    if is_all(text) {
         return Ok(Some(Area::All));
     }
     match parse_prefix(text) {
