@@ -5,5 +5,6 @@ pub mod Template
 pub mod Outlines
 pub mod Parsed
 pub mod Values
+pub mod Judged
 pub mod Matching
 pub mod Expansion

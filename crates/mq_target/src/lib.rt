@@ -5,6 +5,7 @@ mod classes;
 mod escape;
 mod fault;
 mod form;
+mod judge;
 mod outline;
 mod shape;
 mod split;
@@ -15,4 +16,4 @@ mod values;
 pub use fault::TemplateFault;
 pub use mq_addr::Kind;
 pub use target::{Area, Host, Matched, Target};
-
+pub use template::Template;

@@ -154,7 +154,7 @@ fn is_detail(kind: Kind, name: &[u8]) -> bool
 
 /// The name of the variable that says where to.
 #[tactic(auto, unfolding(crate::specs::Template::target_name))]
-pub fn target_name(kind: Kind) -> &'static [u8]
+fn target_name(kind: Kind) -> &'static [u8]
     ensures { result.now ≡ target_name kind }
 {
     match kind {
@@ -165,11 +165,31 @@ pub fn target_name(kind: Kind) -> &'static [u8]
 
 /// The name of the variable for the port or the protocol.
 #[tactic(auto, unfolding(crate::specs::Template::detail_name))]
-pub fn detail_name(kind: Kind) -> &'static [u8]
+fn detail_name(kind: Kind) -> &'static [u8]
     ensures { result.now ≡ detail_name kind }
 {
     match kind {
         Kind::Udp => b"target_port".as_slice(),
         Kind::Ip => b"ipproto".as_slice(),
+    }
+}
+
+/// The name of the first variable.
+pub fn first_name(kind: Kind, order: Order) -> &'static [u8]
+    ensures { result.now ≡ first_name kind order }
+{
+    match order {
+        Order::TargetFirst => target_name(kind),
+        Order::TargetLast => detail_name(kind),
+    }
+}
+
+/// The name of the second variable.
+pub fn second_name(kind: Kind, order: Order) -> &'static [u8]
+    ensures { result.now ≡ second_name kind order }
+{
+    match order {
+        Order::TargetFirst => detail_name(kind),
+        Order::TargetLast => target_name(kind),
     }
 }
