@@ -1,4 +1,5 @@
 pub mod Areas
 pub mod Bytes
 pub mod Outlines
+pub mod Splitting
 pub mod Stepping
