@@ -77,5 +77,5 @@ second_text TargetLast target = target_text target
 
 -- the template with the escaped values for its variables
 unfoldable pub expanded : Shape → Target → List ℕ
-expanded shape target = shape.before ++ (escaped (first_text shape.order target)
-    ++ (shape.between ++ (escaped (second_text shape.order target) ++ shape.after)))
+expanded shape target = shape.before ++ escaped (first_text shape.order target) ++ shape.between
+    ++ escaped (second_text shape.order target) ++ shape.after

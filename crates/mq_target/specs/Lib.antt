@@ -8,3 +8,4 @@ pub mod Values
 pub mod Judged
 pub mod Matching
 pub mod Expansion
+pub mod Laws

@@ -3,6 +3,7 @@
 
 mod classes;
 mod escape;
+mod expansion;
 mod fault;
 mod form;
 mod judge;

@@ -1,19 +1,22 @@
 //! Templates.
 ghost use Rattle.std.specs.Prelude.{◌≡◌, ◌++◌, ◌∷◌, ℕ, List, IfOk, codes};
+ghost use Rattle.mq_target.specs.Expansion.{Suits, expanded};
 ghost use Rattle.mq_target.specs.Form.{question};
 ghost use Rattle.mq_target.specs.Matching.{Matches};
 ghost use Rattle.mq_target.specs.Parsed.{ParsesTemplate};
+ghost use Rattle.mq_target.specs.Laws.{HasOneReading, IsReadAgain};
 ghost use Rattle.mq_target.specs.Outlines.{IsOutline};
 ghost use Rattle.mq_target.specs.Template.{IsTemplate};
 
+use crate::expansion::{put_first, put_second};
 use crate::form::has_form;
 use crate::judge::judged;
 use crate::outline::{Outline, first_name, outline_of, second_name};
 use crate::shape::Order;
 use crate::split::split;
-use crate::{Matched, TemplateFault};
-use mq_addr::Kind;
-use mq_wire::NoMemory;
+use crate::{Matched, Target, TemplateFault};
+use mq_addr::{Kind, addr_bytes, one_addr, one_prefix, printed_again};
+use mq_wire::{Bytes, NoMemory};
 use std::alloc::Global;
 use std::marker::Model;
 
@@ -74,6 +77,21 @@ impl Template {
             Order::TargetFirst => judged(alloc, self.kind, first, second),
             Order::TargetLast => judged(alloc, self.kind, second, first),
         }
+    }
+
+    /// The path of a target, which `matches` reads as that target. All bytes of the values but letters, digits, `-`,
+    /// `.`, `_` and `~` are escaped.
+    #[tactic(auto, unfolding(crate::specs::Expansion::expanded))]
+    pub fn expand(&self, alloc: Global, target: &Target) -> Result<Bytes, NoMemory>
+        requires { Suits self.now.kind target.now }
+        ensures { IfOk result (λ path. path ≡ expanded self.now target.now) }
+    {
+        let mut path = Vec::from_slice(alloc, self.before.as_slice())?;
+        put_first(alloc, &mut path, self.order, target)?;
+        path.extend_from_slice(self.between.as_slice())?;
+        put_second(alloc, &mut path, self.order, target)?;
+        path.extend_from_slice(self.after.as_slice())?;
+        Ok(Bytes::from_vec(path))
     }
 
     /// An equal template.
@@ -138,4 +156,21 @@ fn between_pair(alloc: Global, name: &[u8]) -> Result<Vec<u8>, NoMemory>
     text.extend_from_slice(name)?;
     text.push(b'=')?;
     Ok(text)
+}
+
+/// A path is one thing to a template, and no other.
+pub fn one_reading()
+    ensures { HasOneReading }
+{
+    addr_bytes();
+    one_addr();
+    one_prefix();
+}
+
+/// The path of a target is read as that target.
+pub fn expanded_again()
+    ensures { IsReadAgain }
+{
+    addr_bytes();
+    printed_again();
 }
