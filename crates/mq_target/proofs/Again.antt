@@ -60,13 +60,12 @@ unreserved_value : (b : ℕ) → is_unreserved b ≡ true → is_value_byte b �
 unfolding is_unreserved is_name_byte is_value_byte is_delimiter
 unreserved_value b h = grind (arith, nat_tests)
 
+percent_reserved : is_unreserved 37 ≡ false
+unfolding is_unreserved is_name_byte
+percent_reserved = refl
+
 unreserved_plain : (b : ℕ) → is_unreserved b ≡ true → b ≢ 37
 unreserved_plain b h e = let no_percent : is_unreserved 37 ≡ true = subst (λ (n : ℕ). is_unreserved n ≡ true) e h in true≢false (sym no_percent ∙ percent_reserved)
-  where
-    percent_reserved : is_unreserved 37 ≡ false
-    unfolding is_unreserved is_name_byte
-    percent_reserved = refl
-
 escape_value : (b : ℕ) → IsEscapeByte b → is_value_byte b ≡ true
 unfolding is_value_byte is_delimiter
 escape_value b h = grind (arith, nat_tests)
@@ -78,7 +77,7 @@ triple_some b = omega arith
 byte_value : (b : ℕ) → IsValue (escaped_byte b)
 byte_value b =
     elim (cases_Bool (is_unreserved b)) [
-      | inl yes ↦ subst IsValue (sym (cond-true _ _ _ yes)) (omega arith, and_from _ _ (unreserved_value b yes) refl)
+      | inl in_class ↦ subst IsValue (sym (cond-true _ _ _ in_class)) (omega arith, and_from _ _ (unreserved_value b in_class) refl)
       | inr other ↦ subst IsValue (sym (cond-false _ _ _ other)) (triple_some b, list_all-from_AllPass is_value_byte (percent_encode_byte b) (All-weaker IsEscapeByte (λ c. is_value_byte c ≡ true) escape_value (percent_encode_byte b) (All-percent_encode_byte b)))
     ]
 
@@ -97,7 +96,7 @@ escaped_value (b ∷ text) h =
 decoded_byte : (b : ℕ) (rest : List ℕ) → b < 256 → percent_decode (escaped_byte b ++ rest) ≡ b ∷ percent_decode rest
 decoded_byte b rest small =
     elim (cases_Bool (is_unreserved b)) [
-      | inl yes ↦ ap (λ (t : List ℕ). percent_decode (t ++ rest)) (cond-true _ _ _ yes) ∙ percent_decode_not_percent b rest (unreserved_plain b yes)
+      | inl in_class ↦ ap (λ (t : List ℕ). percent_decode (t ++ rest)) (cond-true _ _ _ in_class) ∙ percent_decode_not_percent b rest (unreserved_plain b in_class)
       | inr other ↦ ap (λ (t : List ℕ). percent_decode (t ++ rest)) (cond-false _ _ _ other) ∙ percent_decode-percent_encode_byte b rest small
     ]
 
@@ -121,7 +120,7 @@ all_of_class : (p : ℕ → Bool) (text : List ℕ) → ((b : ℕ) → p b ≡ f
 all_of_class p [] h = refl
 all_of_class p (x ∷ text) h =
     elim (cases_Bool (p x)) [
-      | inl yes ↦ and_from _ _ yes (all_of_class p text (λ b other. (h b other).1))
+      | inl in_class ↦ and_from _ _ in_class (all_of_class p text (λ b other. (h b other).1))
       | inr other ↦ absurd ((h x other).0 refl)
     ]
 

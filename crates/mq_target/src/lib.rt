@@ -18,3 +18,6 @@ pub use fault::TemplateFault;
 pub use mq_addr::Kind;
 pub use target::{Area, Host, Matched, Target};
 pub use template::Template;
+
+#[cfg(test)]
+mod tests;
