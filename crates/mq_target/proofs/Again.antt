@@ -1,5 +1,5 @@
 -- The path of a target is read as that target.
-use Rattle.std.proofs.Common.{◌≡◌, ◌≢◌, ℕ, ◌+◌, ◌*◌, ◌/◌, ◌%◌, ◌^◌, ◌<◌, ◌≤◌, Bool, true, false, ◌&&◌, ◌||◌, ◌==◌, not, List, [], ◌∷◌, ◌++◌, length, codes, decimal, Option, Some, None, sym, ◌∙◌, ap, subst, refl, arith, inl, inr, ◌⊎◌, true≢false, append_assoc, length-append, All}
+use Rattle.std.proofs.Common.{◌≡◌, ◌≢◌, ℕ, ◌/◌, ◌^◌, ◌<◌, ◌≤◌, Bool, true, false, ◌==◌, List, [], ◌∷◌, ◌++◌, length, decimal, Option, Some, None, sym, ◌∙◌, ap, subst, refl, arith, inl, inr, true≢false, append_assoc, length-append}
 use Rattle.std.proofs.lemmas.Bool.{and_parts, and_from, cases_Bool, cond-true, cond-false}
 use Rattle.std.proofs.lemmas.Bool.Decides.{nat_tests}
 use Rattle.std.proofs.lemmas.List.Folds.{list_all-append}
@@ -7,7 +7,6 @@ use Rattle.std.proofs.lemmas.List.Sums.{list_all-from_AllPass}
 use Rattle.std.proofs.lemmas.List.Elements.{All-weaker}
 use Rattle.std.proofs.lemmas.Fmt.{decimal_is_IsNumeral, decimal_nonempty, length-decimal-le}
 use Rattle.std.specs.List.{list_all}
-use Rattle.std.specs.Char.{digit_value, is_ascii_hexdigit, is_ascii_alphanumeric}
 use Rattle.std.specs.Str.Parse.{AllDigits}
 use Rattle.std.specs.Net.Text.{dotted_text}
 use Rattle.std.specs.Net.Grammar.{IsDotted, IsGroupsAfter, IsColonHex}
@@ -34,7 +33,7 @@ use Rattle.mq_target.specs.declared.target.Target.TheVariants as target
 use Rattle.mq_target.specs.declared.target.Matched.TheVariants.{Yes}
 use Rattle.mq_target.specs.Classes.{is_name_byte, is_unreserved, is_value_byte, is_delimiter}
 use Rattle.mq_target.specs.Template.{Shape}
-use Rattle.mq_target.specs.Values.{IsNameText, IsNumber, IsHost, IsArea, IsPort, IsProtocol, IsTarget}
+use Rattle.mq_target.specs.Values.{IsNameText, IsHost, IsArea, IsPort, IsProtocol, IsTarget}
 use Rattle.mq_target.specs.Matching.{IsValue, Reads, Matches}
 use Rattle.mq_target.specs.Expansion.{SuitsHost, SuitsArea, Suits, escaped, escaped_byte, expanded, host_text, area_text, protocol_text, target_text, detail_text, first_text, second_text}
 use Rattle.mq_target.specs.Laws.{HostFits, AreaFits, ProtocolFits, TargetFits}
@@ -66,6 +65,7 @@ percent_reserved = refl
 
 unreserved_plain : (b : ℕ) → is_unreserved b ≡ true → b ≢ 37
 unreserved_plain b h e = let no_percent : is_unreserved 37 ≡ true = subst (λ (n : ℕ). is_unreserved n ≡ true) e h in true≢false (sym no_percent ∙ percent_reserved)
+
 escape_value : (b : ℕ) → IsEscapeByte b → is_value_byte b ≡ true
 unfolding is_value_byte is_delimiter
 escape_value b h = grind (arith, nat_tests)
@@ -207,8 +207,7 @@ module _ (bytes : HasAddrBytes) (again : printed.IsReadAgain) where
 
   port_fine : (port : ℕ) → port < 2 ^ 16 → 1 ≤ port → IsFine (decimal port) × IsPort (decimal port) port
   port_fine port small some =
-      let numeral = decimal_is_IsNumeral port (omega arith) in
-      (
+      let numeral = decimal_is_IsNumeral port (omega arith) in (
         decimal_fine port (omega arith),
         (record { numeral = numeral.0; few = length-decimal-le 5 port (omega arith) (omega arith) (omega arith); value = sym numeral.1; fits = omega arith }, some),
       )
@@ -216,8 +215,7 @@ module _ (bytes : HasAddrBytes) (again : printed.IsReadAgain) where
   protocol_fine : (protocol : Option ℕ) → ProtocolFits protocol → IsFine (protocol_text protocol) × IsProtocol (protocol_text protocol) protocol
   protocol_fine None fits = (star_fine, refl)
   protocol_fine (Some n) fits =
-      let numeral = decimal_is_IsNumeral n (omega arith) in
-      (
+      let numeral = decimal_is_IsNumeral n (omega arith) in (
         decimal_fine n (omega arith),
         record { numeral = numeral.0; few = length-decimal-le 3 n (omega arith) (omega arith) (omega arith); value = sym numeral.1; fits = omega arith },
       )
@@ -255,8 +253,7 @@ module _ (bytes : HasAddrBytes) (again : printed.IsReadAgain) where
   pub read_again : (shape : Shape) (t : Target) → TargetFits t → Suits shape.kind t → Matches shape (expanded shape t) (Yes t)
   unfolding expanded
   read_again shape t fits suits =
-      let parts = in_order shape.kind shape.order t (target_fine shape.kind t fits suits) in
-      (
+      let parts = in_order shape.kind shape.order t (target_fine shape.kind t fits suits) in (
         escaped (first_text shape.order t),
         escaped (second_text shape.order t),
         record { is = simp append_assoc; first_value = parts.0; second_value = parts.1 },

@@ -1,6 +1,5 @@
 -- Texts that are no area.
-use Rattle.std.proofs.Common.{◌≡◌, ◌≢◌, ℕ, Bool, true, false, List, [], ◌∷◌, ◌++◌, codes, sym, subst, refl, inl, inr}
-use Rattle.std.specs.List.{list_all}
+use Rattle.std.proofs.Common.{◌≡◌, ◌≢◌, ℕ, false, List, codes, sym, subst, refl, inl, inr}
 use Rattle.mq_text.specs.Cut.{Lacks}
 use Rattle.mq_addr.specs.declared.addr.Addr.{Addr}
 use Rattle.mq_addr.specs.declared.prefix.Prefix.{Prefix}

@@ -1,7 +1,6 @@
 -- Where the parts of a template stand in its text.
-use Rattle.std.proofs.Common.{◌≡◌, ◌≢◌, ℕ, zero, suc, ◌<◌, ◌==◌, Bool, true, false, List, [], ◌∷◌, ◌++◌, length, codes, Option, Some, None, sym, ◌∙◌, ap, subst, refl, arith, append_assoc, inl, inr, ◌⊎◌, ne_eqb, true≢false}
+use Rattle.std.proofs.Common.{◌≡◌, ℕ, ◌==◌, false, List, [], ◌∷◌, ◌++◌, Option, Some, None, sym, ◌∙◌, ap, subst, refl, arith, append_assoc, inl, inr, ◌⊎◌, ne_eqb, true≢false}
 use Rattle.std.specs.Option.{MatchOption}
-use Rattle.std.specs.List.{list_all}
 use Rattle.mq_text.specs.Cut.{Lacks, IsCut, IsCutOnce}
 use Rattle.mq_addr.specs.declared.kind.Kind.{Kind}
 use Rattle.mq_addr.specs.declared.kind.Kind.TheVariants.{Udp, Ip}
@@ -10,10 +9,10 @@ use Rattle.mq_target.specs.declared.shape.Order.TheVariants.{TargetFirst, Target
 use Rattle.mq_target.specs.declared.outline.Outline.{Outline}
 use Rattle.mq_target.specs.declared.outline.Outline.TheVariants.{Plain, Pair}
 use Rattle.mq_target.specs.Classes.{is_variable_byte, begins}
-use Rattle.mq_target.specs.Form.{AreLiterals, IsVariable}
-use Rattle.mq_target.specs.Template.{Shape, IsStart, AreAround, IsPlain, IsPair, IsTemplate, NoTemplate, pair_shape, first_name, second_name, target_name, detail_name}
+use Rattle.mq_target.specs.Form.{IsVariable}
+use Rattle.mq_target.specs.Template.{IsStart, AreAround, IsPlain, IsPair, IsTemplate, NoTemplate, pair_shape, first_name, second_name, target_name, detail_name}
 use Rattle.mq_target.specs.Outlines.{IsOutline, IsPairEnd, IsPlainEnd, IsPairFound, IsPlainFound}
-use Rattle.mq_target.proofs.Bytes.{all_lack, lacks_none, lacks_both}
+use Rattle.mq_target.proofs.Bytes.{lacks_none, lacks_both}
 use Rattle.mq_target.proofs.Stepping.{no_closing, no_comma, no_question, literals_lack, variable_lacks}
 
 target_variable : (kind : Kind) → IsVariable (target_name kind)
@@ -153,9 +152,9 @@ module _ (once : IsCutOnce) (kind : Kind) (text before behind : List ℕ) (cut :
     from_pair pair (Some (Pair order found)) is h =
         let P : List ℕ → Type 0 = λ t. IsPair text (pair_shape kind order t) in
         let shown : behind ≡ 63 ∷ (first_name kind order ++ 44 ∷ (second_name kind order ++ 125 ∷ [])) =
-            close.is ∙ ap (λ t. t ++ 125 ∷ rest) is ∙ ap (λ t. 63 ∷ (t ++ 125 ∷ rest)) h.1.is
-            ∙ ap (λ t. 63 ∷ ((first_name kind order ++ 44 ∷ second_name kind order) ++ 125 ∷ t)) h.1.last
-            ∙ ap (λ t. 63 ∷ t) (append_assoc (first_name kind order) (44 ∷ second_name kind order) (125 ∷ [])) in
+        close.is ∙ ap (λ t. t ++ 125 ∷ rest) is ∙ ap (λ t. 63 ∷ (t ++ 125 ∷ rest)) h.1.is
+        ∙ ap (λ t. 63 ∷ ((first_name kind order ++ 44 ∷ second_name kind order) ++ 125 ∷ t)) h.1.last
+        ∙ ap (λ t. 63 ∷ t) (append_assoc (first_name kind order) (44 ∷ second_name kind order) (125 ∷ [])) in
         let built : IsPair text (pair_shape kind order before) = record {
           front = before;
           is = cut.is ∙ ap (λ t. before ++ 123 ∷ t) shown;
@@ -186,7 +185,7 @@ module _ (once : IsCutOnce) (kind : Kind) (text before behind : List ℕ) (cut :
     from_plain (Some (Plain order found between after)) unmarked h =
         let P : List ℕ → Type 0 = λ t. IsPlain text (record { kind = kind; order = order; before = t; between = between.now; after = after.now }) in
         let shown : behind ≡ first_name kind order ++ 125 ∷ (between.now ++ 123 ∷ (second_name kind order ++ 125 ∷ after.now)) =
-            close.is ∙ ap (λ t. t ++ 125 ∷ rest) h.1.first_is ∙ ap (λ t. first_name kind order ++ 125 ∷ t) h.1.is in
+        close.is ∙ ap (λ t. t ++ 125 ∷ rest) h.1.first_is ∙ ap (λ t. first_name kind order ++ 125 ∷ t) h.1.is in
         let built : P before = record { is = cut.is ∙ ap (λ t. before ++ 123 ∷ t) shown; start = start; around = h.1.around } in
         subst P (sym h.0) built
 

@@ -1,16 +1,13 @@
 -- A path is read in one way.
-use Rattle.std.proofs.Common.{◌≡◌, ◌≢◌, ℕ, ◌+◌, ◌<◌, ◌≤◌, Bool, true, false, List, [], ◌∷◌, ◌++◌, length, get_or, codes, Option, Some, None, sym, ◌∙◌, ap, subst, refl, arith, inl, inr, ◌⊎◌, true≢false}
-use Rattle.std.specs.List.{list_all}
-use Rattle.std.specs.Str.Parse.{IsNumeral, digits_value, AllDigits}
-use Rattle.std.specs.Char.{digit_value}
+use Rattle.std.proofs.Common.{◌≡◌, ℕ, true, false, List, [], ◌∷◌, ◌++◌, get_or, Option, Some, None, sym, ◌∙◌, ap, subst, refl, arith, inl, inr}
+use Rattle.std.specs.Str.Parse.{IsNumeral}
 use Rattle.percent_encoding.specs.Percent.{percent_decode}
 use Rattle.mq_text.specs.Cut.{Lacks}
-use Rattle.mq_addr.specs.declared.addr.Addr.{Addr}
 use Rattle.mq_addr.specs.declared.prefix.Prefix.{Prefix}
 use Rattle.mq_addr.specs.declared.kind.Kind.{Kind}
 use Rattle.mq_addr.specs.declared.kind.Kind.TheVariants as kind
-use Rattle.mq_addr.specs.Addr.{IsAddrText, is_addr_byte, HasAddrBytes, HasOneAddr}
-use Rattle.mq_addr.specs.Prefixes.{IsPrefixForm, IsPrefixText, HasOnePrefix}
+use Rattle.mq_addr.specs.Addr.{is_addr_byte, HasAddrBytes, HasOneAddr}
+use Rattle.mq_addr.specs.Prefixes.{IsPrefixForm, HasOnePrefix}
 use Rattle.mq_target.specs.declared.shape.Order.{Order}
 use Rattle.mq_target.specs.declared.shape.Order.TheVariants.{TargetFirst, TargetLast}
 use Rattle.mq_target.specs.declared.target.Host.{Host}
@@ -21,12 +18,12 @@ use Rattle.mq_target.specs.declared.target.Target.{Target}
 use Rattle.mq_target.specs.declared.target.Target.TheVariants as target
 use Rattle.mq_target.specs.declared.target.Matched.{Matched}
 use Rattle.mq_target.specs.declared.target.Matched.TheVariants.{No, Bad, Yes}
-use Rattle.mq_target.specs.Classes.{is_name_byte, is_value_byte, is_delimiter, begins, ends_or_begins}
+use Rattle.mq_target.specs.Classes.{is_name_byte, is_delimiter, begins, ends_or_begins}
 use Rattle.mq_target.specs.Template.{Shape, IsTemplate}
-use Rattle.mq_target.specs.Values.{IsName, IsNameText, IsNumber, IsHost, IsArea, IsPort, IsProtocol, IsTarget}
-use Rattle.mq_target.specs.Matching.{SplitsAt, Splits, Reads, Matches}
+use Rattle.mq_target.specs.Values.{IsNameText, IsHost, IsArea, IsProtocol, IsTarget}
+use Rattle.mq_target.specs.Matching.{Splits, Reads, Matches}
 use Rattle.mq_target.proofs.Bytes.{all_lack, lacks_none}
-use Rattle.mq_target.proofs.Splitting.{first_is, second_is, delimited_ends, ended_ends, behind_before, same_front}
+use Rattle.mq_target.proofs.Splitting.{first_is, second_is, delimited_ends, ended_ends, same_front}
 
 star_addr : is_addr_byte 42 ≡ false
 unfolding is_addr_byte

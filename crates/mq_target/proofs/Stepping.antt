@@ -1,10 +1,10 @@
 -- One step over a template's text.
-use Rattle.std.proofs.Common.{◌≡◌, ◌≢◌, ℕ, zero, suc, ◌<◌, ◌↔◌, Bool, true, false, ◌==◌, List, [], ◌∷◌, ◌++◌, length, sym, ◌∙◌, ap, subst, refl, arith, append_assoc, inl, inr, ◌⊎◌, length-append, true≢false}
+use Rattle.std.proofs.Common.{◌≡◌, ℕ, zero, suc, ◌<◌, ◌↔◌, Bool, true, false, ◌==◌, List, [], ◌∷◌, ◌++◌, length, sym, ◌∙◌, ap, subst, refl, arith, inl, inr, ◌⊎◌, length-append, true≢false}
 use Rattle.std.proofs.lemmas.Bool.{false≢true}
 use Rattle.std.specs.List.{list_all}
 use Rattle.mq_text.specs.Cut.{Lacks, IsCut, IsCutOnce}
-use Rattle.mq_target.specs.Classes.{is_literal, is_name_byte, is_unreserved, is_variable_byte, is_delimiter, begins}
-use Rattle.mq_target.specs.Form.{AreLiterals, IsVariable, IsTwoNames, IsQuery, IsRun, Runs, HasRuns, may_follow}
+use Rattle.mq_target.specs.Classes.{is_literal, is_name_byte, is_unreserved, is_variable_byte, begins}
+use Rattle.mq_target.specs.Form.{AreLiterals, IsVariable, IsTwoNames, HasRuns, may_follow}
 use Rattle.mq_target.proofs.Bytes.{all_lack, lacks_none, lacks_both}
 
 -- no brace is a literal, and none of the marks between names is a part of one
@@ -47,15 +47,13 @@ at_brace once text literal behind cut (zero, inl h) = absurd (lacks_none 123 lit
 at_brace once text literal behind cut (zero, inr (front, names, h)) =
     let mine : IsCut 123 text front (63 ∷ (names ++ 125 ∷ [])) = record { is = h.is; first = literals_lack front h.literals } in
     let same = once 123 text front (63 ∷ (names ++ 125 ∷ [])) literal behind mine cut in
-    let inner : Lacks 125 (63 ∷ names) = ((λ e. omega arith), names_lack names h.two) in
-    (
+    let inner : Lacks 125 (63 ∷ names) = ((λ e. omega arith), names_lack names h.two) in (
       subst AreLiterals same.0 h.literals,
       (63 ∷ names, [], record { is = sym same.1; first = inner }, inl (refl, (names, refl, h.two))),
     )
 at_brace once text literal behind cut (suc n, (front, name, rest, h, more)) =
     let mine : IsCut 123 text front (name ++ 125 ∷ rest) = record { is = h.is; first = literals_lack front h.literals } in
-    let same = once 123 text front (name ++ 125 ∷ rest) literal behind mine cut in
-    (
+    let same = once 123 text front (name ++ 125 ∷ rest) literal behind mine cut in (
       subst AreLiterals same.0 h.literals,
       (name, rest, record { is = sym same.1; first = variable_lacks 125 name no_closing h.variable }, inr (h.variable, h.follows, (n, more))),
     )
@@ -79,13 +77,21 @@ pub closed : (text literal behind inner after : List ℕ) → IsCut 123 text lit
 closed text literal behind inner after cut close literals (inl (last, (names, is, two))) =
     let shown : behind ≡ 63 ∷ (names ++ 125 ∷ []) = close.is ∙ ap (λ (t : List ℕ). t ++ 125 ∷ after) is ∙ ap (λ (t : List ℕ). 63 ∷ (names ++ 125 ∷ t)) last in
     (zero, inr (literal, names, record { is = cut.is ∙ ap (λ (t : List ℕ). literal ++ 123 ∷ t) shown; literals = literals; two = two }))
-closed text literal behind inner after cut close literals (inr (variable, follows, (n, runs))) =
-    (suc n, (literal, inner, after, record {
+closed text literal behind inner after cut close literals (inr (variable, follows, (n, runs))) = (
+  suc n,
+  (
+    literal,
+    inner,
+    after,
+    record {
       is = cut.is ∙ ap (λ (t : List ℕ). literal ++ 123 ∷ t) close.is;
       literals = literals;
       variable = variable;
       follows = follows;
-    }, runs))
+    },
+    runs,
+  ),
+)
 
 pub no_brace : (text : List ℕ) → Lacks 123 text → HasRuns text → AreLiterals text
 no_brace text lacks (zero, inl h) = h
@@ -109,9 +115,9 @@ pub two_at : IsCutOnce → (text first second : List ℕ) (answer : Bool) → Is
 two_at once text first second answer cut told = (
   (λ yes. (first, second, cut.is, (told.0 yes).0, (told.0 yes).1)),
   λ h.
-    let (a, b, is, p, q) = h in
-    let same = once 44 text a b first second (record { is = is; first = variable_lacks 44 a no_comma p }) cut in
-    told.1 (subst IsVariable same.0 p, subst IsVariable same.1 q),
+      let (a, b, is, p, q) = h in
+      let same = once 44 text a b first second (record { is = is; first = variable_lacks 44 a no_comma p }) cut in
+      told.1 (subst IsVariable same.0 p, subst IsVariable same.1 q),
 )
 
 pub no_two : (text : List ℕ) → Lacks 44 text → (false ≡ true) ↔ IsTwoNames text

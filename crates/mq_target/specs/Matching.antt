@@ -1,5 +1,5 @@
 -- What a path is to a template.
-use Rattle.std.specs.Prelude.{◌≡◌, ℕ, ◌<◌, Bool, true, List, ◌++◌, length}
+use Rattle.std.specs.Prelude.{◌≡◌, ℕ, ◌<◌, true, List, ◌++◌, length}
 use Rattle.std.specs.List.{list_all}
 use Rattle.percent_encoding.specs.Percent.{percent_decode}
 use Rattle.mq_addr.specs.declared.kind.Kind.{Kind}

@@ -1,11 +1,11 @@
 -- What is found of a template in a text.
-use Rattle.std.specs.Prelude.{◌≡◌, ℕ, true, List, [], ◌∷◌, ◌++◌}
+use Rattle.std.specs.Prelude.{◌≡◌, ℕ, List, [], ◌∷◌, ◌++◌}
 use Rattle.mq_addr.specs.declared.kind.Kind.{Kind}
 use Rattle.mq_target.specs.declared.shape.Order.{Order}
 use Rattle.mq_target.specs.declared.outline.Outline.{Outline}
 use Rattle.mq_target.specs.declared.outline.Outline.TheVariants.{Plain, Pair}
 use Rattle.mq_target.specs.Form.{opening, closing, comma}
-use Rattle.mq_target.specs.Template.{Shape, IsStart, AreAround, IsPlain, IsPair, pair_shape, first_name, second_name}
+use Rattle.mq_target.specs.Template.{AreAround, IsPlain, IsPair, pair_shape, first_name, second_name}
 
 -- the text is the template that is built from these parts
 abbrev pub IsOutline : Kind → List ℕ → Outline → Type 0

@@ -1,5 +1,5 @@
 -- What one step over a template's text tells.
-use Rattle.std.specs.Prelude.{ℕ, ◌<◌, ◌↔◌, Bool, IsTrue, List, length}
+use Rattle.std.specs.Prelude.{ℕ, ◌<◌, ◌↔◌, IsTrue, List, length}
 use Rattle.mq_target.specs.declared.form.Step.{Step}
 use Rattle.mq_target.specs.declared.form.Step.TheVariants.{Ends, GoesOn}
 use Rattle.mq_target.specs.Form.{HasRuns}

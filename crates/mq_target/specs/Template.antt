@@ -1,6 +1,5 @@
 -- Which template a text is (RFC 9298, section 2; RFC 9484, section 3).
-use Rattle.std.specs.Prelude.{◌≡◌, ℕ, Bool, true, ◌⊎◌, ◌==◌, List, [], ◌∷◌, ◌++◌, codes}
-use Rattle.std.specs.List.{list_all}
+use Rattle.std.specs.Prelude.{◌≡◌, ℕ, true, ◌⊎◌, ◌==◌, List, [], ◌∷◌, ◌++◌, codes}
 use Rattle.mq_addr.specs.declared.kind.Kind.{Kind}
 use Rattle.mq_addr.specs.declared.kind.Kind.TheVariants.{Udp, Ip}
 use Rattle.mq_target.specs.declared.shape.Order.{Order}
@@ -57,7 +56,7 @@ pub record AreAround (between after : List ℕ) : Type 0 where
 -- each variable stands once, with literals around it
 pub record IsPlain (text : List ℕ) (shape : Shape) : Type 0 where
   pub is : text ≡ shape.before ++ opening ∷ (first_name shape.kind shape.order ++ closing ∷ (shape.between
-    ++ opening ∷ (second_name shape.kind shape.order ++ closing ∷ shape.after)))
+      ++ opening ∷ (second_name shape.kind shape.order ++ closing ∷ shape.after)))
   pub start : IsStart shape.before
   pub around : AreAround shape.between shape.after
 

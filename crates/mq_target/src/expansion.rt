@@ -10,7 +10,12 @@ use mq_wire::NoMemory;
 use std::alloc::Global;
 
 /// Puts the escaped value of the variable that stands first at the end.
-pub fn put_first(alloc: Global, out: &mut Vec<u8>, order: Order, target: &Target) -> Result<(), NoMemory>
+pub fn put_first(
+    alloc: Global,
+    out: &mut Vec<u8>,
+    order: Order,
+    target: &Target,
+) -> Result<(), NoMemory>
     ensures { OnOk result (out.new.items ≡ out.old.items ++ escaped (first_text order target.now)) }
 {
     match order {
@@ -20,7 +25,12 @@ pub fn put_first(alloc: Global, out: &mut Vec<u8>, order: Order, target: &Target
 }
 
 /// Puts the escaped value of the variable that stands second at the end.
-pub fn put_second(alloc: Global, out: &mut Vec<u8>, order: Order, target: &Target) -> Result<(), NoMemory>
+pub fn put_second(
+    alloc: Global,
+    out: &mut Vec<u8>,
+    order: Order,
+    target: &Target,
+) -> Result<(), NoMemory>
     ensures { OnOk result (out.new.items ≡ out.old.items ++ escaped (second_text order target.now)) }
 {
     match order {

@@ -82,7 +82,12 @@ fn pair_outline<'a>(kind: Kind, front: &'a [u8], pair: &[u8], rest: &[u8]) -> Op
 }
 
 /// The parts of a template with two variables in braces of their own.
-fn plain_outline<'a>(kind: Kind, before: &'a [u8], first: &[u8], rest: &'a [u8]) -> Option<Outline<'a>>
+fn plain_outline<'a>(
+    kind: Kind,
+    before: &'a [u8],
+    first: &[u8],
+    rest: &'a [u8],
+) -> Option<Outline<'a>>
     ensures { MatchOption result
         ((order : Order) (between after : List ℕ) → ¬ (IsPlainEnd kind order first.now between after rest.now))
         (λ found. IsPlainFound kind before.now first.now rest.now found) }
@@ -106,7 +111,13 @@ fn plain_outline<'a>(kind: Kind, before: &'a [u8], first: &[u8], rest: &'a [u8])
 }
 
 /// The order of the variables, where the literals around them are such.
-fn order_around(kind: Kind, first: &[u8], second: &[u8], between: &[u8], after: &[u8]) -> Option<Order>
+fn order_around(
+    kind: Kind,
+    first: &[u8],
+    second: &[u8],
+    between: &[u8],
+    after: &[u8],
+) -> Option<Order>
     ensures { MatchOption result
         ((order : Order) → (first.now ≡ first_name kind order) → (second.now ≡ second_name kind order) → ¬ (AreAround between.now after.now))
         (λ order. (first.now ≡ first_name kind order) × (second.now ≡ second_name kind order) × AreAround between.now after.now) }

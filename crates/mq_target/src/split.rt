@@ -7,7 +7,12 @@ ghost use Rattle.mq_target.specs.Matching.{IsValue, SplitsAt};
 use crate::classes::is_value_byte;
 
 /// The two values, where the path is these literals with values between them. Goes once over the path.
-pub fn split<'a>(before: &[u8], between: &[u8], after: &[u8], path: &'a [u8]) -> Option<(&'a [u8], &'a [u8])>
+pub fn split<'a>(
+    before: &[u8],
+    between: &[u8],
+    after: &[u8],
+    path: &'a [u8],
+) -> Option<(&'a [u8], &'a [u8])>
     requires delimited { begins is_delimiter between.now ≡ true }
     requires ended { ends_or_begins is_delimiter after.now ≡ true }
     ensures { MatchOption result

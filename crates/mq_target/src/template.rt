@@ -39,11 +39,11 @@ impl Model for Template {
     ghost use Rattle.mq_target.specs.Classes.{begins, ends_or_begins, is_delimiter};
 
     ghost view = { λ t. record {
-        kind = t.kind;
-        order = t.order;
-        before = t.before.items;
-        between = t.between.items;
-        after = t.after.items;
+      kind = t.kind;
+      order = t.order;
+      before = t.before.items;
+      between = t.between.items;
+      after = t.after.items;
     } };
 
     ghost invariant = { λ t. (begins is_delimiter t.between.items ≡ true) × (ends_or_begins is_delimiter t.after.items ≡ true) };
@@ -69,7 +69,12 @@ impl Template {
     pub fn matches(&self, alloc: Global, path: &[u8]) -> Result<Matched, NoMemory>
         ensures { IfOk result (λ found. Matches self.now path.now found) }
     {
-        let parts = split(self.before.as_slice(), self.between.as_slice(), self.after.as_slice(), path);
+        let parts = split(
+            self.before.as_slice(),
+            self.between.as_slice(),
+            self.after.as_slice(),
+            path,
+        );
         let Some((first, second)) = parts else {
             return Ok(Matched::No);
         };

@@ -1,11 +1,15 @@
 //! Templates and paths with what the RFCs say of them.
+ghost use Rattle.mq_target.specs.Expansion.{Suits};
+
 use super::*;
 use mq_addr::Addr;
-use mq_wire::NoMemory;
+use mq_wire::{Bytes, NoMemory};
 use std::alloc::Global;
 
 const UDP: &[u8] = b"/.well-known/masque/udp/{target_host}/{target_port}/";
+
 const IP: &[u8] = b"/.well-known/masque/ip/{target}/{ipproto}/";
+
 const QUERY: &[u8] = b"/x{?target_host,target_port}";
 
 /// Texts of templates for UDP, and what `parse` answers: `+` where it is one, `v` for Variables, `s` for Syntax.
@@ -148,8 +152,18 @@ fn sort_of_target(target: &Target) -> &'static str {
 
 fn is_same(a: &Target, b: &Target) -> bool {
     match (a, b) {
-        (Target::Udp { host: a, port: p }, Target::Udp { host: b, port: q }) => p == q && is_same_host(a, b),
-        (Target::Ip { area: a, protocol: p }, Target::Ip { area: b, protocol: q }) => p == q && is_same_area(a, b),
+        (Target::Udp { host: a, port: p }, Target::Udp { host: b, port: q }) => p == q
+            && is_same_host(a, b),
+        (
+            Target::Ip {
+                area: a,
+                protocol: p,
+            },
+            Target::Ip {
+                area: b,
+                protocol: q,
+            },
+        ) => p == q && is_same_area(a, b),
         _ => false,
     }
 }
@@ -182,10 +196,16 @@ fn paths_are_sorted(rt: HostRuntime) {
         return;
     };
     for (path, want) in UDP_PATHS {
-        assert!(rt; sort(&udp.matches(rt.alloc(), path.as_bytes())) == want, "{path}");
+        assert!(rt;
+            sort(&udp.matches(rt.alloc(), path.as_bytes())) == want,
+            "{path}"
+        );
     }
     for (path, want) in IP_PATHS {
-        assert!(rt; sort(&ip.matches(rt.alloc(), path.as_bytes())) == want, "{path}");
+        assert!(rt;
+            sort(&ip.matches(rt.alloc(), path.as_bytes())) == want,
+            "{path}"
+        );
     }
 }
 
@@ -195,6 +215,42 @@ fn gives(alloc: Global, template: &Template, path: &[u8], want: &Target) -> bool
         Ok(Matched::Yes(target)) => is_same(&target, want),
         _ => false,
     }
+}
+
+/// What a path with a name of so many bytes is to the default template.
+fn long_name(alloc: Global, template: &Template, count: u32) -> Result<Matched, NoMemory> {
+    let mut path = Vec::from_slice(alloc, b"/.well-known/masque/udp/".as_slice())?;
+    for _ in 0..count {
+        path.push(b'n')?;
+    }
+    path.extend_from_slice(b"/443/".as_slice())?;
+    template.matches(alloc, path.as_slice())
+}
+
+/// A target with a name.
+fn named(alloc: Global, name: &[u8], port: u16) -> Result<Target, NoMemory> {
+    let name = Bytes::from_vec(Vec::from_slice(alloc, name)?);
+    Ok(Target::Udp {
+        host: Host::Name(name),
+        port,
+    })
+}
+
+#[test]
+fn names_are_short_and_in_lower_case(rt: HostRuntime) {
+    let Ok(template) = Template::parse(rt.alloc(), Kind::Udp, UDP) else {
+        assert!(rt; false, "the default template for UDP");
+        return;
+    };
+    assert!(rt; sort(&long_name(rt.alloc(), &template, 1)) == "h");
+    assert!(rt; sort(&long_name(rt.alloc(), &template, 253)) == "h");
+    assert!(rt; sort(&long_name(rt.alloc(), &template, 254)) == "b");
+    let path = b"/.well-known/masque/udp/TARGET.example.COM/443/".as_slice();
+    let Ok(target) = named(rt.alloc(), b"target.example.com".as_slice(), 443) else {
+        assert!(rt; false, "a name");
+        return;
+    };
+    assert!(rt; gives(rt.alloc(), &template, path, &target));
 }
 
 #[test]
@@ -210,7 +266,57 @@ fn a_query_is_matched_and_expanded(rt: HostRuntime) {
     let path = b"/x?target_host=2001%3Adb8%3A%3A1&target_port=53".as_slice();
     assert!(rt; sort(&template.matches(rt.alloc(), path)) == "6");
     assert!(rt; sort(&copy.matches(rt.alloc(), path)) == "6");
-    assert!(rt; sort(&template.matches(rt.alloc(), b"/x?target_host=2001%3Adb8%3A%3A1&target_port=0".as_slice())) == "b");
+    assert!(rt;
+        sort(&template.matches(
+            rt.alloc(),
+            b"/x?target_host=2001%3Adb8%3A%3A1&target_port=0".as_slice()
+        )) == "b"
+    );
     assert!(rt; sort(&template.matches(rt.alloc(), b"/y".as_slice())) == "n");
-    assert!(rt; sort(&template.matches(rt.alloc(), b"/x?target_port=53&target_host=2001%3Adb8%3A%3A1".as_slice())) == "n");
+    assert!(rt;
+        sort(&template.matches(
+            rt.alloc(),
+            b"/x?target_port=53&target_host=2001%3Adb8%3A%3A1".as_slice()
+        )) == "n"
+    );
+}
+
+/// Whether the path of a target is this one, and is read as that target.
+fn goes_round(alloc: Global, template: &Template, target: &Target, path: &[u8]) -> bool
+    requires { Suits template.now.kind target.now }
+{
+    match template.expand(alloc, target) {
+        Ok(expanded) => expanded.as_slice() == path && gives(alloc, template, path, target),
+        Err(_) => false,
+    }
+}
+
+#[test]
+fn targets_go_round(rt: HostRuntime) {
+    let Ok(query) = Template::parse(rt.alloc(), Kind::Udp, QUERY) else {
+        assert!(rt; false, "a template with a query");
+        return;
+    };
+    let target = Target::Udp {
+        host: Host::Address(Addr::V6(0x2001_0db8_0000_0000_0000_0000_0000_0001)),
+        port: 53,
+    };
+    let path = b"/x?target_host=2001%3Adb8%3A%3A1&target_port=53".as_slice();
+    assert!(rt; goes_round(rt.alloc(), &query, &target, path));
+    let Ok(ip) = Template::parse(rt.alloc(), Kind::Ip, IP) else {
+        assert!(rt; false, "the default template for IP");
+        return;
+    };
+    let all = Target::Ip {
+        area: Area::All,
+        protocol: None,
+    };
+    assert!(rt;
+        goes_round(
+            rt.alloc(),
+            &ip,
+            &all,
+            b"/.well-known/masque/ip/%2A/%2A/".as_slice()
+        )
+    );
 }

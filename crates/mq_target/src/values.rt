@@ -81,7 +81,10 @@ fn is_name(text: &[u8]) -> bool
 fn lowered(alloc: Global, text: &[u8]) -> Result<Vec<u8>, NoMemory>
     ensures { IfOk result (λ v. v.items ≡ map to_ascii_lowercase text.now) }
 {
-    let lower = text.iter().map(|byte| byte.to_ascii_lowercase()).collect(alloc)?;
+    let lower = text
+        .iter()
+        .map(|byte| byte.to_ascii_lowercase())
+        .collect(alloc)?;
     Ok(lower)
 }
 

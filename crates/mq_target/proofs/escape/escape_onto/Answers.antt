@@ -1,7 +1,7 @@
-use Rattle.std.proofs.Common.{◌≡◌, ◌++◌, ◌+◌, ◌<◌, ℕ, List, [], ◌∷◌, length, take, get_or, sym, ◌∙◌, ap, arith, append_assoc}
+use Rattle.std.proofs.Common.{arith}
 use Rattle.std.proofs.lemmas.Grind.{common_steps}
 use Rattle.std.proofs.lemmas.List.{flat_map_more}
-use Rattle.mq_target.specs.Expansion.{escaped, escaped_byte}
+use Rattle.mq_target.specs.Expansion.{escaped}
 use Rattle.mq_target.proofs.escape.escape_onto.Goals as goal
 
 pub loop-byte-init : goal.loop-byte-init

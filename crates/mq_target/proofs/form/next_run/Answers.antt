@@ -1,4 +1,4 @@
-use Rattle.std.proofs.Common.{◌≡◌, sym, ◌∙◌}
+use Rattle.std.proofs.Common.{sym, ◌∙◌}
 use Rattle.std.proofs.lemmas.Bool.{false≢true}
 use Rattle.mq_target.proofs.form.next_run.Goals as goal
 use Rattle.mq_target.proofs.Stepping.{without_brace, refused, unclosed, other_literals, at_pair, at_run, no_run, shorter}
@@ -23,7 +23,7 @@ pub returns-in-None : goal.returns-in-None
 returns-in-None c = (
   shorter c.args.text.now c.in-Some.literal.now c.in-Some.behind.now c.in-Some-cut.inner.now c.in-Some-cut.after.now c.in-Some.ensures c.in-Some-cut.ensures,
   at_run c.cut_once.ensures c.args.text.now c.in-Some.literal.now c.in-Some.behind.now c.in-Some.ensures c.in-Some-cut.inner.now c.in-Some-cut.after.now c.in-Some-cut.ensures (sym c.are_literals-2.ensures ∙ c.if-not-are_literals.false)
-  c.in-None.ensures (c.goes_on.ensures.0 c.if-goes_on.true),
+      c.in-None.ensures (c.goes_on.ensures.0 c.if-goes_on.true),
 )
 
 pub returns-in-None-2 : goal.returns-in-None-2

@@ -1,4 +1,4 @@
-use Rattle.std.proofs.Common.{◌≡◌, ◌≤◌, true, take, length}
+use Rattle.std.proofs.Common.{◌≡◌, true, take}
 use Rattle.std.specs.List.{list_all}
 use Rattle.mq_target.specs.Classes.{is_value_byte}
 use Rattle.mq_target.proofs.split.value_len.Given as goal
