@@ -41,10 +41,10 @@ pub record OpenedNext (old : Conn) (tunnel stream : ℕ) (goal : Goal) (new : Co
   pub rest : List Act
   pub due : old.due ≡ act.Open stream goal ∷ rest
   pub new_is : new ≡ record old {
-      due = rest;
-      out = old.out ++ success_text (goal_kind goal);
-      tunnels = old.tunnels ++ record { id = tunnel; stream = stream; waiting = [] } ∷ [];
-    }
+    due = rest;
+    out = old.out ++ success_text (goal_kind goal);
+    tunnels = old.tunnels ++ record { id = tunnel; stream = stream; waiting = [] } ∷ [];
+  }
 
 -- the request that is due is refused, the refusal is put for writing, and the connection is ending
 pub record RefusedNext (old : Conn) (stream status rule : ℕ) (new : Conn) : Type 0 where

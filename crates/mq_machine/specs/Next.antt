@@ -90,10 +90,10 @@ pub record AcceptNext (old : Worker) (conn actor : ℕ) (new : Worker) : Type 0 
   pub room : length old.conns < 32
   pub offered : old.offered ≡ record { number = conn; link = link } ∷ rest
   pub new_is : new ≡ record old {
-      offered = rest;
-      conns = old.conns ++ record { number = conn; link = link; conn = new_conn } ∷ [];
-      next_seat = place Offers + 1;
-    }
+    offered = rest;
+    conns = old.conns ++ record { number = conn; link = link; conn = new_conn } ∷ [];
+    next_seat = place Offers + 1;
+  }
 
 -- a connection of which nothing is left ends
 pub record EndNext (old : Worker) (c conn : ℕ) (why : End) (new : Worker) : Type 0 where

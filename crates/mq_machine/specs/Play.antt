@@ -22,9 +22,9 @@ pub record OffersLink (old : State) (worker : ℕ) (new : State) : Type 0 where
   pub w : Worker
   pub at : slice_get old.workers worker ≡ Some w
   pub new_is : new ≡ record old {
-      links = old.links + 1;
-      workers = slice_set old.workers worker (record w { offered = w.offered ++ record { number = old.links; link = record { pieces = [] } } ∷ [] });
-    }
+    links = old.links + 1;
+    workers = slice_set old.workers worker (record w { offered = w.offered ++ record { number = old.links; link = record { pieces = [] } } ∷ [] });
+  }
 
 -- one more piece
 abbrev pub with_piece : Feed → List ℕ → Feed
@@ -40,8 +40,8 @@ pub record ArrivesOffered (old : State) (number : ℕ) (bytes : List ℕ) (new :
   pub here : slice_get w.offered i ≡ Some o
   pub number_is : o.number ≡ number
   pub new_is : new ≡ record old {
-      workers = slice_set old.workers a (record w { offered = slice_set w.offered i (record o { link = with_piece o.link bytes }) });
-    }
+    workers = slice_set old.workers a (record w { offered = slice_set w.offered i (record o { link = with_piece o.link bytes }) });
+  }
 
 -- a piece arrives on the link of a connection
 pub record ArrivesHeld (old : State) (number : ℕ) (bytes : List ℕ) (new : State) : Type 0 where
@@ -53,8 +53,8 @@ pub record ArrivesHeld (old : State) (number : ℕ) (bytes : List ℕ) (new : St
   pub here : slice_get w.conns i ≡ Some h
   pub number_is : h.number ≡ number
   pub new_is : new ≡ record old {
-      workers = slice_set old.workers a (record w { conns = slice_set w.conns i (record h { link = with_piece h.link bytes }) });
-    }
+    workers = slice_set old.workers a (record w { conns = slice_set w.conns i (record h { link = with_piece h.link bytes }) });
+  }
 
 -- the connection of this link has ended, and nothing happens
 pub record ArrivesLate (old : State) (number : ℕ) (new : State) : Type 0 where

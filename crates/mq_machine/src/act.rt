@@ -11,11 +11,7 @@ pub enum Act {
     /// A request whose port is bound: its tunnel is to be opened.
     Open { stream: u32, goal: Goal },
     /// A request that is to be refused with this status, at status 403 by the rule of this number; else `rule` is 0.
-    Refuse {
-        stream: u32,
-        status: u16,
-        rule: u32,
-    },
+    Refuse { stream: u32, status: u16, rule: u32 },
     /// Payload number `n` of the stream's capsules.
     Payload { stream: u32, n: u64, payload: Bytes },
     /// A malformed capsule.

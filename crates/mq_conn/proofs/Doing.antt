@@ -1,0 +1,97 @@
+-- What doing an act leaves.
+use Rattle.std.proofs.Common.{◌≡◌, ◌≢◌, ℕ, ◌≤◌, List, [], ◌∷◌, ◌++◌, length, drop, Bool, true, false, Option, Some, None, slice_get, remove, unwrap_or, refl, sym, subst, arith}
+use Rattle.std.proofs.lemmas.List.{drop-append-le, length-append}
+use Rattle.std.specs.Option.{is_some}
+use Rattle.mq_talk.specs.declared.note.End.{End}
+use Rattle.mq_machine.specs.declared.act.Act.{Act}
+use Rattle.mq_machine.specs.declared.act.Act.TheVariants.{Bind, Open, Refuse, Payload, Malformed}
+use Rattle.mq_machine.specs.State.{Conn, Tunnel}
+use Rattle.mq_talk.specs.declared.goal.Goal.{Goal}
+use Rattle.mq_machine.specs.ConnNext.{HasTunnel, without}
+use Rattle.mq_conn.specs.declared.connection.Phase.{Phase}
+use Rattle.mq_conn.specs.declared.connection.Phase.TheVariants.{Head, Tunnel as InCapsules, Done}
+use Rattle.mq_conn.specs.Connections.{WillEnd, WillServe, IsPhase, IsClosed, Follows, tunnels_of}
+
+-- an ending connection ends whatever is due
+pub ends : (acts : List Act) (why : End) → WillEnd acts (Some why)
+ends [] why = λ h. cc
+ends (Malformed stream ∷ acts) why = tt
+ends (Refuse stream status rule ∷ acts) why = tt
+ends (Open stream goal ∷ acts) why = ends acts why
+ends (Bind stream goal ∷ acts) why = ends acts why
+ends (Payload stream n payload ∷ acts) why = ends acts why
+
+-- the phase stays when the first act is done
+pub done : (phase : Phase) (reads : List (List ℕ)) (due : List Act) (first : Act) (rest after : List Act) (live lives : Bool) (ending later : Option End)
+    → due ≡ first ∷ rest → (WillEnd (first ∷ rest) ending → WillEnd after later) → (WillServe live (first ∷ rest) → WillServe lives after)
+    → IsPhase phase reads due live ending → IsPhase phase reads after lives later
+done (Head reader) reads due first rest after live lives ending later e f g p = let none = p.2 in absurd cc
+done (InCapsules pending n) reads due first rest after live lives ending later e f g p =
+    let P : List Act → Type 0 = λ acts. WillServe live acts in
+    (p.0, g (subst P e p.1))
+done Done reads due first rest after live lives ending later e f g p = let P : List Act → Type 0 = λ acts. WillEnd acts ending in f (subst P e p)
+
+-- what is put behind is owed
+pub owed_more : (out text : List ℕ) (given : ℕ) → given ≤ length out → drop given (out ++ text) ≡ drop given out ++ text
+owed_more out text given fits = drop-append-le given out text fits
+
+pub given_more : (out text : List ℕ) (given : ℕ) → given ≤ length out → given ≤ length (out ++ text)
+given_more out text given fits = omega (arith, length-append out text)
+
+-- a live tunnel
+pub record Live (s : Conn) (id : ℕ) : Type 0 where
+  pub t : Tunnel
+  pub has : HasTunnel s 0 0 t
+  pub id_is : t.id ≡ id
+  pub waiting : t.waiting ≡ []
+  pub removed : remove s.tunnels 0 ≡ []
+
+pub live_tunnel : (tunnel : Option ℕ) (s : Conn) → s.tunnels ≡ tunnels_of tunnel → is_some tunnel ≡ true → Live s (unwrap_or tunnel 0)
+live_tunnel None s is live = absurd cc
+live_tunnel (Some id) s is live =
+    let t : Tunnel = record { id = id; stream = 0; waiting = [] } in
+    let P : List Tunnel → Type 0 = λ ts. slice_get ts 0 ≡ Some t in
+    let Q : List Tunnel → Type 0 = λ ts. remove ts 0 ≡ [] in
+    record {
+      t = t;
+      has = record { at = subst P (sym is) refl; on = refl };
+      id_is = refl;
+      waiting = refl;
+      removed = subst Q (sym is) refl;
+    }
+
+pub no_tunnels : (tunnel : Option ℕ) (s : Conn) → s.tunnels ≡ tunnels_of tunnel → is_some tunnel ≡ false → s.tunnels ≡ []
+no_tunnels None s is live = is
+no_tunnels (Some id) s is live = absurd cc
+
+pub serves_opening : (live : Bool) (stream : ℕ) (goal : Goal) (rest : List Act) → WillServe live (Bind stream goal ∷ rest) → WillServe live (Open stream goal ∷ rest)
+serves_opening true stream goal rest w = w
+serves_opening false stream goal rest w = w
+
+pub serves_opened : (live : Bool) (stream : ℕ) (goal : Goal) (rest : List Act) → WillServe live (Open stream goal ∷ rest) → WillServe true rest
+serves_opened true stream goal rest w = absurd w
+serves_opened false stream goal rest w = w
+
+pub serves_on : (live : Bool) (stream n : ℕ) (payload : List ℕ) (rest : List Act) → WillServe live (Payload stream n payload ∷ rest) → WillServe live rest
+serves_on true stream n payload rest w = w
+serves_on false stream n payload rest w = absurd w
+
+pub serves_no_end : (live lives : Bool) (stream : ℕ) (rest after : List Act) → WillServe live (Malformed stream ∷ rest) → WillServe lives after
+serves_no_end true lives stream rest after w = absurd w
+serves_no_end false lives stream rest after w = absurd w
+
+pub serves_no_refusal : (live lives : Bool) (stream status rule : ℕ) (rest after : List Act) → WillServe live (Refuse stream status rule ∷ rest) → WillServe lives after
+serves_no_refusal true lives stream status rule rest after w = absurd w
+serves_no_refusal false lives stream status rule rest after w = absurd w
+
+pub follows_none : (live : Bool) (acts : List Act) → acts ≡ [] → Follows live acts
+follows_none live [] h = tt
+follows_none live (a ∷ acts) h = absurd cc
+
+pub without_none : (stream : ℕ) (acts : List Act) → acts ≡ [] → acts ≡ without stream acts
+without_none stream [] h = refl
+without_none stream (a ∷ acts) h = absurd cc
+
+-- what is due shows that nothing ends
+pub still : (s : Conn) (first : Act) (rest : List Act) (P : Type 0) → s.due ≡ first ∷ rest → (s.ending ≢ None → IsClosed s) → s.ending ≢ None → P
+still s first rest P due closed h = let none = (closed h).due in absurd cc

@@ -1,0 +1,6 @@
+pub mod Doing
+pub mod HeadsRead
+pub mod Integers
+pub mod Phases
+pub mod Segments
+pub mod Streams

@@ -1,0 +1,138 @@
+-- What the core of a connection stands for.
+use Rattle.std.specs.Prelude.{◌≡◌, ◌≢◌, ℕ, ◌+◌, ◌≤◌, ◌⊎◌, Bool, true, false, List, [], ◌∷◌, ◌++◌, length, drop, Option, Some, None}
+use Rattle.std.specs.List.{concat}
+use Rattle.std.specs.Option.{is_some}
+use Rattle.mq_addr.specs.declared.addr.Addr.TheVariants.{V4}
+use Rattle.mq_head.specs.declared.reader.HeadReader.{HeadReader}
+use Rattle.mq_head.specs.Reader.{IsHeadOf}
+use Rattle.mq_talk.specs.declared.book.Call.{Call}
+use Rattle.mq_talk.specs.declared.goal.Goal.TheVariants as goal
+use Rattle.mq_talk.specs.declared.note.End.{End}
+use Rattle.mq_talk.specs.declared.note.Note.{Note}
+use Rattle.mq_machine.specs.declared.act.Act.{Act}
+use Rattle.mq_machine.specs.declared.act.Act.TheVariants as act
+use Rattle.mq_machine.specs.Capsule.{More, Broken, front_of, Reads}
+use Rattle.mq_machine.specs.Request.{IsRequest, IsRefusedRequest, AreBegun, AsksTunnel}
+use Rattle.mq_machine.specs.State as spec
+use Rattle.mq_machine.specs.State.{Tunnel, owed}
+use Rattle.mq_machine.specs.ConnNext as next
+use Rattle.mq_conn.specs.declared.connection.Connection.{Connection}
+use Rattle.mq_conn.specs.declared.connection.Phase.{Phase}
+use Rattle.mq_conn.specs.declared.connection.Phase.TheVariants.{Head, Tunnel as InCapsules, Done}
+
+-- from payload n on the bytes ask for these acts, and lead to the phase
+abbrev pub Reaches : ℕ → List ℕ → List Act → Phase → Type 0
+Reaches n bytes acts (Head reader) = ⊥
+Reaches n bytes acts (InCapsules pending m) = Reads 0 n bytes acts pending.items × (front_of pending.items ≡ More) × (m ≡ n + length acts)
+Reaches n bytes acts Done = (left : List ℕ) × Reads 0 n bytes acts left × (front_of left ≡ Broken)
+
+-- behind a front in which nothing is decided, a piece ends a head that asks for a tunnel
+pub record BeginsTunnel (front bytes : List ℕ) (acts : List Act) (phase : Phase) : Type 0 where
+  pub addr : ℕ
+  pub port : ℕ
+  pub used : ℕ
+  pub payloads : List Act
+  pub request : IsRequest (front ++ bytes) addr port (length front + used)
+  pub within : used ≤ length bytes
+  pub acts_are : acts ≡ act.Bind 0 (goal.Udp (V4 addr) port) ∷ payloads
+  pub reaches : Reaches 0 (drop used bytes) payloads phase
+
+-- it is refused
+pub record BeginsNone (front bytes : List ℕ) (acts : List Act) (phase : Phase) : Type 0 where
+  pub status : ℕ
+  pub refused : IsRefusedRequest (front ++ bytes) status
+  pub acts_are : acts ≡ act.Refuse 0 status 0 ∷ []
+  pub phase_is : phase ≡ Done
+
+-- nothing is decided yet
+abbrev pub Waits : List ℕ → List ℕ → List Act → Phase → Type 0
+Waits front bytes acts (Head reader) = IsHeadOf reader (front ++ bytes) × (acts ≡ [])
+Waits front bytes acts (InCapsules pending m) = ⊥
+Waits front bytes acts Done = ⊥
+
+-- what a piece of a head leads to
+abbrev pub HeadLeadsTo : HeadReader → List ℕ → List Act → Phase → Type 0
+HeadLeadsTo reader bytes acts new = (front : List ℕ) → IsHeadOf reader front
+    → BeginsTunnel front bytes acts new ⊎ (BeginsNone front bytes acts new ⊎ Waits front bytes acts new)
+
+-- one more piece leads from phase to phase
+abbrev pub LeadsTo : Phase → List ℕ → List Act → Phase → Type 0
+LeadsTo (Head reader) bytes acts new = HeadLeadsTo reader bytes acts new
+LeadsTo (InCapsules pending n) bytes acts new = Reaches n (pending.items ++ bytes) acts new
+LeadsTo Done bytes acts new = (acts ≡ []) × (new ≡ Done)
+
+-- Acts come in this order: a request; behind it, while its tunnel is live, payloads; a refusal or a malformed capsule last.
+abbrev pub Follows : Bool → List Act → Type 0
+Follows live [] = Unit {0}
+Follows live (act.Bind stream goal ∷ acts) = (live ≡ false) × (stream ≡ 0) × Follows true acts
+Follows live (act.Open stream goal ∷ acts) = (live ≡ false) × (stream ≡ 0) × Follows true acts
+Follows live (act.Refuse stream status rule ∷ acts) = (live ≡ false) × (acts ≡ [])
+Follows live (act.Payload stream n payload ∷ acts) = (live ≡ true) × (stream ≡ 0) × Follows true acts
+Follows live (act.Malformed stream ∷ acts) = (live ≡ true) × (stream ≡ 0) × (acts ≡ [])
+
+-- the acts will end the connection, or it is ending
+abbrev pub WillEnd : List Act → Option End → Type 0
+WillEnd [] ending = ending ≢ None
+WillEnd (act.Malformed stream ∷ acts) ending = Unit {0}
+WillEnd (act.Refuse stream status rule ∷ acts) ending = Unit {0}
+WillEnd (act.Open stream goal ∷ acts) ending = WillEnd acts ending
+WillEnd (act.Bind stream goal ∷ acts) ending = WillEnd acts ending
+WillEnd (act.Payload stream n payload ∷ acts) ending = WillEnd acts ending
+
+-- payloads alone are due, behind the request where the tunnel isn't live
+abbrev pub WillServe : Bool → List Act → Type 0
+WillServe true [] = Unit {0}
+WillServe false [] = ⊥
+WillServe true (act.Payload stream n payload ∷ acts) = WillServe true acts
+WillServe false (act.Payload stream n payload ∷ acts) = ⊥
+WillServe true (act.Bind stream goal ∷ acts) = ⊥
+WillServe false (act.Bind stream goal ∷ acts) = WillServe true acts
+WillServe true (act.Open stream goal ∷ acts) = ⊥
+WillServe false (act.Open stream goal ∷ acts) = WillServe true acts
+WillServe live (act.Refuse stream status rule ∷ acts) = ⊥
+WillServe live (act.Malformed stream ∷ acts) = ⊥
+
+-- the reads lead into a tunnel, with these bytes of an unfinished capsule, behind n payloads
+pub record InTunnel (reads : List (List ℕ)) (pending : List ℕ) (n : ℕ) : Type 0 where
+  pub acts : List Act
+  pub asks : AsksTunnel reads acts
+  pub left_is : asks.left ≡ pending
+  pub partial : front_of pending ≡ More
+  pub count : n ≡ length asks.payloads
+
+-- the phase after these reads, with what is due, whether a tunnel is live, and why the connection is ending
+abbrev pub IsPhase : Phase → List (List ℕ) → List Act → Bool → Option End → Type 0
+IsPhase (Head reader) reads due live ending = IsHeadOf reader (concat reads) × AreBegun [] reads × (due ≡ []) × (live ≡ false)
+IsPhase (InCapsules pending n) reads due live ending = InTunnel reads pending.items n × WillServe live due
+IsPhase Done reads due live ending = WillEnd due ending
+
+-- the live tunnel
+abbrev pub tunnels_of : Option ℕ → List Tunnel
+tunnels_of None = []
+tunnels_of (Some id) = record { id = id; stream = 0; waiting = [] } ∷ []
+
+-- an ending connection has nothing more to do than to write
+pub record IsClosed (s : spec.Conn) : Type 0 where
+  pub due : s.due ≡ []
+  pub tunnels : s.tunnels ≡ []
+
+-- the core stands for this state
+pub record IsConn (c : Connection) (s : spec.Conn) : Type 0 where
+  pub due : c.due.items ≡ s.due
+  pub given : s.given ≤ length s.out
+  pub owed : c.owed.items ≡ owed s
+  pub ending : c.ending ≡ s.ending
+  pub tunnels : s.tunnels ≡ tunnels_of c.tunnel
+  pub follows : Follows (is_some c.tunnel) s.due
+  pub phase : IsPhase c.phase s.reads s.due (is_some c.tunnel) s.ending
+  pub closed : s.ending ≢ None → IsClosed s
+
+-- what is next was done, or nothing is due
+abbrev pub Wants : ℕ → ℕ → spec.Conn → Option Note → Connection → Type 0
+Wants conn entries s None c = (s.due ≡ []) × IsConn c s
+Wants conn entries s (Some note) c = (t : spec.Conn) × (calls : List Call) × next.WantNext conn entries s note t calls × IsConn c t
+
+-- why it is over, where it is
+abbrev pub IsOver : spec.Conn → Option End → Type 0
+IsOver s (Some why) = next.IsOver s why
+IsOver s None = (why : End) → next.IsOver s why → ⊥

@@ -1,0 +1,243 @@
+//! One connection: it is fed bytes, and does what they ask for one act at a time.
+ghost use Rattle.std.specs.Prelude.{◌≡◌, ◌≢◌, ℕ, ◌++◌, ◌∷◌, List, [], IfOk, OnOk, IsTrue, ◌↔◌, MatchOption, Some, None};
+ghost use Rattle.mq_machine.specs.State.{Conn, new_conn, owed};
+ghost use Rattle.mq_machine.specs.ConnNext.{WroteNext, TookNext, CanRead, goal_kind};
+ghost use Rattle.mq_conn.specs.Connections.{IsConn, Wants, IsOver, LeadsTo, HeadLeadsTo, Reaches};
+ghost use Rattle.mq_machine.specs.declared.act.Act.{Act};
+ghost use Rattle.mq_conn.specs.declared.connection.Phase.{Phase};
+
+use crate::capsule::read_acts;
+use crate::path::goal_of;
+use mq_head::{HeadReader, HeadStep, Kind, refusal, success};
+use mq_machine::Act;
+use mq_talk::{End, From, Goal, Note, Why};
+use mq_wire::{Bytes, NoMemory};
+use std::alloc::Global;
+use std::collections::VecDeque;
+use std::mem;
+
+/// Where a connection is in its bytes.
+#[derive(Drop)]
+enum Phase {
+    /// Before the end of its head.
+    Head(HeadReader),
+    /// In the capsules: the bytes of an unfinished one, and the number of the next payload.
+    Tunnel { pending: Vec<u8>, n: u64 },
+    /// It reads no more.
+    Done,
+}
+
+/// One connection.
+#[derive(Drop)]
+pub struct Connection {
+    phase: Phase,
+    due: VecDeque<Act>,
+    owed: Vec<u8>,
+    ending: Option<End>,
+    /// The number of its live tunnel.
+    tunnel: Option<u32>,
+}
+
+/// The kind of tunnel that leads to a goal.
+fn kind_of(goal: Goal) -> Kind
+    ensures { result ≡ goal_kind goal }
+{
+    match goal {
+        Goal::Udp { .. } => Kind::Udp,
+    }
+}
+
+impl Connection {
+    /// A connection of which nothing was read.
+    pub fn new(alloc: Global) -> Connection
+        ensures { IsConn result new_conn }
+    {
+        Connection {
+            phase: Phase::Head(HeadReader::new()),
+            due: VecDeque::new(alloc),
+            owed: Vec::new(alloc),
+            ending: None,
+            tunnel: None,
+        }
+    }
+
+    /// Does what is due, where something is. `conn` is the connection's number, `entries` how many entries the book has,
+    /// which is the number of a tunnel that opens.
+    pub fn act(&mut self, conn: u32, entries: u32) -> Result<Option<Note>, NoMemory>
+        ensures { (s : Conn) → IsConn self.old s → IfOk result (λ note. Wants conn entries s note self.new) }
+    {
+        match self.due.pop_front() {
+            None => Ok(None),
+            Some(Act::Bind { stream, goal }) => {
+                self.due.push_front(Act::Open { stream, goal })?;
+                Ok(Some(Note::Ported { conn, stream }))
+            }
+            Some(Act::Open { stream, goal }) => {
+                let kind = kind_of(goal);
+                success(&mut self.owed, kind)?;
+                self.tunnel = Some(entries);
+                Ok(Some(Note::Opened {
+                    tunnel: entries,
+                    conn,
+                    stream,
+                    kind,
+                }))
+            }
+            Some(
+                Act::Refuse {
+                    stream,
+                    status,
+                    rule,
+                },
+            ) => {
+                refusal(&mut self.owed, status)?;
+                self.ending = Some(End::Refused);
+                Ok(Some(Note::Refused {
+                    conn,
+                    stream,
+                    status,
+                    rule,
+                }))
+            }
+            // A payload is due only while its tunnel is live, and so is a malformed capsule.
+            Some(Act::Payload { n, payload, .. }) => Ok(Some(Note::Sent {
+                from: From::Tunnel(self.tunnel.unwrap_or(0)),
+                n,
+                packet: payload,
+            })),
+            Some(Act::Malformed { .. }) => {
+                let tunnel = self.tunnel.take().unwrap_or(0);
+                self.ending = Some(End::Tunnel);
+                Ok(Some(Note::Closed {
+                    tunnel,
+                    why: Why::Malformed,
+                    left: 0,
+                }))
+            }
+        }
+    }
+
+    /// Whether bytes are owed to the link.
+    pub fn owes(&self) -> bool
+        ensures { (s : Conn) → IsConn self.now s → IsTrue result ↔ (owed s ≢ []) }
+    {
+        !self.owed.is_empty()
+    }
+
+    /// Gives all owed bytes to the link.
+    pub fn write(&mut self, alloc: Global) -> Bytes
+        ensures { (s : Conn) → IsConn self.old s → owed s ≢ [] → (t : Conn) × WroteNext s result t × IsConn self.new t }
+    {
+        Bytes::from_vec(mem::replace(&mut self.owed, Vec::new(alloc)))
+    }
+
+    /// Why it is over, where nothing is due or owed and it is ending.
+    pub fn over(&self) -> Option<End>
+        ensures { (s : Conn) → IsConn self.now s → IsOver s result }
+    {
+        if self.due.is_empty() && self.owed.is_empty() {
+            self.ending
+        } else {
+            None
+        }
+    }
+
+    /// Takes the bytes of one read.
+    pub fn feed(&mut self, alloc: Global, bytes: &[u8]) -> Result<(), NoMemory>
+        ensures { (s : Conn) → IsConn self.old s → CanRead s → OnOk result ((t : Conn) × TookNext s bytes.now t × IsConn self.new t) }
+    {
+        let phase = mem::replace(&mut self.phase, Phase::Done);
+        self.phase = next_phase(alloc, phase, bytes, &mut self.due)?;
+        Ok(())
+    }
+}
+
+/// Reads one more piece, puts what it asks for at the back of `due`, and answers the phase after it.
+fn next_phase(
+    alloc: Global,
+    phase: Phase,
+    bytes: &[u8],
+    due: &mut VecDeque<Act>,
+) -> Result<Phase, NoMemory>
+    ensures { IfOk result (λ new. (acts : List Act) × (due.new.items ≡ due.old.items ++ acts) × LeadsTo phase bytes.now acts new) }
+{
+    match phase {
+        Phase::Head(reader) => read_head(alloc, reader, bytes, due),
+        Phase::Tunnel { pending, n } => read_more(alloc, n, pending, bytes, due),
+        Phase::Done => Ok(Phase::Done),
+    }
+}
+
+/// Reads a piece of the head, and the capsules behind it where it ends there.
+fn read_head(
+    alloc: Global,
+    mut reader: HeadReader,
+    bytes: &[u8],
+    due: &mut VecDeque<Act>,
+) -> Result<Phase, NoMemory>
+    ensures { IfOk result (λ new. (acts : List Act) × (due.new.items ≡ due.old.items ++ acts) × HeadLeadsTo reader bytes.now acts new) }
+{
+    match reader.feed(alloc, bytes)? {
+        HeadStep::More => Ok(Phase::Head(reader)),
+        HeadStep::Refuse { status } => refuse(status, due),
+        HeadStep::Upgrade { kind: Kind::Ip, .. } => refuse(501, due),
+        HeadStep::Upgrade {
+            kind: Kind::Udp,
+            path,
+            used,
+        } => match goal_of(path.as_slice()) {
+            None => refuse(400, due),
+            Some(goal) => {
+                due.push_back(Act::Bind { stream: 0, goal })?;
+                let (_, rest) = bytes.split_at((used as usize).min(bytes.len()));
+                read_capsules(alloc, 0, rest, due)
+            }
+        },
+    }
+}
+
+/// The request is refused, and nothing more is read.
+fn refuse(status: u16, due: &mut VecDeque<Act>) -> Result<Phase, NoMemory>
+    ensures { IfOk result (λ new. (due.new.items ≡ due.old.items ++ Act.Refuse 0 status 0 ∷ []) × (new ≡ Phase.Done)) }
+{
+    due.push_back(Act::Refuse {
+        stream: 0,
+        status,
+        rule: 0,
+    })?;
+    Ok(Phase::Done)
+}
+
+/// Reads the capsules that a piece completes, behind the bytes of an unfinished one.
+fn read_more(
+    alloc: Global,
+    n: u64,
+    mut pending: Vec<u8>,
+    bytes: &[u8],
+    due: &mut VecDeque<Act>,
+) -> Result<Phase, NoMemory>
+    ensures { IfOk result (λ new. (acts : List Act) × (due.new.items ≡ due.old.items ++ acts) × Reaches n (pending.items ++ bytes.now) acts new) }
+{
+    if pending.is_empty() {
+        return read_capsules(alloc, n, bytes, due);
+    }
+    pending.extend_from_slice(bytes)?;
+    read_capsules(alloc, n, pending.as_slice(), due)
+}
+
+/// Reads whole capsules, and keeps what is left.
+fn read_capsules(
+    alloc: Global,
+    n: u64,
+    bytes: &[u8],
+    due: &mut VecDeque<Act>,
+) -> Result<Phase, NoMemory>
+    ensures { IfOk result (λ new. (acts : List Act) × (due.new.items ≡ due.old.items ++ acts) × Reaches n bytes.now acts new) }
+{
+    let left = read_acts(alloc, n, bytes, due)?;
+    if left.is_broken {
+        return Ok(Phase::Done);
+    }
+    let pending = Vec::from_slice(alloc, left.rest)?;
+    Ok(Phase::Tunnel { pending, n: left.n })
+}

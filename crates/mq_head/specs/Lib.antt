@@ -1,0 +1,11 @@
+pub mod Lists
+pub mod Fields
+pub mod Target
+pub mod Rules
+pub mod Heads
+pub mod Steps
+pub mod Reader
+pub mod Answers
+pub mod Laws
+pub mod Kept
+pub mod Parsed
