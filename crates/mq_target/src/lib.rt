@@ -7,6 +7,7 @@ mod expansion;
 mod fault;
 mod form;
 mod judge;
+mod laws;
 mod outline;
 mod shape;
 mod split;
@@ -15,6 +16,7 @@ mod template;
 mod values;
 
 pub use fault::TemplateFault;
+pub use laws::{expanded_again, one_reading};
 pub use mq_addr::Kind;
 pub use target::{Area, Host, Matched, Target};
 pub use template::Template;

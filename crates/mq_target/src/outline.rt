@@ -119,7 +119,8 @@ fn order_around(
     after: &[u8],
 ) -> Option<Order>
     ensures { MatchOption result
-        ((order : Order) → (first.now ≡ first_name kind order) → (second.now ≡ second_name kind order) → ¬ (AreAround between.now after.now))
+        ((order : Order) → (first.now ≡ first_name kind order) → (second.now ≡ second_name kind order)
+        → ¬ (AreAround between.now after.now))
         (λ order. (first.now ≡ first_name kind order) × (second.now ≡ second_name kind order) × AreAround between.now after.now) }
 {
     if are_around(between, after) {

@@ -4,7 +4,6 @@ ghost use Rattle.mq_target.specs.Expansion.{Suits, expanded};
 ghost use Rattle.mq_target.specs.Form.{question};
 ghost use Rattle.mq_target.specs.Matching.{Matches};
 ghost use Rattle.mq_target.specs.Parsed.{ParsesTemplate};
-ghost use Rattle.mq_target.specs.Laws.{HasOneReading, IsReadAgain};
 ghost use Rattle.mq_target.specs.Outlines.{IsOutline};
 ghost use Rattle.mq_target.specs.Template.{IsTemplate};
 
@@ -15,7 +14,7 @@ use crate::outline::{Outline, first_name, outline_of, second_name};
 use crate::shape::Order;
 use crate::split::split;
 use crate::{Matched, Target, TemplateFault};
-use mq_addr::{Kind, addr_bytes, one_addr, one_prefix, printed_again};
+use mq_addr::Kind;
 use mq_wire::{Bytes, NoMemory};
 use std::alloc::Global;
 use std::marker::Model;
@@ -153,7 +152,6 @@ fn before_pair(alloc: Global, front: &[u8], name: &[u8]) -> Result<Vec<u8>, NoMe
 }
 
 /// What stands between the two values of a last pair: `&name=`.
-#[tactic(auto, unfolding(crate::specs::Classes::is_delimiter))]
 fn between_pair(alloc: Global, name: &[u8]) -> Result<Vec<u8>, NoMemory>
     ensures { IfOk result (λ v. v.items ≡ codes "&" ++ name.now ++ codes "=") }
 {
@@ -161,21 +159,4 @@ fn between_pair(alloc: Global, name: &[u8]) -> Result<Vec<u8>, NoMemory>
     text.extend_from_slice(name)?;
     text.push(b'=')?;
     Ok(text)
-}
-
-/// A path is one thing to a template, and no other.
-pub fn one_reading()
-    ensures { HasOneReading }
-{
-    addr_bytes();
-    one_addr();
-    one_prefix();
-}
-
-/// The path of a target is read as that target.
-pub fn expanded_again()
-    ensures { IsReadAgain }
-{
-    addr_bytes();
-    printed_again();
 }

@@ -1,5 +1,5 @@
 use Rattle.mq_target.proofs.Readings.{one_reading, is_told}
-use Rattle.mq_target.proofs.template.one_reading.Goals as goal
+use Rattle.mq_target.proofs.laws.one_reading.Goals as goal
 
 pub returns : goal.returns
 returns c = λ text shape path a b is h k.
