@@ -1,5 +1,5 @@
 -- Of two blocks with an address in common, the longer prefix lies in the shorter.
-use Rattle.std.proofs.Common.{◌≡◌, ℕ, ◌+◌, ◌-◌, ◌/◌, ◌^◌, ◌≤◌, ap, sym, ◌∙◌, subst, refl, arith}
+use Rattle.std.proofs.Common.{◌≡◌, ℕ, ◌+◌, ◌-◌, ◌/◌, ◌^◌, ◌≤◌, ap, sym, ◌∙◌, refl, arith}
 use Rattle.std.proofs.lemmas.Nat.{shr-shr}
 use Rattle.mq_addr.specs.declared.addr.Addr.{Addr}
 use Rattle.mq_addr.specs.declared.addr.Addr.TheVariants.{V4, V6}

@@ -1,5 +1,5 @@
 -- Blocks as sets of addresses (RFC 4632, section 3.1).
-use Rattle.std.specs.Prelude.{◌≡◌, ℕ, ◌-◌, ◌/◌, ◌%◌, ◌^◌, ◌≤◌, ◌<◌}
+use Rattle.std.specs.Prelude.{◌≡◌, ℕ, ◌-◌, ◌/◌, ◌%◌, ◌^◌, ◌≤◌}
 use Rattle.mq_addr.specs.declared.addr.Addr.{Addr}
 use Rattle.mq_addr.specs.declared.addr.Addr.TheVariants.{V4, V6}
 use Rattle.mq_addr.specs.declared.prefix.Prefix.{Prefix}

@@ -1,2 +1,4 @@
 pub mod Addr
 pub mod Block
+pub mod Prefixes
+pub mod Printed

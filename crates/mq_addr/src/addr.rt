@@ -1,5 +1,5 @@
 //! An address and the texts that write it.
-ghost use Rattle.mq_addr.specs.Addr.{HasOneAddr, ReadsAddr};
+ghost use Rattle.mq_addr.specs.Addr.{HasAddrBytes, HasOneAddr, ReadsAddr};
 
 use std::net::IpAddr;
 
@@ -32,4 +32,9 @@ pub fn parse_addr(text: &[u8]) -> Result<Addr, AddrFault>
 /// A text writes at most one address.
 pub fn one_addr()
     ensures { HasOneAddr }
+{}
+
+/// An address text has hex digits, dots and colons, and no other byte.
+pub fn addr_bytes()
+    ensures { HasAddrBytes }
 {}

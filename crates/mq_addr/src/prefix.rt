@@ -1,6 +1,6 @@
 //! A block of addresses: those whose first bits are given (RFC 4632, section 3.1).
 ghost use Rattle.std.specs.Prelude.{◌≡◌, ◌↔◌, ◌/◌, ◌^◌, ◌≤◌, IsTrue};
-ghost use Rattle.mq_addr.specs.Block.{IsIn, Overlap, bits_of, free_bits};
+ghost use Rattle.mq_addr.specs.Block.{IsIn, Overlap, free_bits, width};
 
 use crate::Addr;
 
@@ -35,15 +35,23 @@ pub fn overlaps(a: &Prefix, b: &Prefix) -> bool
     }
 }
 
+/// How many bits an address of this version has.
+pub(crate) fn full_length(addr: &Addr) -> u8
+    ensures value { result ≡ width addr.now }
+    ensures small { result ≤ 128 }
+{
+    match addr {
+        Addr::V4(_) => 32,
+        Addr::V6(_) => 128,
+    }
+}
+
 /// How many bits of the address follow the prefix.
-fn free_bits(block: &Prefix) -> u8
+pub(crate) fn free_bits(block: &Prefix) -> u8
     ensures value { result ≡ free_bits block.now }
     ensures small { result ≤ 128 }
 {
-    match block.addr {
-        Addr::V4(_) => 32u8.saturating_sub(block.length),
-        Addr::V6(_) => 128u8.saturating_sub(block.length),
-    }
+    full_length(&block.addr).saturating_sub(block.length)
 }
 
 /// Whether two numbers agree but for so many bits at their ends.

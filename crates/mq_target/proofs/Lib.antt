@@ -1,0 +1,7 @@
+pub mod Again
+pub mod Areas
+pub mod Bytes
+pub mod Outlines
+pub mod Readings
+pub mod Splitting
+pub mod Stepping

@@ -1,0 +1,11 @@
+pub mod Classes
+pub mod Form
+pub mod Stepping
+pub mod Template
+pub mod Outlines
+pub mod Parsed
+pub mod Values
+pub mod Judged
+pub mod Matching
+pub mod Expansion
+pub mod Laws

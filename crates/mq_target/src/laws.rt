@@ -1,0 +1,21 @@
+//! What holds of every template and every path.
+ghost use Rattle.mq_target.specs.Laws.{HasOneReading, IsReadAgain};
+
+use mq_addr::{addr_bytes, one_addr, one_prefix, printed_again};
+
+/// A path is one thing to a template, and no other.
+pub fn one_reading()
+    ensures { HasOneReading }
+{
+    addr_bytes();
+    one_addr();
+    one_prefix();
+}
+
+/// The path of a target is read as that target.
+pub fn expanded_again()
+    ensures { IsReadAgain }
+{
+    addr_bytes();
+    printed_again();
+}

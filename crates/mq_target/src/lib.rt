@@ -1,0 +1,25 @@
+//! URI templates for the targets of tunnels, matched and expanded (RFC 6570; RFC 9298, section 2; RFC 9484, section 3).
+#![tactic(auto)]
+
+mod classes;
+mod escape;
+mod expansion;
+mod fault;
+mod form;
+mod judge;
+mod laws;
+mod outline;
+mod shape;
+mod split;
+mod target;
+mod template;
+mod values;
+
+pub use fault::TemplateFault;
+pub use laws::{expanded_again, one_reading};
+pub use mq_addr::Kind;
+pub use target::{Area, Host, Matched, Target};
+pub use template::Template;
+
+#[cfg(test)]
+mod tests;
