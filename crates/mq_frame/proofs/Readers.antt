@@ -11,7 +11,7 @@ use Rattle.mq_frame.specs.declared.reader.FrameReader.{FrameReader}
 use Rattle.mq_frame.specs.Stream.{front_of, is_ended, next_place, AreFrames, EndsInFrame}
 use Rattle.mq_frame.specs.Steps.{Holds, Gives, IsStep}
 use Rattle.mq_frame.specs.declared.state.State.TheVariants.{Head, Contents, Skip, Spent}
-use Rattle.mq_frame.specs.declared.codes.TheConstants.{MAX_FRAME_SIZE}
+use Rattle.mq_frame.specs.Numbers.{max_frame_size}
 use Rattle.mq_frame.specs.Readers.{HasRead, Stands, Went, kept}
 use Rattle.mq_frame.proofs.Fronts.{front_short}
 use Rattle.mq_frame.proofs.Streams.{front_ended, frames_on, frames_one}
@@ -21,7 +21,7 @@ drop_all [] = refl
 drop_all (b ∷ bytes) = drop_all bytes
 
 -- what a state holds is bounded
-pub holds_few : (state : State) (bytes : List ℕ) → Holds state bytes → kept state ≤ MAX_FRAME_SIZE
+pub holds_few : (state : State) (bytes : List ℕ) → Holds state bytes → kept state ≤ max_frame_size
 holds_few (Head head) bytes h = omega (arith, ap length h.0, h.1)
 holds_few (Contents header contents missing) bytes h = omega (arith, h.0.count, h.0.begun, h.0.fits, ap length h.1, length-drop 9 bytes)
 holds_few (Skip header missing) bytes h = omega arith

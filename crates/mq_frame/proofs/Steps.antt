@@ -2,7 +2,7 @@
 use Rattle.std.proofs.Common.{◌≡◌, ℕ, ◌+◌, ◌-◌, ◌<◌, ◌≤◌, false, List, [], ◌∷◌, ◌++◌, length, take, drop, Option, Some, None, refl, sym, ap, subst, ◌∙◌, arith, append_assoc, append-nil}
 use Rattle.std.proofs.Math.Seq.{take-add}
 use Rattle.std.proofs.lemmas.List.{drop-append-le, length-append, length-drop, length-take-le, take_all}
-use Rattle.mq_frame.specs.declared.codes.TheConstants.{FRAME_SIZE_ERROR, MAX_FRAME_SIZE}
+use Rattle.mq_frame.specs.Numbers.{frame_size_error, max_frame_size}
 use Rattle.mq_frame.specs.declared.place.Place.{Place}
 use Rattle.mq_frame.specs.declared.frame.Frame.{Frame}
 use Rattle.mq_frame.specs.declared.frame.Frame.TheVariants.{Fault}
@@ -52,7 +52,7 @@ taken bytes piece used l = omega (arith, length-append bytes (take used piece), 
 
 -- a frame is whole with the bytes of a piece that its contents wanted
 pub step_ends : (place : Place) (bytes piece : List ℕ) (h : Header) (used : ℕ) (frame : Frame) (s : Step) → is_ended place ≡ false
-    → 9 ≤ length bytes → h ≡ header_of bytes → h.length ≤ MAX_FRAME_SIZE → length bytes + used ≡ 9 + h.length → used ≤ length piece
+    → 9 ≤ length bytes → h ≡ header_of bytes → h.length ≤ max_frame_size → length bytes + used ≡ 9 + h.length → used ≤ length piece
     → frame ≡ frame_at place h (drop 9 bytes ++ take used piece)
     → s.frame ≡ Some frame → s.used ≡ used → Holds s.state [] → IsStep place bytes piece s
 step_ends place bytes piece h used frame s on begun header fits count within is frame_is used_is holds =
@@ -78,7 +78,7 @@ pub header_alone : (head contents : List ℕ) → length head ≡ 9 → drop 9 (
 header_alone head contents l = drop-append-le 9 head contents (omega arith) ∙ header_only head contents l
 
 -- a header and the first bytes of its contents
-pub begun_at : (h : Header) (head contents : List ℕ) → length head ≡ 9 → h ≡ header_of head → h.length ≤ MAX_FRAME_SIZE
+pub begun_at : (h : Header) (head contents : List ℕ) → length head ≡ 9 → h ≡ header_of head → h.length ≤ max_frame_size
     → length contents < h.length → IsBegun h (h.length - length contents) (head ++ contents)
 begun_at h head contents l e fits fewer = record {
   begun = omega (arith, length-append head contents);
@@ -90,13 +90,13 @@ begun_at h head contents l e fits fewer = record {
 
 -- the length that a header has is above the limit
 pub large_step : (place : Place) (head piece : List ℕ) (h : Header) (s : Step) → is_ended place ≡ false → length head ≡ 9 → h ≡ header_of head
-    → MAX_FRAME_SIZE < h.length → s.frame ≡ Some (Fault FRAME_SIZE_ERROR) → s.used ≡ 0 → Holds s.state [] → IsStep place head piece s
+    → max_frame_size < h.length → s.frame ≡ Some (Fault frame_size_error) → s.used ≡ 0 → Holds s.state [] → IsStep place head piece s
 large_step place head piece h s on len header large frame_is used_is holds =
     let all : head ++ take 0 piece ≡ head = append-nil head in
-    let front : front_of place head ≡ Some (Fault FRAME_SIZE_ERROR, 9) = front_large place head h on (omega arith) header large in
-    let P : List ℕ → Type 0 = λ b. front_of place b ≡ Some (Fault FRAME_SIZE_ERROR, length b) in
-    step_whole place head piece (Fault FRAME_SIZE_ERROR) 0 s
-    (subst P (sym all) (front ∙ ap (λ (n : ℕ). Some (Fault FRAME_SIZE_ERROR, n)) (sym len))) frame_is used_is holds
+    let front : front_of place head ≡ Some (Fault frame_size_error, 9) = front_large place head h on (omega arith) header large in
+    let P : List ℕ → Type 0 = λ b. front_of place b ≡ Some (Fault frame_size_error, length b) in
+    step_whole place head piece (Fault frame_size_error) 0 s
+    (subst P (sym all) (front ∙ ap (λ (n : ℕ). Some (Fault frame_size_error, n)) (sym len))) frame_is used_is holds
 
 -- the header isn't whole
 pub step_head : (place : Place) (bytes piece : List ℕ) (used : ℕ) (state : State) → length (bytes ++ take used piece) < 9

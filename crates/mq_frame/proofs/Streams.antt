@@ -3,7 +3,7 @@ use Rattle.std.proofs.Common.{◌≡◌, ℕ, zero, suc, ◌+◌, ◌≤◌, Boo
 use Rattle.std.proofs.lemmas.Bool.{cases_Bool, ltb-false, le-ltb, cond-false, cond-true}
 use Rattle.std.proofs.lemmas.Option.{some_pair_parts}
 use Rattle.std.proofs.lemmas.List.{take-append-le, drop-append-le, length-append, length-drop}
-use Rattle.mq_frame.specs.declared.codes.TheConstants.{FRAME_SIZE_ERROR, MAX_FRAME_SIZE}
+use Rattle.mq_frame.specs.Numbers.{frame_size_error, max_frame_size}
 use Rattle.mq_frame.specs.declared.place.Place.{Place}
 use Rattle.mq_frame.specs.declared.place.Place.TheVariants.{Ended}
 use Rattle.mq_frame.specs.declared.frame.Frame.{Frame}
@@ -22,21 +22,21 @@ left false x y e = (refl, e)
 front_by_keeps : (place : Place) (h : Header) (bytes more : List ℕ) (f : Frame) (n : ℕ) → 9 ≤ length bytes → front_by place h bytes ≡ Some (f, n)
     → (n ≤ length bytes) × (front_by place h (bytes ++ more) ≡ Some (f, n))
 front_by_keeps place h bytes more f n l e =
-    elim (cases_Bool (ltb MAX_FRAME_SIZE h.length)) [
+    elim (cases_Bool (ltb max_frame_size h.length)) [
       | inl large ↦
-          let is : Some (Fault FRAME_SIZE_ERROR, 9) ≡ Some (f, n) = sym (cond-true _ (Some (Fault FRAME_SIZE_ERROR, 9)) _ large) ∙ e in
-          let nine : 9 ≡ n = (some_pair_parts (Fault FRAME_SIZE_ERROR) f 9 n is).1 in
-          (omega arith, cond-true _ (Some (Fault FRAME_SIZE_ERROR, 9)) _ large ∙ is)
+          let is : Some (Fault frame_size_error, 9) ≡ Some (f, n) = sym (cond-true _ (Some (Fault frame_size_error, 9)) _ large) ∙ e in
+          let nine : 9 ≡ n = (some_pair_parts (Fault frame_size_error) f 9 n is).1 in
+          (omega arith, cond-true _ (Some (Fault frame_size_error, 9)) _ large ∙ is)
       | inr fits ↦
           let w = left (ltb (length bytes) (9 + h.length)) (Some (frame_at place h (take h.length (drop 9 bytes)), 9 + h.length)) (f, n)
-          (sym (cond-false _ (Some (Fault FRAME_SIZE_ERROR, 9)) _ fits) ∙ e) in
+          (sym (cond-false _ (Some (Fault frame_size_error, 9)) _ fits) ∙ e) in
           let enough : 9 + h.length ≤ length bytes = ltb-false _ _ w.0 in
           let size : 9 + h.length ≡ n = (some_pair_parts (frame_at place h (take h.length (drop 9 bytes))) f (9 + h.length) n w.1).1 in
           let more_enough : 9 + h.length ≤ length (bytes ++ more) = omega (arith, length-append bytes more) in
           let contents : take h.length (drop 9 (bytes ++ more)) ≡ take h.length (drop 9 bytes) =
           ap (take h.length) (drop-append-le 9 bytes more l) ∙ take-append-le h.length (drop 9 bytes) more (omega (arith, length-drop 9 bytes)) in (
             omega arith,
-            cond-false _ (Some (Fault FRAME_SIZE_ERROR, 9)) _ fits ∙ cond-false _ None _ (le-ltb _ _ more_enough)
+            cond-false _ (Some (Fault frame_size_error, 9)) _ fits ∙ cond-false _ None _ (le-ltb _ _ more_enough)
                 ∙ ap (λ (c : List ℕ). Some (frame_at place h c, 9 + h.length)) contents ∙ w.1,
           )
     ]
@@ -99,14 +99,14 @@ frames_one place bytes (f ∷ fs) (g ∷ gs) last end rest tail a b =
 -- A frame has nine bytes at least.
 nine_by : (place : Place) (h : Header) (bytes : List ℕ) (f : Frame) (n : ℕ) → front_by place h bytes ≡ Some (f, n) → 9 ≤ n
 nine_by place h bytes f n e =
-    elim (cases_Bool (ltb MAX_FRAME_SIZE h.length)) [
+    elim (cases_Bool (ltb max_frame_size h.length)) [
       | inl large ↦
-          let is : Some (Fault FRAME_SIZE_ERROR, 9) ≡ Some (f, n) = sym (cond-true _ (Some (Fault FRAME_SIZE_ERROR, 9)) _ large) ∙ e in
-          let nine : 9 ≡ n = (some_pair_parts (Fault FRAME_SIZE_ERROR) f 9 n is).1 in
+          let is : Some (Fault frame_size_error, 9) ≡ Some (f, n) = sym (cond-true _ (Some (Fault frame_size_error, 9)) _ large) ∙ e in
+          let nine : 9 ≡ n = (some_pair_parts (Fault frame_size_error) f 9 n is).1 in
           omega arith
       | inr fits ↦
           let w = left (ltb (length bytes) (9 + h.length)) (Some (frame_at place h (take h.length (drop 9 bytes)), 9 + h.length)) (f, n)
-          (sym (cond-false _ (Some (Fault FRAME_SIZE_ERROR, 9)) _ fits) ∙ e) in
+          (sym (cond-false _ (Some (Fault frame_size_error, 9)) _ fits) ∙ e) in
           let size : 9 + h.length ≡ n = (some_pair_parts (frame_at place h (take h.length (drop 9 bytes))) f (9 + h.length) n w.1).1 in
           omega arith
     ]

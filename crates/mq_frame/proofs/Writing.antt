@@ -5,7 +5,7 @@ use Rattle.std.specs.Int.{w32, w64, byte_at, to_be_bytes, from_be_bytes}
 use Rattle.std.proofs.lemmas.Nat.{from_be_bytes-to_be_bytes_2, from_be_bytes-to_be_bytes_4, from_be_bytes-to_be_bytes_8}
 use Rattle.std.proofs.lemmas.Bool.{le-ltb, lt-ltb, eq-eqb}
 use Rattle.std.proofs.lemmas.List.{length-append, take_all}
-use Rattle.mq_frame.specs.declared.codes.TheConstants.{PROTOCOL_ERROR, FRAME_SIZE_ERROR, ACK, MAX_FRAME_SIZE}
+use Rattle.mq_frame.specs.Numbers.{protocol_error, frame_size_error, ack_flag, max_frame_size}
 use Rattle.mq_frame.specs.declared.kind.Kind.{Kind}
 use Rattle.mq_frame.specs.declared.kind.Kind.TheVariants as kinds
 use Rattle.mq_frame.specs.declared.header.Header.{Header}
@@ -26,9 +26,9 @@ pairs_len [] = refl
 pairs_len (s ∷ pairs) = omega (arith, pairs_len pairs, length-append (pair_text s) (flat_map pair_text pairs))
 
 pub settings_text : (ack : Bool) (pairs : List Setting)
-    → header_text (6 * length pairs) kinds.Settings (flag ack ACK) 0 ++ flat_map pair_text pairs ≡ spelling_of (Settings ack pairs)
+    → header_text (6 * length pairs) kinds.Settings (flag ack ack_flag) 0 ++ flat_map pair_text pairs ≡ spelling_of (Settings ack pairs)
 unfolding spelling_of
-settings_text ack pairs = ap (λ (n : ℕ). header_text n kinds.Settings (flag ack ACK) 0 ++ flat_map pair_text pairs) (sym (pairs_len pairs))
+settings_text ack pairs = ap (λ (n : ℕ). header_text n kinds.Settings (flag ack ack_flag) 0 ++ flat_map pair_text pairs) (sym (pairs_len pairs))
 
 same_header : (len len' : ℕ) (kind kind' : Kind) (flags stream stream' : ℕ) → len ≡ len' → kind ≡ kind' → stream ≡ stream'
     → ◌≡◌ {A = Header} (record { length = len; kind = kind; flags = flags; stream = stream }) (record { length = len'; kind = kind'; flags = flags; stream = stream' })
@@ -56,11 +56,11 @@ chain false false false false true x y = refl
 chain false false false false false x y = refl
 
 place_first : (place : Place) (h : Header) (contents : List ℕ) (other : Frame) → judged h.kind h contents ≡ other
-    → frame_at place h contents ≡ cond (is_misplaced place h) (Fault PROTOCOL_ERROR) other
+    → frame_at place h contents ≡ cond (is_misplaced place h) (Fault protocol_error) other
 unfolding frame_at
 place_first place h contents other e =
-    chain (isnt_first place h) (breaks_block place h) (is_push h.kind) (lacks_stream h.kind h.stream) (has_stream h.kind h.stream) (Fault PROTOCOL_ERROR) (judged h.kind h contents)
-    ∙ ap (λ (f : Frame). cond (is_misplaced place h) (Fault PROTOCOL_ERROR) f) e
+    chain (isnt_first place h) (breaks_block place h) (is_push h.kind) (lacks_stream h.kind h.stream) (has_stream h.kind h.stream) (Fault protocol_error) (judged h.kind h contents)
+    ∙ ap (λ (f : Frame). cond (is_misplaced place h) (Fault protocol_error) f) e
 
 -- What each frame's contents are read as.
 no_fields : (n : ℕ) → ltb n 0 ≡ false
@@ -116,8 +116,8 @@ window_back : (stream grow : ℕ) → grow < 2 ^ 31
 unfolding judged
 window_back stream grow l =
     let same = low grow l in
-    ap (λ (n : ℕ). cond (eqb n 0 && eqb stream 0) (Fault PROTOCOL_ERROR) (Window stream n)) same
-    ∙ one_fault (eqb grow 0 && eqb stream 0) PROTOCOL_ERROR None (Window stream grow)
+    ap (λ (n : ℕ). cond (eqb n 0 && eqb stream 0) (Fault protocol_error) (Window stream n)) same
+    ∙ one_fault (eqb grow 0 && eqb stream 0) protocol_error None (Window stream grow)
 
 -- Settings.
 same_setting : (id id' value value' : ℕ) → id ≡ id' → value ≡ value'
@@ -151,7 +151,7 @@ settings_back : (ack : Bool) (pairs : List Setting) → AllByRecursion SettingFi
 unfolding judged
 settings_back true pairs fits =
     rw (no_fields (length (flat_map pair_text pairs)), sixes pairs, some_pairs pairs, pairs_again pairs fits, or_false (ltb 0 (length pairs)))
-    (one_fault (ltb 0 (length pairs)) FRAME_SIZE_ERROR (settings_fault pairs) (Settings true pairs))
+    (one_fault (ltb 0 (length pairs)) frame_size_error (settings_fault pairs) (Settings true pairs))
 settings_back false pairs fits = rw (no_fields (length (flat_map pair_text pairs)), sixes pairs, pairs_again pairs fits) refl
 
 -- What a frame's contents are read as, where its place allows it.
@@ -170,7 +170,7 @@ frame_back (Fault code) w f = absurd w
 
 -- what is written can be a header's
 record IsHead (frame : Frame) : Type 0 where
-  pub short : length (contents_text frame) ≤ MAX_FRAME_SIZE
+  pub short : length (contents_text frame) ≤ max_frame_size
   pub id : stream_text frame < 2 ^ 31
   pub known : kind_of (byte_of (kind_text frame)) ≡ kind_text frame
 

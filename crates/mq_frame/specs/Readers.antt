@@ -1,6 +1,6 @@
 -- What a reader stands for: the bytes that it was fed.
 use Rattle.std.specs.Prelude.{◌≡◌, ℕ, ◌≤◌, List, ◌++◌, length, false}
-use Rattle.mq_frame.specs.declared.codes.TheConstants.{MAX_FRAME_SIZE}
+use Rattle.mq_frame.specs.Numbers.{max_frame_size}
 use Rattle.mq_frame.specs.declared.place.Place.TheVariants.{First}
 use Rattle.mq_frame.specs.declared.frame.Frame.{Frame}
 use Rattle.mq_frame.specs.declared.state.State.{State}
@@ -21,7 +21,7 @@ pub record HasRead (r : FrameReader) (bytes : List ℕ) (frames : List Frame) : 
   pub rest : List ℕ
   pub are : AreFrames First bytes frames r.place rest
   pub holds : is_ended r.place ≡ false → Holds r.state rest
-  pub bounded : kept r.state ≤ MAX_FRAME_SIZE
+  pub bounded : kept r.state ≤ max_frame_size
 
 -- the reader was fed these bytes
 abbrev pub Stands : FrameReader → List ℕ → Type 0

@@ -1,6 +1,6 @@
 -- What a reader keeps, and what a step of it does.
 use Rattle.std.specs.Prelude.{◌≡◌, ℕ, ◌+◌, ◌<◌, ◌≤◌, List, [], ◌++◌, length, take, drop, Option, Some, None, true}
-use Rattle.mq_frame.specs.declared.codes.TheConstants.{MAX_FRAME_SIZE}
+use Rattle.mq_frame.specs.Numbers.{max_frame_size}
 use Rattle.mq_frame.specs.declared.header.Header.{Header}
 use Rattle.mq_frame.specs.declared.place.Place.{Place}
 use Rattle.mq_frame.specs.declared.frame.Frame.{Frame}
@@ -16,7 +16,7 @@ pub record IsBegun (h : Header) (missing : ℕ) (bytes : List ℕ) : Type 0 wher
   pub header_is : h ≡ header_of bytes
   pub count : length bytes + missing ≡ 9 + h.length
   pub some : 0 < missing
-  pub fits : h.length ≤ MAX_FRAME_SIZE
+  pub fits : h.length ≤ max_frame_size
 
 -- the state keeps what is needed of the first bytes of a frame
 abbrev pub Holds : State → List ℕ → Type 0

@@ -1,6 +1,6 @@
 -- The frames of the bytes behind the client's preface, on whole lists (RFC 9113, section 4.1).
 use Rattle.std.specs.Prelude.{◌≡◌, ℕ, ◌+◌, List, [], ◌∷◌, length, take, drop, Option, Some, None, Bool, true, false, nat_lt, if◌then◌else◌}
-use Rattle.mq_frame.specs.declared.codes.TheConstants.{FRAME_SIZE_ERROR, MAX_FRAME_SIZE}
+use Rattle.mq_frame.specs.Numbers.{frame_size_error, max_frame_size}
 use Rattle.mq_frame.specs.declared.place.Place.{Place}
 use Rattle.mq_frame.specs.declared.place.Place.TheVariants.{First, Between, Block, Ended}
 use Rattle.mq_frame.specs.declared.frame.Frame.{Frame}
@@ -29,7 +29,7 @@ next_place frame = Between
 -- the frame at the front, where it is whole, or its length is too large, and the number of its bytes
 abbrev pub front_by : Place → Header → List ℕ → Option (Frame × ℕ)
 front_by place h bytes =
-    if nat_lt MAX_FRAME_SIZE h.length then Some (Fault FRAME_SIZE_ERROR, 9)
+    if nat_lt max_frame_size h.length then Some (Fault frame_size_error, 9)
     else (if nat_lt (length bytes) (9 + h.length) then None
     else Some (frame_at place h (take h.length (drop 9 bytes)), 9 + h.length))
 

@@ -1,7 +1,7 @@
 -- What a whole frame is: its contents, or the connection error that it is (RFC 9113, sections 4 and 6).
 use Rattle.std.specs.Prelude.{◌≡◌, ℕ, ◌+◌, ◌-◌, ◌^◌, ◌%◌, List, [], ◌∷◌, length, take, drop, slice_index, Option, Some, None, Bool, true, false, not, ◌==◌, ◌&&◌, ◌||◌, nat_lt, if◌then◌else◌}
 use Rattle.std.specs.Int.{w16, w32, w64, from_be_bytes}
-use Rattle.mq_frame.specs.declared.codes.TheConstants.{PROTOCOL_ERROR, FLOW_CONTROL_ERROR, FRAME_SIZE_ERROR, END_STREAM, ACK, END_HEADERS, PADDED, PRIORITY}
+use Rattle.mq_frame.specs.Numbers.{protocol_error, flow_control_error, frame_size_error, end_stream_flag, ack_flag, end_headers_flag, padded_flag, priority_flag}
 use Rattle.mq_frame.specs.declared.kind.Kind.{Kind}
 use Rattle.mq_frame.specs.declared.kind.Kind.TheVariants as kinds
 use Rattle.mq_frame.specs.declared.header.Header.{Header}
@@ -24,7 +24,7 @@ is_continuation kind = false
 
 -- the first frame isn't SETTINGS without ACK (section 3.4)
 abbrev pub isnt_first : Place → Header → Bool
-isnt_first First h = not (is_settings h.kind) || is_set h.flags ACK
+isnt_first First h = not (is_settings h.kind) || is_set h.flags ack_flag
 isnt_first Between h = false
 isnt_first (Block stream) h = false
 isnt_first Ended h = false
@@ -61,13 +61,13 @@ has_stream kind stream = false
 
 -- the length of the Pad Length and the priority in front
 abbrev pub fields_len : Kind → ℕ → ℕ
-fields_len kinds.Data flags = if is_set flags PADDED then 1 else 0
-fields_len kinds.Headers flags = (if is_set flags PADDED then 1 else 0) + (if is_set flags PRIORITY then 5 else 0)
+fields_len kinds.Data flags = if is_set flags padded_flag then 1 else 0
+fields_len kinds.Headers flags = (if is_set flags padded_flag then 1 else 0) + (if is_set flags priority_flag then 5 else 0)
 fields_len kind flags = 0
 
 -- the length of the padding at the end
 abbrev pub padding_len : ℕ → List ℕ → ℕ
-padding_len flags contents = if is_set flags PADDED then slice_index contents 0 else 0
+padding_len flags contents = if is_set flags padded_flag then slice_index contents 0 else 0
 
 -- the bytes between them
 abbrev pub block_of : Kind → ℕ → List ℕ → List ℕ
@@ -92,7 +92,7 @@ is_missized kinds.Reset flags len = not (len == 4)
 is_missized kinds.Window flags len = not (len == 4)
 is_missized kinds.Ping flags len = not (len == 8)
 is_missized kinds.GoAway flags len = nat_lt len 8
-is_missized kinds.Settings flags len = (is_set flags ACK && nat_lt 0 len) || not (len % 6 == 0)
+is_missized kinds.Settings flags len = (is_set flags ack_flag && nat_lt 0 len) || not (len % 6 == 0)
 is_missized kind flags len = false
 
 -- Settings (section 6.5.1).
@@ -108,9 +108,9 @@ pairs_of bytes = []
 -- the error of a value (section 6.5.2): ENABLE_PUSH is 2, INITIAL_WINDOW_SIZE is 4, MAX_FRAME_SIZE is 5
 unfoldable pub setting_fault : Setting → Option ℕ
 setting_fault s =
-    if s.id == 2 && nat_lt 1 s.value then Some PROTOCOL_ERROR
-    else (if s.id == 4 && nat_lt (2 ^ 31 - 1) s.value then Some FLOW_CONTROL_ERROR
-    else (if s.id == 5 && (nat_lt s.value (2 ^ 14) || nat_lt (2 ^ 24 - 1) s.value) then Some PROTOCOL_ERROR
+    if s.id == 2 && nat_lt 1 s.value then Some protocol_error
+    else (if s.id == 4 && nat_lt (2 ^ 31 - 1) s.value then Some flow_control_error
+    else (if s.id == 5 && (nat_lt s.value (2 ^ 14) || nat_lt (2 ^ 24 - 1) s.value) then Some protocol_error
     else None))
 
 abbrev pub or_else : Option ℕ → Option ℕ → Option ℕ
@@ -134,16 +134,16 @@ grants_nothing kind stream contents = false
 
 -- the frame with this header and contents, where it is no error
 abbrev pub frame_of : Kind → Header → List ℕ → Frame
-frame_of kinds.Data h contents = Content h.stream (block_of kinds.Data h.flags contents) h.length (is_set h.flags END_STREAM)
-frame_of kinds.Headers h contents = Headers h.stream (block_of kinds.Headers h.flags contents) (is_set h.flags END_STREAM) (is_set h.flags END_HEADERS)
+frame_of kinds.Data h contents = Content h.stream (block_of kinds.Data h.flags contents) h.length (is_set h.flags end_stream_flag)
+frame_of kinds.Headers h contents = Headers h.stream (block_of kinds.Headers h.flags contents) (is_set h.flags end_stream_flag) (is_set h.flags end_headers_flag)
 frame_of kinds.Priority h contents = Priority h.stream
 frame_of kinds.Reset h contents = Reset h.stream (from_be_bytes w32 contents)
-frame_of kinds.Settings h contents = Settings (is_set h.flags ACK) (pairs_of contents)
-frame_of kinds.Push h contents = Fault PROTOCOL_ERROR
-frame_of kinds.Ping h contents = Ping (is_set h.flags ACK) (from_be_bytes w64 contents)
+frame_of kinds.Settings h contents = Settings (is_set h.flags ack_flag) (pairs_of contents)
+frame_of kinds.Push h contents = Fault protocol_error
+frame_of kinds.Ping h contents = Ping (is_set h.flags ack_flag) (from_be_bytes w64 contents)
 frame_of kinds.GoAway h contents = GoAway (from_be_bytes w32 (take 4 contents) % 2 ^ 31) (from_be_bytes w32 (take 4 (drop 4 contents)))
 frame_of kinds.Window h contents = Window h.stream (from_be_bytes w32 contents % 2 ^ 31)
-frame_of kinds.Continuation h contents = Continuation h.stream contents (is_set h.flags END_HEADERS)
+frame_of kinds.Continuation h contents = Continuation h.stream contents (is_set h.flags end_headers_flag)
 frame_of (kinds.Unknown kind) h contents = Unknown kind h.stream
 
 abbrev pub or_fault : Option ℕ → Frame → Frame
@@ -153,21 +153,21 @@ or_fault (Some code) frame = Fault code
 -- the errors of the contents, in their order, or the frame
 unfoldable pub judged : Kind → Header → List ℕ → Frame
 judged kind h contents =
-    if lacks_fields kind h.flags contents then Fault FRAME_SIZE_ERROR
-    else (if is_overpadded kind h.flags contents then Fault PROTOCOL_ERROR
-    else (if is_missized kind h.flags (length contents) then Fault FRAME_SIZE_ERROR
+    if lacks_fields kind h.flags contents then Fault frame_size_error
+    else (if is_overpadded kind h.flags contents then Fault protocol_error
+    else (if is_missized kind h.flags (length contents) then Fault frame_size_error
     else or_fault (values_fault kind contents)
-    (if grants_nothing kind h.stream contents then Fault PROTOCOL_ERROR
+    (if grants_nothing kind h.stream contents then Fault protocol_error
     else frame_of kind h contents)))
 
 -- the errors of the place, in their order, before those of the contents
 unfoldable pub frame_at : Place → Header → List ℕ → Frame
 frame_at place h contents =
-    if isnt_first place h then Fault PROTOCOL_ERROR
-    else (if breaks_block place h then Fault PROTOCOL_ERROR
-    else (if is_push h.kind then Fault PROTOCOL_ERROR
-    else (if lacks_stream h.kind h.stream then Fault PROTOCOL_ERROR
-    else (if has_stream h.kind h.stream then Fault PROTOCOL_ERROR
+    if isnt_first place h then Fault protocol_error
+    else (if breaks_block place h then Fault protocol_error
+    else (if is_push h.kind then Fault protocol_error
+    else (if lacks_stream h.kind h.stream then Fault protocol_error
+    else (if has_stream h.kind h.stream then Fault protocol_error
     else judged h.kind h contents))))
 
 -- one of the errors of the place holds
@@ -182,5 +182,5 @@ IsInner fields padding contents inner =
 
 abbrev pub HasNoInner : ℕ → ℕ → List ℕ → ℕ → Type 0
 HasNoInner fields padding contents code = (other : Frame) →
-    (if nat_lt (length contents) fields then Fault FRAME_SIZE_ERROR
-    else (if nat_lt (length (drop fields contents)) padding then Fault PROTOCOL_ERROR else other)) ≡ Fault code
+    (if nat_lt (length contents) fields then Fault frame_size_error
+    else (if nat_lt (length (drop fields contents)) padding then Fault protocol_error else other)) ≡ Fault code

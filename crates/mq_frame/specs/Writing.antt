@@ -2,7 +2,7 @@
 use Rattle.std.specs.Prelude.{◌≡◌, ℕ, ◌+◌, ◌*◌, ◌^◌, ◌<◌, ◌≤◌, List, [], ◌∷◌, ◌++◌, length, Option, Some, None, Bool, false, ◌==◌, ◌&&◌, nat_lt, if◌then◌else◌}
 use Rattle.std.specs.List.{flat_map, AllByRecursion}
 use Rattle.std.specs.Int.{w16, w32, w64, to_be_bytes}
-use Rattle.mq_frame.specs.declared.codes.TheConstants.{PROTOCOL_ERROR, FRAME_SIZE_ERROR, END_STREAM, ACK, END_HEADERS, MAX_FRAME_SIZE}
+use Rattle.mq_frame.specs.Numbers.{protocol_error, frame_size_error, end_stream_flag, ack_flag, end_headers_flag, max_frame_size}
 use Rattle.mq_frame.specs.declared.kind.Kind.{Kind}
 use Rattle.mq_frame.specs.declared.kind.Kind.TheVariants as kinds
 use Rattle.mq_frame.specs.declared.header.Header.{Header}
@@ -31,11 +31,11 @@ abbrev pub flag : Bool → ℕ → ℕ
 flag set bit = if set then bit else 0
 
 abbrev pub flags_text : Frame → ℕ
-flags_text (Content stream bytes len end) = flag end END_STREAM
-flags_text (Headers stream block end whole) = flag end END_STREAM + flag whole END_HEADERS
-flags_text (Continuation stream block whole) = flag whole END_HEADERS
-flags_text (Settings ack pairs) = flag ack ACK
-flags_text (Ping ack bytes) = flag ack ACK
+flags_text (Content stream bytes len end) = flag end end_stream_flag
+flags_text (Headers stream block end whole) = flag end end_stream_flag + flag whole end_headers_flag
+flags_text (Continuation stream block whole) = flag whole end_headers_flag
+flags_text (Settings ack pairs) = flag ack ack_flag
+flags_text (Ping ack bytes) = flag ack ack_flag
 flags_text frame = 0
 
 abbrev pub stream_text : Frame → ℕ
@@ -69,12 +69,12 @@ spelling_of frame = header_text (length (contents_text frame)) (kind_text frame)
 
 -- what can be written
 abbrev pub IsWritable : Frame → Type 0
-IsWritable (Content stream bytes len end) = (stream < 2 ^ 31) × (length bytes ≤ MAX_FRAME_SIZE) × (len ≡ length bytes)
-IsWritable (Headers stream block end whole) = (stream < 2 ^ 31) × (length block ≤ MAX_FRAME_SIZE)
-IsWritable (Continuation stream block whole) = (stream < 2 ^ 31) × (length block ≤ MAX_FRAME_SIZE)
+IsWritable (Content stream bytes len end) = (stream < 2 ^ 31) × (length bytes ≤ max_frame_size) × (len ≡ length bytes)
+IsWritable (Headers stream block end whole) = (stream < 2 ^ 31) × (length block ≤ max_frame_size)
+IsWritable (Continuation stream block whole) = (stream < 2 ^ 31) × (length block ≤ max_frame_size)
 IsWritable (Priority stream) = stream < 2 ^ 31
 IsWritable (Reset stream code) = stream < 2 ^ 31
-IsWritable (Settings ack pairs) = 6 * length pairs ≤ MAX_FRAME_SIZE
+IsWritable (Settings ack pairs) = 6 * length pairs ≤ max_frame_size
 IsWritable (Ping ack bytes) = Unit {0}
 IsWritable (GoAway last code) = last < 2 ^ 31
 IsWritable (Window stream grow) = (stream < 2 ^ 31) × (grow < 2 ^ 31)
@@ -99,13 +99,13 @@ head_of frame = record { length = length (contents_text frame); kind = kind_text
 -- the error that a frame is for what it says: SETTINGS with ACK and settings, or with a value that isn't
 -- allowed, and WINDOW_UPDATE of 0 for the connection
 abbrev pub own_fault : Frame → Option ℕ
-own_fault (Settings ack pairs) = if ack && nat_lt 0 (length pairs) then Some FRAME_SIZE_ERROR else settings_fault pairs
-own_fault (Window stream grow) = if (grow == 0) && (stream == 0) then Some PROTOCOL_ERROR else None
+own_fault (Settings ack pairs) = if ack && nat_lt 0 (length pairs) then Some frame_size_error else settings_fault pairs
+own_fault (Window stream grow) = if (grow == 0) && (stream == 0) then Some protocol_error else None
 own_fault frame = None
 
 -- what a written frame is at a place: itself, where it is no error there
 abbrev pub read_as : Place → Frame → Frame
-read_as place frame = if is_misplaced place (head_of frame) then Fault PROTOCOL_ERROR else or_fault (own_fault frame) frame
+read_as place frame = if is_misplaced place (head_of frame) then Fault protocol_error else or_fault (own_fault frame) frame
 
 abbrev pub IsReadBack : Type 0
 IsReadBack = (place : Place) (frame : Frame) (rest : List ℕ) → is_ended place ≡ false → IsWritable frame → Fits frame

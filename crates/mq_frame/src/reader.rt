@@ -1,9 +1,9 @@
 //! The reader of frames, from pieces in any cutting.
 ghost use Rattle.std.specs.Prelude.{◌≡◌, ℕ, ◌<◌, ◌≤◌, ◌++◌, ◌↔◌, List, [], length, take, false, true, IfOk, OnOk, OnErr, IsErr};
+ghost use Rattle.mq_frame.specs.Numbers.{max_frame_size};
 ghost use Rattle.mq_frame.specs.Stream.{is_ended, EndsInFrame};
 ghost use Rattle.mq_frame.specs.Readers.{Stands, GivesFrames, IsSpent, Reads, held};
 
-use super::codes::MAX_FRAME_SIZE;
 use super::frame::Frame;
 use super::place::Place;
 use super::state::State;
@@ -38,7 +38,7 @@ impl FrameReader {
     pub fn feed(&mut self, alloc: Global, piece: &[u8]) -> Result<Seq<Frame>, NoMemory>
         ensures frames { IfOk result (GivesFrames self.old piece.now) }
         ensures stands { OnOk result ((bytes : List ℕ) → Stands self.old bytes → Stands self.new (bytes ++ piece.now)) }
-        ensures bounded { OnOk result ((bytes : List ℕ) → Stands self.old bytes → held self.new ≤ MAX_FRAME_SIZE) }
+        ensures bounded { OnOk result ((bytes : List ℕ) → Stands self.old bytes → held self.new ≤ max_frame_size) }
         ensures spent { OnErr result (IsSpent self.new) }
         ensures stays_spent { IsSpent self.old → IsErr result }
     {

@@ -5,9 +5,10 @@ ghost use Rattle.std.specs.Vec.{vec_len, vec_capacity};
 ghost use Rattle.mq_frame.specs.declared.kind.Kind.TheVariants as kinds;
 ghost use Rattle.mq_frame.specs.declared.frame.Frame.TheVariants.{GoAway};
 ghost use Rattle.mq_frame.specs.Header.{header_text};
+ghost use Rattle.mq_frame.specs.Numbers.{max_frame_size};
 ghost use Rattle.mq_frame.specs.Writing.{flag, pair_text, spelling_of, IsWritable};
 
-use super::codes::{ACK, END_HEADERS, END_STREAM, MAX_FRAME_SIZE};
+use super::codes::{ACK, END_HEADERS, END_STREAM};
 use super::frame::{Frame, Setting};
 use super::kind::Kind;
 use mq_wire::NoMemory;
@@ -75,7 +76,7 @@ fn flag(set: bool, bit: u8) -> u8
 }
 
 fn header_bytes(length: usize, kind: Kind, flags: u8, stream: u32) -> [u8; 9]
-    requires { length ≤ MAX_FRAME_SIZE }
+    requires { length ≤ max_frame_size }
     ensures { result ≡ header_text length kind flags stream }
 {
     let [_, a, b, c] = (length as u32).to_be_bytes();
@@ -91,7 +92,7 @@ fn put(
     stream: u32,
     contents: &[u8],
 ) -> Result<(), NoMemory>
-    requires { length contents.now ≤ MAX_FRAME_SIZE }
+    requires { length contents.now ≤ max_frame_size }
     ensures ok { OnOk result (out.new.items ≡ out.old.items ++ (header_text (length contents.now) kind flags stream ++ contents.now)) }
     ensures err { OnErr result (out.new.items ≡ out.old.items) }
 {
@@ -112,7 +113,7 @@ fn put_goaway(out: &mut Vec<u8>, last: u32, code: u32) -> Result<(), NoMemory>
 }
 
 fn put_settings(out: &mut Vec<u8>, flags: u8, pairs: &[Setting]) -> Result<(), NoMemory>
-    requires { 6 * length pairs.now ≤ MAX_FRAME_SIZE }
+    requires { 6 * length pairs.now ≤ max_frame_size }
     ensures ok { OnOk result (out.new.items ≡ out.old.items ++ (header_text (6 * length pairs.now) kinds.Settings flags 0 ++ flat_map pair_text pairs.now)) }
     ensures err { OnErr result (out.new.items ≡ out.old.items) }
 {

@@ -160,43 +160,34 @@ fn a_line_has_at_most_200000_bytes(rt: HostRuntime) -> Result<(), Fail> {
     Ok(())
 }
 
-/// A script of 335 comments, together 67,000,335 bytes.
-fn long_script(alloc: Global) -> Result<Vec<u8>, AllocError> {
+/// A script of 335 comments, together 67,000,335 bytes, and one of so many more.
+fn long_script(alloc: Global, last: usize) -> Result<Vec<u8>, AllocError> {
     let mut line = comment(alloc, 200_000)?;
     line.push(b'\n')?;
     let mut script = Vec::with_capacity(alloc, 67_108_865)?;
     for _ in 0..335 {
         script.extend_from_slice(line.as_slice())?;
     }
+    script.extend_from_slice(comment(alloc, last)?.as_slice())?;
     Ok(script)
 }
 
 #[test]
-fn a_script_has_at_most_2_to_the_26_bytes(rt: HostRuntime) -> Result<(), Fail> {
-    let cases = [
-        // The last line ends with the last byte, with and without a newline.
-        (108_529, false, Status::Done),
-        (108_528, true, Status::Done),
-        // The first byte past the limit stands in a line, or is its newline.
-        (108_530, false, Status::BadScript),
-        (108_529, true, Status::BadScript),
-    ];
-    let nothing: &[u8] = b"";
-    for (length, ends, want) in cases {
-        let mut script = long_script(rt.alloc())?;
-        script.extend_from_slice(comment(rt.alloc(), length)?.as_slice())?;
-        if ends {
-            script.push(b'\n')?;
-        }
-        let (status, out) = replayed(rt.alloc(), script.as_slice(), &PLAIN)?;
-        let text = if want == Status::Done {
-            nothing
-        } else {
-            b"bad line 336\n"
-        };
-        assert_eq!(rt; status, want, "{length} bytes in the last line");
-        assert_eq!(rt; out.as_slice(), text);
-    }
+fn byte_67108865_makes_its_line_bad(rt: HostRuntime) -> Result<(), Fail> {
+    let script = long_script(rt.alloc(), 108_530)?;
+    let (status, out) = replayed(rt.alloc(), script.as_slice(), &PLAIN)?;
+    assert_eq!(rt; status, Status::BadScript);
+    assert_eq!(rt; out.as_slice(), b"bad line 336\n".as_slice());
+    Ok(())
+}
+
+#[test]
+fn byte_67108865_may_be_a_newline(rt: HostRuntime) -> Result<(), Fail> {
+    let mut script = long_script(rt.alloc(), 108_529)?;
+    script.push(b'\n')?;
+    let (status, out) = replayed(rt.alloc(), script.as_slice(), &PLAIN)?;
+    assert_eq!(rt; status, Status::BadScript);
+    assert_eq!(rt; out.as_slice(), b"bad line 336\n".as_slice());
     Ok(())
 }
 
