@@ -5,6 +5,17 @@ use Rattle.mq_top.proofs.Playing.{spilled, unprinted}
 use Rattle.mq_top.proofs.Shown.{prints_none, prints_said, prints_flushed}
 use Rattle.mq_top.proofs.play.take_step.Goals as goal
 
+pub returns-in_ok-spill-in-Ok-Did-clause-step : goal.returns-in_ok-spill-in-Ok-Did-clause-step
+returns-in_ok-spill-in-Ok-Did-clause-step g c =
+    let shown = note_line c.in-Ok-Did.note in
+    let said = prints_said (g.K.Sink.taken c.args.sink.now) c.args.owed.now.items _ shown c.in_ok-print_note-in-Ok-Did.ensures.ok in (
+      shown,
+      prints_flushed _ _ _ _ _ _ shown said c.in_ok-spill-in-Ok-Did.ensures.prints,
+      λ s is.
+          let told = rw c.in-Ok-Did.field-0-is at (c.in-Ok-Did.ensures s is) in
+          (c.in-Ok-Did.note, told.0, told.1, refl, told.2),
+    )
+
 pub returns-in_err-spill-in-Ok-Did-clause-step : goal.returns-in_err-spill-in-Ok-Did-clause-step
 returns-in_err-spill-in-Ok-Did-clause-step g c =
     let shown = note_line c.in-Ok-Did.note in
