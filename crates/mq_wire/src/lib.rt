@@ -7,6 +7,8 @@ ghost use Rattle.mq_wire.specs.Read.{IsRead, IsWithin};
 
 mod bytes;
 mod seq;
+#[cfg(test)]
+mod tests;
 
 pub use bytes::Bytes;
 pub use seq::Seq;
