@@ -1,5 +1,5 @@
 //! Sources and sinks over readers and writers of std. They don't tell what is left or was taken.
-ghost use Rattle.std.specs.Prelude.{None};
+ghost use Rattle.std.specs.Prelude.{◌≡◌, None};
 
 use mq_outside::{Got, Put, Sink, Source};
 use std::io::{Read, Write};
@@ -15,7 +15,10 @@ pub struct StandardSource<R> {
 }
 
 impl<R> StandardSource<R> {
-    pub fn new(reader: R) -> Self {
+    /// A source that reads from this reader, and has not failed.
+    pub fn new(reader: R) -> Self
+        ensures { (result.reader ≡ reader) × (result.faults ≡ 0) }
+    {
         StandardSource { reader, faults: 0 }
     }
 }
@@ -46,7 +49,10 @@ pub struct StandardSink<W> {
 }
 
 impl<W> StandardSink<W> {
-    pub fn new(writer: W) -> Self {
+    /// A sink that writes to this writer, and has not failed.
+    pub fn new(writer: W) -> Self
+        ensures { (result.writer ≡ writer) × (result.faults ≡ 0) }
+    {
         StandardSink { writer, faults: 0 }
     }
 }
