@@ -1,0 +1,43 @@
+//! Why a block was not read.
+
+use mq_huff::HuffFault;
+use std::alloc::{AllocError, AllocFailed};
+
+/// Why a block was not read.
+#[derive(Clone, Copy, Debug, PartialEq, Eq)]
+pub enum HpackFault {
+    /// An index of 0 in an indexed field, or one past the table.
+    Index,
+    /// An integer above 2^32 - 1, with more than five further bytes, or that isn't whole.
+    Integer,
+    /// A string that is longer than the rest of the block, or a fault of its Huffman code.
+    Text,
+    /// A new limit of the table after a field, or above 4,096.
+    Update,
+    /// The fields count more than 16,384.
+    TooLarge,
+    /// Memory ran out.
+    NoMemory,
+}
+
+impl From<AllocError> for HpackFault {
+    ghost use Rattle.std.specs.Prelude.{◌≡◌};
+    ghost use Rattle.mq_hpack.specs.declared.fault.HpackFault.TheVariants.{NoMemory};
+
+    ghost from_gives = { λ _ e. e ≡ NoMemory };
+
+    fn from(_: AllocError) -> HpackFault {
+        HpackFault::NoMemory
+    }
+}
+
+impl<T: Drop> From<AllocFailed<T>> for HpackFault {
+    ghost use Rattle.std.specs.Prelude.{◌≡◌};
+    ghost use Rattle.mq_hpack.specs.declared.fault.HpackFault.TheVariants.{NoMemory};
+
+    ghost from_gives = { λ _ e. e ≡ NoMemory };
+
+    fn from(_: AllocFailed<T>) -> HpackFault {
+        HpackFault::NoMemory
+    }
+}
