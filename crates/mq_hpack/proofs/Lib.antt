@@ -3,6 +3,10 @@ pub mod Bounds
 pub mod Fits
 pub mod Found
 pub mod Integers
+pub mod ReadBack
 pub mod Readings
 pub mod Shorter
+pub mod Spelling
 pub mod Statics
+pub mod StringsBack
+pub mod Written

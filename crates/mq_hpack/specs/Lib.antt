@@ -1,7 +1,9 @@
 pub mod Block
 pub mod Decoder
+pub mod Encoder
 pub mod Form
 pub mod Integer
+pub mod ReadBack
 pub mod Static
 pub mod Table
 pub mod Taking
