@@ -136,7 +136,8 @@ fn a_full_sink_ends_with_what_fits(rt: HostRuntime) -> Result<(), Fail> {
         let mut source = MemSource::new(script, Seq::from_vec(Vec::new(alloc)))?;
         let mut sink = MemSink::new(alloc, room, Seq::from_vec(Vec::new(alloc)))?;
         assert_eq!(rt; replay(alloc, &mut source, &mut sink), Status::WriteFault);
-        assert_eq!(rt; sink.taken(), FIRST_PRINTS.split_at(room as usize).0);
+        assert_eq!(rt; sink.taken().len(), room as usize);
+        assert!(rt; FIRST_PRINTS.starts_with(sink.taken()), "room for {room}");
     }
     Ok(())
 }
