@@ -45,6 +45,10 @@ fn rows_print_what_they_should(rt: HostRuntime) -> Result<(), Fail> {
         (REFUSED, Status::Done, REFUSED_PRINTS),
         (BAD, Status::BadScript, BAD_PRINTS),
         (b"# said\n\nstep 1\n", Status::BadScript, b"bad line 3\n"),
+        (b"conn 0\nconn 0\n", Status::BadScript, b"bad line 2\n"),
+        (b"bytes 0 00\nconn 0\n", Status::BadScript, b"bad line 1\n"),
+        (b"conn 1\n", Status::BadScript, b"bad line 1\n"),
+        (b"conn 0\n\n# said\n\n", Status::Done, nothing),
         (b"step 0", Status::Done, b"idle 0\n"),
         (
             b"step 0\nstep  0",
