@@ -273,3 +273,29 @@ fn the_fields_of_a_block_count_no_more_than_they_may(rt: HostRuntime) -> Result<
     }
     Ok(())
 }
+
+/// RFC 7541, appendix C.4: blocks, and the size of the table after each.
+fn size_rows() -> &'static str {
+    "\
+828684418cf1e3c2e5f23a6ba0ab90f4ff is 57
+828684be5886a8eb10649cbf is 110
+828785bf408825a849e95ba97d7f8925a849e95bb8e8b4bf is 164
+20 is 0
+"
+}
+
+#[test]
+fn a_decoder_tells_the_size_of_its_table(rt: HostRuntime) -> Result<(), Fail> {
+    let mut decoder = Decoder::new(rt.alloc());
+    for row in size_rows().lines() {
+        let Some((block, want)) = row.split_once(" is ") else {
+            continue;
+        };
+        let block = hex::decode(rt.alloc(), block)?;
+        let read = decoder.block(block.as_slice()).is_ok();
+        let seen = format!(in rt.alloc(); "{}", decoder.held())?;
+        assert!(rt; read, "{row}");
+        assert_eq!(rt; seen.as_str(), want, "{row}");
+    }
+    Ok(())
+}

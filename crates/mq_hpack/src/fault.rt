@@ -1,6 +1,5 @@
 //! Why a block was not read.
 
-use mq_huff::HuffFault;
 use std::alloc::{AllocError, AllocFailed};
 
 /// Why a block was not read.
