@@ -87,6 +87,17 @@ pub record ClosedNext (old : Conn) (tunnel left : ℕ) (new : Conn) : Type 0 whe
   pub left_is : left ≡ length t.waiting
   pub new_is : new ≡ record old { due = without stream rest; tunnels = remove old.tunnels i; ending = Some end.Tunnel }
 
+-- The first live tunnel of an ending connection closes: what waits there is gone.
+pub record AbandonedNext (old : Conn) (tunnel left : ℕ) (new : Conn) : Type 0 where
+  pub t : Tunnel
+  pub rest : List Tunnel
+  pub ending : old.ending ≢ None
+  pub due : old.due ≡ []
+  pub tunnels : old.tunnels ≡ t ∷ rest
+  pub tunnel_is : tunnel ≡ t.id
+  pub left_is : left ≡ length t.waiting
+  pub new_is : new ≡ record old { tunnels = rest }
+
 -- the link takes all owed bytes
 pub record WroteNext (old : Conn) (bytes : List ℕ) (new : Conn) : Type 0 where
   pub some : owed old ≢ []
@@ -104,6 +115,8 @@ WantNext conn entries old (Refused c stream status rule) new calls =
 WantNext conn entries old (Sent from n packet) new calls = SentNext old from n packet new × (calls ≡ [])
 WantNext conn entries old (Closed tunnel why.Malformed left) new calls =
     ClosedNext old tunnel left new × (calls ≡ call.Close tunnel ∷ [])
+WantNext conn entries old (Closed tunnel why.Conn left) new calls =
+    AbandonedNext old tunnel left new × (calls ≡ call.Close tunnel ∷ [])
 WantNext conn entries old (Accepted c actor) new calls = ⊥
 WantNext conn entries old (Took c count) new calls = ⊥
 WantNext conn entries old (Wrote c bytes) new calls = ⊥
@@ -123,9 +136,13 @@ pub record TookNext (old : Conn) (bytes : List ℕ) (new : Conn) : Type 0 where
   pub asks : Asks (old.reads ++ bytes ∷ []) (before ++ new.due)
   pub new_is : new ≡ record old { reads = old.reads ++ bytes ∷ []; due = new.due }
 
--- nothing is left but its end
+-- it was refused memory: what was due is given up, and it is ending
+abbrev pub starved : Conn → Conn
+starved c = record c { due = []; ending = Some end.NoMemory }
+
+-- Nothing is left but its end. Bytes still owed are given up only where it was refused memory.
 pub record IsOver (c : Conn) (why : End) : Type 0 where
   pub due : c.due ≡ []
   pub ending : c.ending ≡ Some why
   pub tunnels : c.tunnels ≡ []
-  pub owed : owed c ≡ []
+  pub owed : why ≢ end.NoMemory → owed c ≡ []

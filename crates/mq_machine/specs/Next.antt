@@ -1,11 +1,11 @@
 -- What each note is allowed by, and does, in the whole world; the seats of a worker; whose turn it is.
-use Rattle.std.specs.Prelude.{◌≡◌, ◌≢◌, ℕ, ◌+◌, ◌<◌, ◌≤◌, List, [], ◌∷◌, ◌++◌, length, take, drop, map, remove, slice_get, slice_set, Some}
+use Rattle.std.specs.Prelude.{◌≡◌, ◌≢◌, ℕ, ◌+◌, ◌<◌, ◌≤◌, List, [], ◌∷◌, ◌++◌, length, take, drop, map, remove, slice_get, slice_set, Some, None, ◌⊎◌}
 use Rattle.mq_talk.specs.declared.book.Call.{Call}
 use Rattle.mq_talk.specs.declared.book.Entry.{Entry}
 use Rattle.mq_talk.specs.declared.note.End.{End}
 use Rattle.mq_talk.specs.declared.note.Note.{Note}
 use Rattle.mq_talk.specs.declared.note.Note.TheVariants.{Accepted, Took, Ported, Opened, Refused, Sent, Wrote, Closed, Ended}
-use Rattle.mq_machine.specs.ConnNext.{WantNext, WroteNext, TookNext, IsOver}
+use Rattle.mq_machine.specs.ConnNext.{WantNext, WroteNext, TookNext, CanRead, starved, IsOver}
 use Rattle.mq_machine.specs.State.{Conn, new_conn, Feed, Offer, Held, Worker, Shared, State}
 
 -- an actor writes these calls into the book
@@ -137,6 +137,29 @@ pub record WorkerTurn (old : Worker) (sh : Shared) (note : Note) (new : Worker) 
   pub allowed : SeatNext old sh seat try note new after
   pub first : (other : Seat) → (NoLater old.next_seat (place seat) (place other) → ⊥) → (any : Try) → IsIdle old sh other any
   pub inner : (other : Try) → order other < order try → IsIdle old sh seat other
+
+-- it had something to do: an act was due, or it could read a piece
+abbrev pub IsBusy : Held → Type 0
+IsBusy h = (h.conn.due ≢ []) ⊎ (CanRead h.conn × (h.link.pieces ≢ []))
+
+-- The connection whose turn it is was refused memory, and nothing else changes.
+pub record WorkerStarves (old : Worker) (sh : Shared) (new : Worker) : Type 0 where
+  pub c : ℕ
+  pub i : ℕ
+  pub h : Held
+  pub has : HasConn old c i h
+  pub alive : h.conn.ending ≡ None
+  pub busy : IsBusy h
+  pub first : (other : Seat) → (NoLater old.next_seat (place (Of c)) (place other) → ⊥) → (any : Try) → IsIdle old sh other any
+  pub new_is : new ≡ record old { conns = slice_set old.conns i (record h { conn = starved h.conn }) }
+
+-- a step of this actor was refused memory: it has no note, and leads to new
+pub record SilentTurn (old : State) (actor : ℕ) (new : State) : Type 0 where
+  pub worker : Worker
+  pub after : Worker
+  pub at : slice_get old.workers actor ≡ Some worker
+  pub starves : WorkerStarves worker old.shared after
+  pub new_is : new ≡ record old { workers = slice_set old.workers actor after }
 
 -- the note is the turn of this actor, and leads to new
 pub record Turn (old : State) (actor : ℕ) (note : Note) (new : State) : Type 0 where

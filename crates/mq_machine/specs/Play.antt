@@ -6,16 +6,18 @@ use Rattle.mq_text.specs.Cut.{Lacks}
 use Rattle.mq_machine.specs.declared.line.Line.{Line}
 use Rattle.mq_machine.specs.declared.line.Line.TheVariants.{Blank, Conn, Piece, Steps}
 use Rattle.mq_machine.specs.Line.{Says, SaysNothing}
-use Rattle.mq_machine.specs.Next.{Turn, Quiet}
+use Rattle.mq_machine.specs.Next.{Turn, SilentTurn, Quiet}
 use Rattle.mq_machine.specs.State.{Feed, Offer, Held, Worker, State, start}
 use Rattle.mq_machine.specs.Text.{note_line, idle_line, bad_line, newline}
 
--- Up to so many steps of an actor: each is its turn, and where it has none, it is idle and the steps stop.
-abbrev pub Runs : State → ℕ → ℕ → List ℕ → State → Type 0
-Runs old actor zero text new = (text ≡ []) × (new ≡ old)
-Runs old actor (suc n) text new =
-    ((note : Note) × (mid : State) × (rest : List ℕ) × Turn old actor note mid × (text ≡ note_line note ++ rest) × Runs mid actor n rest new)
-    ⊎ (Quiet old actor × (text ≡ idle_line actor) × (new ≡ old))
+-- Up to so many steps of an actor: each is its turn, and where it has none, it is idle and the steps stop. So many of them
+-- were refused memory, and print nothing.
+abbrev pub Runs : State → ℕ → ℕ → ℕ → List ℕ → State → Type 0
+Runs old actor zero refused text new = (refused ≡ 0) × (text ≡ []) × (new ≡ old)
+Runs old actor (suc n) refused text new =
+    ((note : Note) × (mid : State) × (rest : List ℕ) × Turn old actor note mid × (text ≡ note_line note ++ rest) × Runs mid actor n refused rest new)
+    ⊎ (((mid : State) × (others : ℕ) × SilentTurn old actor mid × (refused ≡ suc others) × Runs mid actor n others text new)
+    ⊎ (Quiet old actor × (refused ≡ 0) × (text ≡ idle_line actor) × (new ≡ old)))
 
 -- a new link is offered to a worker
 pub record OffersLink (old : State) (worker : ℕ) (new : State) : Type 0 where
@@ -66,12 +68,17 @@ pub record ArrivesLate (old : State) (number : ℕ) (new : State) : Type 0 where
 abbrev pub Arrives : State → ℕ → List ℕ → State → Type 0
 Arrives old number bytes new = ArrivesOffered old number bytes new ⊎ (ArrivesHeld old number bytes new ⊎ ArrivesLate old number new)
 
--- what a good line prints and does
-abbrev pub LinePlays : State → Line → List ℕ → State → Type 0
-LinePlays old Blank text new = (text ≡ []) × (new ≡ old)
-LinePlays old (Conn worker) text new = (old.links ≡ 0) × (text ≡ []) × OffersLink old worker new
-LinePlays old (Piece conn bytes) text new = (conn < old.links) × (text ≡ []) × Arrives old conn bytes new
-LinePlays old (Steps actor count) text new = (actor < length old.workers) × Runs old actor count text new
+-- a good line that isn't one of steps
+abbrev pub Happens : State → Line → State → Type 0
+Happens old Blank new = new ≡ old
+Happens old (Conn worker) new = (old.links ≡ 0) × OffersLink old worker new
+Happens old (Piece conn bytes) new = (conn < old.links) × Arrives old conn bytes new
+Happens old (Steps actor count) new = ⊥
+
+-- What a good line prints and does. So many of its steps were refused memory.
+abbrev pub LinePlays : State → Line → ℕ → List ℕ → State → Type 0
+LinePlays old (Steps actor count) refused text new = (actor < length old.workers) × Runs old actor count refused text new
+LinePlays old said refused text new = Happens old said new × (refused ≡ 0) × (text ≡ [])
 
 -- It names what never was, or offers a second link: only one is served yet.
 abbrev pub IsBadHere : State → Line → Type 0
@@ -91,12 +98,13 @@ script_limit = 67108864
 abbrev pub IsBad : State → List ℕ → Type 0
 IsBad old line = SaysNothing line ⊎ ((said : Line) × Says line said × IsBadHere old said)
 
--- The lines, in order and each good, print the text and lead from old to new.
-abbrev pub Plays : State → List (List ℕ) → List ℕ → State → Type 0
-Plays old [] text new = (text ≡ []) × (new ≡ old)
-Plays old (line ∷ lines) text new =
+-- The lines, in order and each good, print the text and lead from old to new. So many steps were refused memory.
+abbrev pub Plays : State → List (List ℕ) → ℕ → List ℕ → State → Type 0
+Plays old [] refused text new = (refused ≡ 0) × (text ≡ []) × (new ≡ old)
+Plays old (line ∷ lines) refused text new =
     (length line ≤ line_limit) × (said : Line) × Says line said
-    × (mid : State) × (shown : List ℕ) × (rest : List ℕ) × LinePlays old said shown mid × (text ≡ shown ++ rest) × Plays mid lines rest new
+    × (mid : State) × (here : ℕ) × (later : ℕ) × (shown : List ℕ) × (rest : List ℕ)
+    × LinePlays old said here shown mid × (refused ≡ here + later) × (text ≡ shown ++ rest) × Plays mid lines later rest new
 
 -- the lines with their newlines
 abbrev pub text_of : List (List ℕ) → List ℕ
@@ -123,19 +131,22 @@ pub record IsPlayed (script out : List ℕ) : Type 0 where
   pub lines : List (List ℕ)
   pub tail : List ℕ
   pub new : State
+  -- how many steps were refused memory
+  pub refused : ℕ
   pub script_is : IsScript script lines tail
   pub fits : length script ≤ script_limit
-  pub plays : Plays start (with_tail lines tail) out new
+  pub plays : Plays start (with_tail lines tail) refused out new
 
 -- All whole lines are good, and were played; the begun one, and the script so far, are within their limits.
 pub record IsPlayedSoFar (script out : List ℕ) : Type 0 where
   pub lines : List (List ℕ)
   pub tail : List ℕ
   pub new : State
+  pub refused : ℕ
   pub script_is : IsScript script lines tail
   pub fits : length script ≤ script_limit
   pub begun : length tail ≤ line_limit
-  pub plays : Plays start lines out new
+  pub plays : Plays start lines refused out new
 
 -- The script goes on behind these lines, which are all within its limit, with these bytes of one line.
 pub record HasFront (script : List ℕ) (before : List (List ℕ)) (front : List ℕ) : Type 0 where
@@ -185,7 +196,8 @@ pub record IsPlayedBad (script out : List ℕ) : Type 0 where
   pub before : List (List ℕ)
   pub state : State
   pub text : List ℕ
-  pub plays : Plays start before text state
+  pub refused : ℕ
+  pub plays : Plays start before refused text state
   pub bad : HasBad script before state
   pub out_is : out ≡ text ++ bad_line (length before + 1)
 
@@ -195,7 +207,8 @@ RunsPart old actor zero text = text ≡ []
 RunsPart old actor (suc n) text =
     (text ≡ [])
     ⊎ (((note : Note) × (mid : State) × (rest : List ℕ) × Turn old actor note mid × (text ≡ note_line note ++ rest) × RunsPart mid actor n rest)
-    ⊎ (Quiet old actor × (text ≡ idle_line actor)))
+    ⊎ (((mid : State) × SilentTurn old actor mid × RunsPart mid actor n text)
+    ⊎ (Quiet old actor × (text ≡ idle_line actor))))
 
 -- what a good line printed when it stopped: only steps print anything
 abbrev pub LinePart : State → Line → List ℕ → Type 0
@@ -221,7 +234,8 @@ pub record IsPlayedPart (script out : List ℕ) : Type 0 where
   pub state : State
   pub text : List ℕ
   pub part : List ℕ
-  pub plays : Plays start before text state
+  pub refused : ℕ
+  pub plays : Plays start before refused text state
   pub stops : (HasFront script before [] × (part ≡ []))
       ⊎ (StopsIn script before state part
       ⊎ (HasBad script before state × (part ≡ bad_line (length before + 1))))

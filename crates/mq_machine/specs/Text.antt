@@ -30,10 +30,12 @@ kind_text Ip = codes "ip"
 
 abbrev pub why_text : Why → List ℕ
 why_text why.Malformed = codes "Malformed"
+why_text why.Conn = codes "Conn"
 
 abbrev pub end_text : End → List ℕ
 end_text end.Refused = codes "Refused"
 end_text end.Tunnel = codes "Tunnel"
+end_text end.NoMemory = codes "NoMemory"
 
 -- the rule that refused, at status 403 alone
 abbrev pub rule_text : ℕ → ℕ → List ℕ

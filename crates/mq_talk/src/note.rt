@@ -8,6 +8,8 @@ use mq_wire::Bytes;
 pub enum Why {
     /// A malformed capsule.
     Malformed,
+    /// Its connection is ending.
+    Conn,
 }
 
 /// Why a connection ends.
@@ -17,6 +19,8 @@ pub enum End {
     Refused,
     /// Its tunnel closed.
     Tunnel,
+    /// It was refused memory.
+    NoMemory,
 }
 
 /// Where a payload comes from.
