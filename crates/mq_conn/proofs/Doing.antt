@@ -1,5 +1,5 @@
 -- What doing an act leaves.
-use Rattle.std.proofs.Common.{◌≡◌, ◌≢◌, ℕ, ◌≤◌, List, [], ◌∷◌, ◌++◌, length, drop, Bool, true, false, Option, Some, None, slice_get, remove, unwrap_or, refl, sym, subst, arith}
+use Rattle.std.proofs.Common.{◌≡◌, ◌≢◌, ℕ, ◌≤◌, List, [], ◌∷◌, ◌++◌, length, drop, Bool, true, false, Option, Some, None, slice_get, remove, unwrap_or, refl, sym, ap, ◌∙◌, subst, arith}
 use Rattle.std.proofs.lemmas.List.{drop-append-le, length-append}
 use Rattle.std.specs.Option.{is_some}
 use Rattle.mq_talk.specs.declared.note.End.{End}
@@ -7,10 +7,10 @@ use Rattle.mq_machine.specs.declared.act.Act.{Act}
 use Rattle.mq_machine.specs.declared.act.Act.TheVariants.{Bind, Open, Refuse, Payload, Malformed}
 use Rattle.mq_machine.specs.State.{Conn, Tunnel}
 use Rattle.mq_talk.specs.declared.goal.Goal.{Goal}
-use Rattle.mq_machine.specs.ConnNext.{HasTunnel, without}
+use Rattle.mq_machine.specs.ConnNext.{HasTunnel, AbandonedNext, without}
 use Rattle.mq_conn.specs.declared.connection.Phase.{Phase}
 use Rattle.mq_conn.specs.declared.connection.Phase.TheVariants.{Head, Tunnel as InCapsules, Done}
-use Rattle.mq_conn.specs.Connections.{WillEnd, WillServe, IsPhase, IsClosed, Follows, tunnels_of}
+use Rattle.mq_conn.specs.Connections.{WillEnd, WillServe, IsPhase, Follows, tunnels_of}
 
 -- an ending connection ends whatever is due
 pub ends : (acts : List Act) (why : End) → WillEnd acts (Some why)
@@ -93,5 +93,20 @@ without_none stream [] h = refl
 without_none stream (a ∷ acts) h = absurd cc
 
 -- what is due shows that nothing ends
-pub still : (s : Conn) (first : Act) (rest : List Act) (P : Type 0) → s.due ≡ first ∷ rest → (s.ending ≢ None → IsClosed s) → s.ending ≢ None → P
-still s first rest P due closed h = let none = (closed h).due in absurd cc
+pub still : (s : Conn) (first : Act) (rest : List Act) (P : Type 0) → s.due ≡ first ∷ rest → (s.ending ≢ None → s.due ≡ []) → s.ending ≢ None → P
+still s first rest P due closed h = let none = closed h in absurd cc
+
+ending_none : (ending : Option End) → (ending ≢ None → ⊥) → ending ≡ None
+ending_none None h = refl
+ending_none (Some why) h = absurd (h (λ e. cc))
+
+-- so the connection isn't ending
+pub alive : (s : Conn) (first : Act) (rest : List Act) → s.due ≡ first ∷ rest → (s.ending ≢ None → s.due ≡ []) → s.ending ≡ None
+alive s first rest due closed = ending_none s.ending (λ h. still s first rest (⊥) due closed h)
+
+-- an ending connection gives its tunnel up
+pub abandons : (s : Conn) (tunnel : Option ℕ) (id : ℕ) → s.tunnels ≡ tunnels_of tunnel → tunnel ≡ Some id → s.ending ≢ None → s.due ≡ []
+    → AbandonedNext s id 0 (record s { tunnels = [] })
+abandons s tunnel id is live ending due =
+    let one : Tunnel = record { id = id; stream = 0; waiting = [] } in
+    record { t = one; rest = []; ending = ending; due = due; tunnels = is ∙ ap tunnels_of live; tunnel_is = refl; left_is = refl; new_is = refl }

@@ -1,10 +1,11 @@
 -- What the core of a connection stands for.
-use Rattle.std.specs.Prelude.{◌≡◌, ◌≢◌, ℕ, ◌+◌, ◌≤◌, ◌⊎◌, Bool, true, false, List, [], ◌∷◌, ◌++◌, length, drop, Option, Some, None}
+use Rattle.std.specs.Prelude.{◌≡◌, ◌≢◌, ℕ, ◌+◌, ◌≤◌, ◌⊎◌, Bool, true, false, List, [], ◌∷◌, ◌++◌, length, drop, Option, Some, None, Result, Ok, Err}
 use Rattle.std.specs.List.{concat}
 use Rattle.std.specs.Option.{is_some}
 use Rattle.mq_addr.specs.declared.addr.Addr.TheVariants.{V4}
 use Rattle.mq_head.specs.declared.reader.HeadReader.{HeadReader}
 use Rattle.mq_head.specs.Reader.{IsHeadOf}
+use Rattle.mq_wire.specs.declared.NoMemory as wire
 use Rattle.mq_talk.specs.declared.book.Call.{Call}
 use Rattle.mq_talk.specs.declared.goal.Goal.TheVariants as goal
 use Rattle.mq_talk.specs.declared.note.End.{End}
@@ -111,11 +112,6 @@ abbrev pub tunnels_of : Option ℕ → List Tunnel
 tunnels_of None = []
 tunnels_of (Some id) = record { id = id; stream = 0; waiting = [] } ∷ []
 
--- an ending connection has nothing more to do than to write
-pub record IsClosed (s : spec.Conn) : Type 0 where
-  pub due : s.due ≡ []
-  pub tunnels : s.tunnels ≡ []
-
 -- the core stands for this state
 pub record IsConn (c : Connection) (s : spec.Conn) : Type 0 where
   pub due : c.due.items ≡ s.due
@@ -125,12 +121,48 @@ pub record IsConn (c : Connection) (s : spec.Conn) : Type 0 where
   pub tunnels : s.tunnels ≡ tunnels_of c.tunnel
   pub follows : Follows (is_some c.tunnel) s.due
   pub phase : IsPhase c.phase s.reads s.due (is_some c.tunnel) s.ending
-  pub closed : s.ending ≢ None → IsClosed s
+  -- nothing is due in an ending connection
+  pub closed : s.ending ≢ None → s.due ≡ []
 
--- what is next was done, or nothing is due
+-- what is next was done
+abbrev pub Wanted : ℕ → ℕ → spec.Conn → Note → Connection → Type 0
+Wanted conn entries s note c = (t : spec.Conn) × (calls : List Call) × next.WantNext conn entries s note t calls × IsConn c t
+
+-- that, or nothing is next
 abbrev pub Wants : ℕ → ℕ → spec.Conn → Option Note → Connection → Type 0
-Wants conn entries s None c = (s.due ≡ []) × IsConn c s
-Wants conn entries s (Some note) c = (t : spec.Conn) × (calls : List Call) × next.WantNext conn entries s note t calls × IsConn c t
+Wants conn entries s None c = (s.due ≡ []) × (s.ending ≢ None → s.tunnels ≡ []) × IsConn c s
+Wants conn entries s (Some note) c = Wanted conn entries s note c
+
+-- what is due was done, or nothing is
+abbrev pub DoesDue : ℕ → ℕ → spec.Conn → Option Note → Connection → Type 0
+DoesDue conn entries s None c = (s.due ≡ []) × IsConn c s
+DoesDue conn entries s (Some note) c = Wanted conn entries s note c
+
+-- what being refused memory leaves: what is owed, and the live tunnel
+pub record Keeps (c : Connection) (s : spec.Conn) : Type 0 where
+  pub given : s.given ≤ length s.out
+  pub owed : c.owed.items ≡ owed s
+  pub tunnels : s.tunnels ≡ tunnels_of c.tunnel
+
+-- what is due was refused memory
+pub record Starving (c : Connection) (s : spec.Conn) : Type 0 where
+  pub due : s.due ≢ []
+  pub alive : s.ending ≡ None
+  pub keeps : Keeps c s
+
+abbrev pub TriesDue : ℕ → ℕ → spec.Conn → Result (Option Note) wire.NoMemory → Connection → Type 0
+TriesDue conn entries s (Ok note) c = DoesDue conn entries s note c
+TriesDue conn entries s (Err refused) c = Starving c s
+
+-- what is next, or being refused memory for it
+abbrev pub Acts : ℕ → ℕ → spec.Conn → Result (Option Note) wire.NoMemory → Connection → Type 0
+Acts conn entries s (Ok note) c = Wants conn entries s note c
+Acts conn entries s (Err refused) c = (s.due ≢ []) × (s.ending ≡ None) × IsConn c (next.starved s)
+
+-- one more read, or being refused memory for it
+abbrev pub Feeds : spec.Conn → List ℕ → Result (Unit {0}) wire.NoMemory → Connection → Type 0
+Feeds s bytes (Ok done) c = (t : spec.Conn) × next.TookNext s bytes t × IsConn c t
+Feeds s bytes (Err refused) c = IsConn c (next.starved s)
 
 -- why it is over, where it is
 abbrev pub IsOver : spec.Conn → Option End → Type 0

@@ -1,8 +1,8 @@
 //! One connection: it is fed bytes, and does what they ask for one act at a time.
 ghost use Rattle.std.specs.Prelude.{◌≡◌, ◌≢◌, ℕ, ◌++◌, ◌∷◌, List, [], IfOk, OnOk, IsTrue, ◌↔◌, MatchOption, Some, None};
 ghost use Rattle.mq_machine.specs.State.{Conn, new_conn, owed};
-ghost use Rattle.mq_machine.specs.ConnNext.{WroteNext, TookNext, CanRead, goal_kind};
-ghost use Rattle.mq_conn.specs.Connections.{IsConn, Wants, IsOver, LeadsTo, HeadLeadsTo, Reaches};
+ghost use Rattle.mq_machine.specs.ConnNext.{WroteNext, CanRead, goal_kind, starved};
+ghost use Rattle.mq_conn.specs.Connections.{IsConn, Acts, TriesDue, Wants, Keeps, Feeds, IsOver, LeadsTo, HeadLeadsTo, Reaches};
 ghost use Rattle.mq_machine.specs.declared.act.Act.{Act};
 ghost use Rattle.mq_conn.specs.declared.connection.Phase.{Phase};
 
@@ -61,10 +61,51 @@ impl Connection {
         }
     }
 
-    /// Does what is due, where something is. `conn` is the connection's number, `entries` how many entries the book has,
-    /// which is the number of a tunnel that opens.
+    /// Does what is next, where something is: what is due, or closing the tunnel of an ending connection. `conn` is the
+    /// connection's number, `entries` how many entries the book has, which is the number of a tunnel that opens.
+    ///
+    /// A connection that is refused memory is ending: what was due is given up.
     pub fn act(&mut self, conn: u32, entries: u32) -> Result<Option<Note>, NoMemory>
-        ensures { (s : Conn) → IsConn self.old s → IfOk result (λ note. Wants conn entries s note self.new) }
+        ensures { (s : Conn) → IsConn self.old s → Acts conn entries s result self.new }
+    {
+        match self.act_due(conn, entries) {
+            Ok(None) => Ok(self.abandon()),
+            Ok(Some(note)) => Ok(Some(note)),
+            Err(refused) => {
+                self.starve();
+                Err(refused)
+            }
+        }
+    }
+
+    /// It was refused memory: what was due is given up, nothing more is read, and it is ending.
+    fn starve(&mut self)
+        ensures { (s : Conn) → Keeps self.old s → IsConn self.new (starved s) }
+    {
+        self.phase = Phase::Done;
+        self.due.clear();
+        self.ending = Some(End::NoMemory);
+    }
+
+    /// Closes the live tunnel of an ending connection in which nothing is due.
+    fn abandon(&mut self) -> Option<Note>
+        ensures { (conn entries : ℕ) (s : Conn) → IsConn self.old s → s.due ≡ [] → Wants conn entries s result self.new }
+    {
+        if self.ending.is_none() {
+            return None;
+        }
+        let tunnel = self.tunnel.take()?;
+        self.phase = Phase::Done;
+        Some(Note::Closed {
+            tunnel,
+            why: Why::Conn,
+            left: 0,
+        })
+    }
+
+    /// Does what is due, where something is.
+    fn act_due(&mut self, conn: u32, entries: u32) -> Result<Option<Note>, NoMemory>
+        ensures { (s : Conn) → IsConn self.old s → TriesDue conn entries s result self.new }
     {
         match self.due.pop_front() {
             None => Ok(None),
@@ -131,24 +172,36 @@ impl Connection {
         Bytes::from_vec(mem::replace(&mut self.owed, Vec::new(alloc)))
     }
 
-    /// Why it is over, where nothing is due or owed and it is ending.
+    /// Why it is over, where it is ending, nothing is due, its tunnel is closed, and nothing is owed. Where it was refused
+    /// memory, what is still owed is given up.
     pub fn over(&self) -> Option<End>
         ensures { (s : Conn) → IsConn self.now s → IsOver s result }
     {
-        if self.due.is_empty() && self.owed.is_empty() {
-            self.ending
-        } else {
-            None
+        if !self.due.is_empty() || self.tunnel.is_some() {
+            return None;
+        }
+        match self.ending {
+            Some(End::NoMemory) => Some(End::NoMemory),
+            why if self.owed.is_empty() => why,
+            _ => None,
         }
     }
 
-    /// Takes the bytes of one read.
+    /// Takes the bytes of one read. A connection that is refused memory is ending.
     pub fn feed(&mut self, alloc: Global, bytes: &[u8]) -> Result<(), NoMemory>
-        ensures { (s : Conn) → IsConn self.old s → CanRead s → OnOk result ((t : Conn) × TookNext s bytes.now t × IsConn self.new t) }
+        ensures { (s : Conn) → IsConn self.old s → CanRead s → Feeds s bytes.now result self.new }
     {
         let phase = mem::replace(&mut self.phase, Phase::Done);
-        self.phase = next_phase(alloc, phase, bytes, &mut self.due)?;
-        Ok(())
+        match next_phase(alloc, phase, bytes, &mut self.due) {
+            Ok(phase) => {
+                self.phase = phase;
+                Ok(())
+            }
+            Err(refused) => {
+                self.starve();
+                Err(refused)
+            }
+        }
     }
 }
 

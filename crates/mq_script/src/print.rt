@@ -23,6 +23,7 @@ fn why_text(why: Why) -> &'static [u8]
 {
     match why {
         Why::Malformed => b"Malformed",
+        Why::Conn => b"Conn",
     }
 }
 
@@ -32,6 +33,7 @@ fn end_text(why: End) -> &'static [u8]
     match why {
         End::Refused => b"Refused",
         End::Tunnel => b"Tunnel",
+        End::NoMemory => b"NoMemory",
     }
 }
 

@@ -217,6 +217,21 @@ fn print_all(alloc: Global, out: &mut Vec<u8>) -> Result<(), NoMemory> {
     )?;
     print_note(
         out,
+        &Note::Closed {
+            tunnel: 6,
+            why: Why::Conn,
+            left: 0,
+        },
+    )?;
+    print_ended_notes(out)?;
+    print_idle(out, 3)?;
+    print_bad_line(out, 67_108_865)?;
+    Ok(())
+}
+
+fn print_ended_notes(out: &mut Vec<u8>) -> Result<(), NoMemory> {
+    print_note(
+        out,
         &Note::Ended {
             conn: 7,
             why: End::Refused,
@@ -229,8 +244,13 @@ fn print_all(alloc: Global, out: &mut Vec<u8>) -> Result<(), NoMemory> {
             why: End::Tunnel,
         },
     )?;
-    print_idle(out, 3)?;
-    print_bad_line(out, 67_108_865)?;
+    print_note(
+        out,
+        &Note::Ended {
+            conn: 8,
+            why: End::NoMemory,
+        },
+    )?;
     Ok(())
 }
 
@@ -327,8 +347,10 @@ sent 5 18446744073709551615 009fa0ff
 sent 5 1 -
 wrote 7 485454500d0a
 closed 5 Malformed left 2
+closed 6 Conn left 0
 ended 7 Refused
 ended 4294967295 Tunnel
+ended 8 NoMemory
 idle 3
 bad line 67108865
 ";

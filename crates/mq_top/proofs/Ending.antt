@@ -22,6 +22,7 @@ bad_unsaid whole text number b = record {
   state = b.state;
   text = text;
   part = bad_line (length b.before + 1);
+  refused = b.refused;
   plays = b.plays;
   stops = inr (inr (b.bad, refl));
   front = (bad_line (length b.before + 1), refl);
@@ -42,6 +43,7 @@ bad_part whole out b = record {
   state = b.state;
   text = b.text;
   part = bad_line (length b.before + 1);
+  refused = b.refused;
   plays = b.plays;
   stops = inr (inr (b.bad, refl));
   front = ([], sym b.out_is ∙ sym (append-nil out));
@@ -97,6 +99,7 @@ part_front whole text shown written owes e p = record {
   state = p.state;
   text = p.text;
   part = p.part;
+  refused = p.refused;
   plays = p.plays;
   stops = p.stops;
   front = (owes ++ p.front.0, p.front.1 ∙ ap (λ (xs : List ℕ). xs ++ p.front.0) (ap (λ (xs : List ℕ). text ++ xs) e ∙ sym (append_assoc text written owes)) ∙ append_assoc (text ++ written) owes p.front.0);
@@ -190,4 +193,4 @@ gives_more (Some left) b c x y p q =
 -- the source failed
 pub so_far : (x : Session) (script : List ℕ) (lines : List (List ℕ)) (text : List ℕ) → IsRead x script lines text → IsPlayedSoFar script text
 so_far x script lines text r =
-    record { lines = lines; tail = x.begun.items; new = r.state; script_is = r.script_is; fits = r.fits; begun = r.begun_fits; plays = r.plays }
+    record { lines = lines; tail = x.begun.items; new = r.state; refused = r.refused; script_is = r.script_is; fits = r.fits; begun = r.begun_fits; plays = r.plays }

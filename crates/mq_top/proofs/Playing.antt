@@ -15,7 +15,7 @@ use Rattle.mq_world.specs.declared.world.World.{World}
 
 -- a line that prints nothing
 pub silent_line : (s : State) (bytes : List ℕ) (said : Line) (answer : Result (Unit {0}) Stop) (w : World) → Says bytes said → SilentTo s said answer w → LineTo s bytes [] answer w
-silent_line s bytes said (Ok done) w says told = (said, told.0, says, told.1, told.2)
+silent_line s bytes said (Ok done) w says told = (said, told.0, 0, says, told.1, told.2)
 silent_line s bytes said (Err BadLine) w says told = (inr (said, says, told), refl)
 silent_line s bytes said (Err WriteFault) w says told = absurd told
 silent_line s bytes said (Err NoMemory) w says told = inl refl
@@ -23,7 +23,7 @@ silent_line s bytes said (Err NoMemory) w says told = inl refl
 -- a line of steps
 pub steps_line : (s : State) (bytes : List ℕ) (actor count : ℕ) (shown : List ℕ) (answer : Result (Unit {0}) Stop) (w : World) → Says bytes (Steps actor count)
     → RunsTo s actor count shown answer w → LineTo s bytes shown answer w
-steps_line s bytes actor count shown (Ok done) w says told = (Steps actor count, told.0, says, (told.1, told.2), told.3)
+steps_line s bytes actor count shown (Ok done) w says told = (Steps actor count, told.0, told.1, says, (told.2, told.3), told.4)
 steps_line s bytes actor count shown (Err BadLine) w says told = (inr (Steps actor count, says, told.0), told.1)
 steps_line s bytes actor count shown (Err WriteFault) w says told =
     elim told.1 [

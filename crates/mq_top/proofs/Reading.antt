@@ -18,14 +18,17 @@ use Rattle.mq_world.specs.declared.world.World.{World}
 use Rattle.mq_world.specs.Worlds.{IsWorld}
 
 -- one more line
-plays_more : (old : State) (lines : List (List ℕ)) (text : List ℕ) (mid : State) (line shown : List ℕ) (said : Line) (new : State)
-    → Plays old lines text mid → length line ≤ line_limit → Says line said → LinePlays mid said shown new → Plays old (lines ++ line ∷ []) (text ++ shown) new
-plays_more old [] text mid line shown said new p fits says q =
-    let P : State → Type 0 = λ from. LinePlays from said shown new in
-    (fits, said, says, new, shown, [], subst P p.1 q, ap (λ (xs : List ℕ). xs ++ shown) p.0 ∙ sym (append-nil shown), (refl, refl))
-plays_more old (first ∷ lines) text mid line shown said new p fits says q =
-    let more = plays_more p.3 lines p.5 mid line shown said new p.8 fits says q in
-    (p.0, p.1, p.2, p.3, p.4, p.5 ++ shown, p.6, ap (λ (xs : List ℕ). xs ++ shown) p.7 ∙ append_assoc p.4 p.5 shown, more)
+plays_more : (old : State) (lines : List (List ℕ)) (before : ℕ) (text : List ℕ) (mid : State) (line shown : List ℕ) (said : Line) (here : ℕ) (new : State)
+    → Plays old lines before text mid → length line ≤ line_limit → Says line said → LinePlays mid said here shown new
+    → Plays old (lines ++ line ∷ []) (before + here) (text ++ shown) new
+plays_more old [] before text mid line shown said here new p fits says q =
+    let P : State → Type 0 = λ from. LinePlays from said here shown new in
+    let none = p.0 in
+    (fits, said, says, new, here, 0, shown, [], subst P p.2 q, omega (arith, none), ap (λ (xs : List ℕ). xs ++ shown) p.1 ∙ sym (append-nil shown), (refl, refl, refl))
+plays_more old (first ∷ lines) before text mid line shown said here new p fits says q =
+    let more = plays_more p.3 lines p.5 p.7 mid line shown said here new p.11 fits says q in
+    let sum = p.9 in
+    (p.0, p.1, p.2, p.3, p.4, p.5 + here, p.6, p.7 ++ shown, p.8, omega (arith, sum), ap (λ (xs : List ℕ). xs ++ shown) p.10 ∙ append_assoc p.6 p.7 shown, more)
 
 -- no script was read
 pub nothing_yet : (whole : List ℕ) → IsPlayedPart whole []
@@ -34,57 +37,61 @@ nothing_yet whole = record {
   state = start;
   text = [];
   part = [];
-  plays = (refl, refl);
+  refused = 0;
+  plays = (refl, refl, refl);
   stops = inl (record { more = whole; is = refl; before_are = tt; fits = omega arith; front_is = tt }, refl);
   front = ([], refl);
 }
 
 -- the play stopped before a line
-stops_before : (whole : List ℕ) (lines : List (List ℕ)) (state : State) (text shown front : List ℕ) → Plays start lines text state → HasFront whole lines front → shown ≡ [] → IsPlayedPart whole (text ++ shown)
-stops_before whole lines state text shown front plays has none = record {
+stops_before : (whole : List ℕ) (lines : List (List ℕ)) (state : State) (refused : ℕ) (text shown front : List ℕ) → Plays start lines refused text state → HasFront whole lines front → shown ≡ [] → IsPlayedPart whole (text ++ shown)
+stops_before whole lines state refused text shown front plays has none = record {
   before = lines;
   state = state;
   text = text;
   part = [];
+  refused = refused;
   plays = plays;
   stops = inl (no_front whole lines front has, refl);
   front = ([], ap (λ (xs : List ℕ). text ++ xs) (sym none) ∙ sym (append-nil (text ++ shown)));
 }
 
 -- it stopped in a line
-stops_in : (whole : List ℕ) (lines : List (List ℕ)) (state : State) (text shown line : List ℕ) → Plays start lines text state → HasLine whole lines line → IsCutLine state line shown → IsPlayedPart whole (text ++ shown)
-stops_in whole lines state text shown line plays has (inl none) = stops_before whole lines state text shown line plays has.has none
-stops_in whole lines state text shown line plays has (inr in_line) = record {
+stops_in : (whole : List ℕ) (lines : List (List ℕ)) (state : State) (refused : ℕ) (text shown line : List ℕ) → Plays start lines refused text state → HasLine whole lines line → IsCutLine state line shown → IsPlayedPart whole (text ++ shown)
+stops_in whole lines state refused text shown line plays has (inl none) = stops_before whole lines state refused text shown line plays has.has none
+stops_in whole lines state refused text shown line plays has (inr in_line) = record {
   before = lines;
   state = state;
   text = text;
   part = shown;
+  refused = refused;
   plays = plays;
   stops = inr (inl (record { line = line; said = in_line.0; has = has; says = in_line.1; part = in_line.2 }));
   front = ([], sym (append-nil (text ++ shown)));
 }
 
 -- a whole line was played until its play stopped
-pub line_stops : (whole : List ℕ) (lines : List (List ℕ)) (state : State) (text shown line : List ℕ) (why : Stop) (w : World) (number : ℕ) → Plays start lines text state → HasLine whole lines line
+pub line_stops : (whole : List ℕ) (lines : List (List ℕ)) (state : State) (refused : ℕ) (text shown line : List ℕ) (why : Stop) (w : World) (number : ℕ) → Plays start lines refused text state → HasLine whole lines line
     → number ≡ length lines → LineTo state line shown (Err why) w → StopsAt whole (text ++ shown) why number
-line_stops whole lines state text shown line BadLine w number plays has count told =
-    let P : List ℕ → Type 0 = λ all. Plays start lines all state in
+line_stops whole lines state refused text shown line BadLine w number plays has count told =
+    let P : List ℕ → Type 0 = λ all. Plays start lines refused all state in
     record {
       before = lines;
       state = state;
+      refused = refused;
       plays = subst P (sym (ap (λ (xs : List ℕ). text ++ xs) told.1 ∙ append-nil text)) plays;
       bad = inr (inr (record { line = line; has = has; wrong = told.0 }));
       number_is = count;
     }
-line_stops whole lines state text shown line WriteFault w number plays has count told = stops_in whole lines state text shown line plays has told
-line_stops whole lines state text shown line NoMemory w number plays has count told = stops_in whole lines state text shown line plays has told
+line_stops whole lines state refused text shown line WriteFault w number plays has count told = stops_in whole lines state refused text shown line plays has told
+line_stops whole lines state refused text shown line NoMemory w number plays has count told = stops_in whole lines state refused text shown line plays has told
 
 -- what was read stands for a play that stopped behind its lines
 pub no_memory : (x : Session) (script : List ℕ) (lines : List (List ℕ)) (text more : List ℕ) → IsRead x script lines text → IsPlayedPart (script ++ more) text
 no_memory x script lines text more r =
     let sum = parts_length script lines x.begun.items r.script_is in
     let P : List ℕ → Type 0 = λ all. IsPlayedPart (script ++ more) all in
-    subst P (append-nil text) (stops_before (script ++ more) lines r.state text [] x.begun.items r.plays (has_front script lines x.begun.items more (omega (arith, sum, r.fits)) r.script_is) refl)
+    subst P (append-nil text) (stops_before (script ++ more) lines r.state r.refused text [] x.begun.items r.plays (has_front script lines x.begun.items more (omega (arith, sum, r.fits)) r.script_is) refl)
 
 pub nothing_played : (x : Session) (script : List ℕ) (lines : List (List ℕ)) (text bytes more : List ℕ) → IsRead x script lines text → IsPlayedPart (script ++ bytes ++ more) (text ++ [])
 nothing_played x script lines text bytes more r =
@@ -126,7 +133,7 @@ too_much x script lines text bytes tail BadLine short plain r told more =
       | inl long ↦ inl (has_long (script ++ bytes) lines line (tail ++ more) before_fits (omega (arith, long, size)) s)
       | inr past ↦ inr (inl (has_past (script ++ bytes) lines line (tail ++ more) before_fits (omega (arith, past, all, short, r.count)) (omega (arith, past, all, rest, r.count)) s))
     ] in
-    record { before = lines; state = r.state; plays = r.plays; bad = subst P whole bad; number_is = r.number }
+    record { before = lines; state = r.state; refused = r.refused; plays = r.plays; bad = subst P whole bad; number_is = r.number }
 too_much x script lines text bytes tail WriteFault short plain r told more = absurd told
 too_much x script lines text bytes tail NoMemory short plain r told more = absurd told
 
@@ -150,8 +157,9 @@ line_read x y script lines text bytes shown now plain r room told none number co
     let Q : List ℕ → Type 0 = λ tail. IsScript (script ++ (bytes ++ 10 ∷ [])) (lines ++ line ∷ []) tail in
     record {
       state = told.1;
-      plays = plays_more start lines text r.state line shown told.0 told.1 r.plays (omega (arith, size, room.2)) told.2 told.3;
-      stands = told.4;
+      refused = r.refused + told.2;
+      plays = plays_more start lines r.refused text r.state line shown told.0 told.2 told.1 r.plays (omega (arith, size, room.2)) told.3 told.4;
+      stands = told.5;
       number = omega (arith, number, counted, r.number);
       script_is = subst Q (sym none) (subst P (ended_script script bytes) (begun_ended (script ++ bytes) lines line s));
       count = omega (arith, count, room.0, all, last, r.count);
@@ -172,7 +180,7 @@ line_stopped x script lines text bytes shown now why w plain r room told more =
     let last : length ((script ++ bytes) ++ 10 ∷ []) ≡ length (script ++ bytes) + 1 = length-append (script ++ bytes) (10 ∷ []) in
     let P : List ℕ → Type 0 = λ whole. HasLine (whole ++ more) lines line in
     let has = subst P (ended_script script bytes) (has_line (script ++ bytes) lines line more (omega (arith, size, room.2)) (omega (arith, room.0, room.1, all, last, r.count)) s) in
-    line_stops (script ++ (bytes ++ 10 ∷ []) ++ more) lines r.state text shown line why w x.number r.plays has r.number told
+    line_stops (script ++ (bytes ++ 10 ∷ []) ++ more) lines r.state r.refused text shown line why w x.number r.plays has r.number told
 
 -- the begun line goes on
 pub kept : (x y : Session) (script : List ℕ) (lines : List (List ℕ)) (text bytes : List ℕ) (now : ℕ) → Lacks 10 bytes → IsRead x script lines text
@@ -186,6 +194,7 @@ kept x y script lines text bytes now plain r room world begun number count =
     let Q : World → Type 0 = λ w. IsWorld w r.state in
     record {
       state = r.state;
+      refused = r.refused;
       plays = r.plays;
       stands = subst Q (sym world) r.stands;
       number = number ∙ r.number;
@@ -232,32 +241,35 @@ pub ends_empty : (x : Session) (script : List ℕ) (lines : List (List ℕ)) (te
 ends_empty x script lines text none r =
     let P : List ℕ → Type 0 = λ tail. IsScript script lines tail in
     let Q : List ℕ → Type 0 = λ whole. IsPlayedPart whole text in (
-      record { lines = lines; tail = []; new = r.state; script_is = subst P none r.script_is; fits = r.fits; plays = r.plays },
+      record { lines = lines; tail = []; new = r.state; refused = r.refused; script_is = subst P none r.script_is; fits = r.fits; plays = r.plays },
       subst Q (append-nil script) (no_memory x script lines text [] r),
     )
 
 -- what is played whole is played in part
-runs_part : (old : State) (actor n : ℕ) (text : List ℕ) (new : State) → Runs old actor n text new → RunsPart old actor n text
-runs_part old actor zero text new r = r.0
-runs_part old actor (suc n) text new (inl r) = inr (inl (r.0, r.1, r.2, r.3, r.4, runs_part r.1 actor n r.2 new r.5))
-runs_part old actor (suc n) text new (inr r) = inr (inr (r.0, r.1))
+runs_part : (old : State) (actor n refused : ℕ) (text : List ℕ) (new : State) → Runs old actor n refused text new → RunsPart old actor n text
+runs_part old actor zero refused text new r = r.1
+runs_part old actor (suc n) refused text new (inl r) = inr (inl (r.0, r.1, r.2, r.3, r.4, runs_part r.1 actor n refused r.2 new r.5))
+runs_part old actor (suc n) refused text new (inr (inl r)) = inr (inr (inl (r.0, r.2, runs_part r.0 actor n r.1 text new r.4)))
+runs_part old actor (suc n) refused text new (inr (inr r)) = inr (inr (inr (r.0, r.2)))
 
-line_part : (old : State) (said : Line) (text : List ℕ) (new : State) → LinePlays old said text new → LinePart old said text
-line_part old Blank text new p = p.0
-line_part old (Conn worker) text new p = p.1
-line_part old (Piece conn bytes) text new p = p.1
-line_part old (Steps actor count) text new p = (p.0, runs_part old actor count text new p.1)
+line_part : (old : State) (said : Line) (refused : ℕ) (text : List ℕ) (new : State) → LinePlays old said refused text new → LinePart old said text
+line_part old Blank refused text new p = p.2
+line_part old (Conn worker) refused text new p = p.2
+line_part old (Piece conn bytes) refused text new p = p.2
+line_part old (Steps actor count) refused text new p = (p.0, runs_part old actor count refused text new p.1)
 
 -- the last line, with no newline
-last_played : (script : List ℕ) (lines : List (List ℕ)) (line text : List ℕ) (new : State) → (line ≡ [] → ⊥) → IsScript script lines line → length script ≤ script_limit → Plays start (lines ++ line ∷ []) text new → IsPlayed script text
-last_played script lines [] text new some s fits plays = absurd (some refl)
-last_played script lines (b ∷ bs) text new some s fits plays = record { lines = lines; tail = b ∷ bs; new = new; script_is = s; fits = fits; plays = plays }
+last_played : (script : List ℕ) (lines : List (List ℕ)) (line : List ℕ) (refused : ℕ) (text : List ℕ) (new : State) → (line ≡ [] → ⊥) → IsScript script lines line → length script ≤ script_limit
+    → Plays start (lines ++ line ∷ []) refused text new → IsPlayed script text
+last_played script lines [] refused text new some s fits plays = absurd (some refl)
+last_played script lines (b ∷ bs) refused text new some s fits plays = record { lines = lines; tail = b ∷ bs; new = new; refused = refused; script_is = s; fits = fits; plays = plays }
 
 pub ends_line : (x y : Session) (script : List ℕ) (lines : List (List ℕ)) (text shown : List ℕ) (answer : Result (Unit {0}) Stop) → (x.begun.items ≡ [] → ⊥) → (r : IsRead x script lines text)
     → y.number ≡ x.number → LineTo r.state x.begun.items shown answer y.world → EndsTo script (text ++ shown) answer y
 ends_line x y script lines text shown (Ok done) some r number told = (
-  last_played script lines x.begun.items (text ++ shown) told.1 some r.script_is r.fits (plays_more start lines text r.state x.begun.items shown told.0 told.1 r.plays r.begun_fits told.2 told.3),
-  stops_in script lines r.state text shown x.begun.items r.plays (has_last script lines x.begun.items r.begun_fits r.fits r.script_is) (inr (told.0, told.2, line_part r.state told.0 shown told.1 told.3)),
+  last_played script lines x.begun.items (r.refused + told.2) (text ++ shown) told.1 some r.script_is r.fits
+      (plays_more start lines r.refused text r.state x.begun.items shown told.0 told.2 told.1 r.plays r.begun_fits told.3 told.4),
+  stops_in script lines r.state r.refused text shown x.begun.items r.plays (has_last script lines x.begun.items r.begun_fits r.fits r.script_is) (inr (told.0, told.3, line_part r.state told.0 told.2 shown told.1 told.4)),
 )
 ends_line x y script lines text shown (Err why) some r number told =
-    line_stops script lines r.state text shown x.begun.items why y.world y.number r.plays (has_last script lines x.begun.items r.begun_fits r.fits r.script_is) (number ∙ r.number) told
+    line_stops script lines r.state r.refused text shown x.begun.items why y.world y.number r.plays (has_last script lines x.begun.items r.begun_fits r.fits r.script_is) (number ∙ r.number) told

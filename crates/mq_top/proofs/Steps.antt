@@ -1,13 +1,13 @@
 -- Steps that go on from a state are steps from the start.
-use Rattle.std.proofs.Common.{◌≡◌, ℕ, zero, suc, ◌<◌, ◌≤◌, List, [], ◌∷◌, ◌++◌, length, Some, Ok, Err, refl, sym, ap, subst, ◌∙◌, arith, append_assoc, append-nil, ◌⊎◌, inl, inr}
+use Rattle.std.proofs.Common.{◌≡◌, ℕ, zero, suc, ◌+◌, ◌<◌, ◌≤◌, List, [], ◌∷◌, ◌++◌, length, Some, Ok, Err, refl, sym, ap, subst, ◌∙◌, arith, append_assoc, append-nil, ◌⊎◌, inl, inr}
 use Rattle.std.specs.List.{slice_get}
 use Rattle.std.proofs.lemmas.List.{length-set}
-use Rattle.mq_machine.specs.Next.{Turn, Quiet}
+use Rattle.mq_machine.specs.Next.{Turn, SilentTurn, Quiet}
 use Rattle.mq_machine.specs.Play.{Runs, RunsPart}
 use Rattle.mq_machine.specs.State.{State}
 use Rattle.mq_machine.specs.Text.{note_line, idle_line}
 use Rattle.mq_talk.specs.declared.note.Note.{Note}
-use Rattle.mq_top.specs.Playing.{StepTo, IsActor, RunsTo}
+use Rattle.mq_top.specs.Playing.{StepTo, Moves, IsActor, RunsTo}
 use Rattle.mq_top.specs.declared.status.Stop.{Stop}
 use Rattle.mq_top.specs.declared.status.Stop.TheVariants.{BadLine, WriteFault, NoMemory}
 use Rattle.mq_world.specs.declared.world.World.{World}
@@ -20,13 +20,23 @@ got_within (y ∷ ys) (suc i) x e = let h = got_within ys i x e in omega (arith,
 
 -- what goes on from here goes on from the start
 pub record Far (s : State) (actor count : ℕ) (shown : List ℕ) (t : State) (left : ℕ) : Type 0 where
-  pub runs : (rest : List ℕ) (new : State) → Runs t actor left rest new → Runs s actor count (shown ++ rest) new
+  pub refused : ℕ
+  pub runs : (more : ℕ) (rest : List ℕ) (new : State) → Runs t actor left more rest new → Runs s actor count (refused + more) (shown ++ rest) new
   pub part : (rest : List ℕ) → RunsPart t actor left rest → RunsPart s actor count (shown ++ rest)
   pub some : ((shown ≡ []) × (left ≡ count)) ⊎ (actor < length s.workers)
   pub same : length t.workers ≡ length s.workers
 
 pub far_none : (s : State) (actor count : ℕ) → Far s actor count [] s count
-far_none s actor count = record { runs = λ rest new r. r; part = λ rest r. r; some = inl (refl, refl); same = refl }
+far_none s actor count = record {
+  refused = 0;
+  runs = λ more rest new r.
+      let Q : ℕ → Type 0 = λ n. Runs s actor count n rest new in
+      let sum : more ≡ 0 + more = omega arith in
+      subst Q sum r;
+  part = λ rest r. r;
+  some = inl (refl, refl);
+  same = refl;
+}
 
 -- a turn leaves the number of workers, and its actor is one
 turn_same : (t : State) (actor : ℕ) (note : Note) (u : State) → Turn t actor note u → length u.workers ≡ length t.workers
@@ -41,10 +51,11 @@ within_start s t actor same h = omega (arith, same, h)
 pub far_more : (s t u : State) (actor count left less : ℕ) (shown : List ℕ) (note : Note) → left ≡ suc less → Far s actor count shown t left → Turn t actor note u
     → Far s actor count (shown ++ note_line note) u less
 far_more s t u actor count left less shown note e far turn = record {
-  runs = λ rest new r.
-      let Q : ℕ → Type 0 = λ n. Runs t actor n (note_line note ++ rest) new in
-      let R : List ℕ → Type 0 = λ text. Runs s actor count text new in
-      subst R (sym (append_assoc shown (note_line note) rest)) (far.runs (note_line note ++ rest) new (subst Q (sym e) (inl (note, u, rest, turn, refl, r))));
+  refused = far.refused;
+  runs = λ more rest new r.
+      let Q : ℕ → Type 0 = λ n. Runs t actor n more (note_line note ++ rest) new in
+      let R : List ℕ → Type 0 = λ text. Runs s actor count (far.refused + more) text new in
+      subst R (sym (append_assoc shown (note_line note) rest)) (far.runs more (note_line note ++ rest) new (subst Q (sym e) (inl (note, u, rest, turn, refl, r))));
   part = λ rest r.
       let Q : ℕ → Type 0 = λ n. RunsPart t actor n (note_line note ++ rest) in
       let R : List ℕ → Type 0 = λ text. RunsPart s actor count text in
@@ -52,6 +63,38 @@ far_more s t u actor count left less shown note e far turn = record {
   some = inr (within_start s t actor far.same (turn_within t actor note u turn));
   same = turn_same t actor note u turn ∙ far.same;
 }
+
+-- a silent step leaves the number of workers, and its actor is one
+silent_same : (t : State) (actor : ℕ) (u : State) → SilentTurn t actor u → length u.workers ≡ length t.workers
+silent_same t actor u turn = ap (λ (x : State). length x.workers) turn.new_is ∙ length-set t.workers actor turn.after
+
+-- a step was refused memory
+pub far_silent : (s t u : State) (actor count left less : ℕ) (shown : List ℕ) → left ≡ suc less → Far s actor count shown t left → SilentTurn t actor u
+    → Far s actor count shown u less
+far_silent s t u actor count left less shown e far turn = record {
+  refused = far.refused + 1;
+  runs = λ more rest new r.
+      let Q : ℕ → Type 0 = λ n. Runs t actor n (1 + more) rest new in
+      let R : ℕ → Type 0 = λ n. Runs s actor count n (shown ++ rest) new in
+      let one : 1 + more ≡ suc more = omega arith in
+      let sum : far.refused + (1 + more) ≡ (far.refused + 1) + more = omega arith in
+      subst R sum (far.runs (1 + more) rest new (subst Q (sym e) (inr (inl (u, more, turn, one, r)))));
+  part = λ rest r.
+      let Q : ℕ → Type 0 = λ n. RunsPart t actor n rest in
+      far.part rest (subst Q (sym e) (inr (inr (inl (u, turn, r)))));
+  some = inr (within_start s t actor far.same (got_within t.workers actor turn.worker turn.at));
+  same = silent_same t actor u turn ∙ far.same;
+}
+
+-- a step moves on
+pub far_moves : (s t : State) (actor count left less : ℕ) (shown more : List ℕ) (w : World) → left ≡ suc less → Far s actor count shown t left → Moves t actor more w
+    → (u : State) × IsWorld w u × Far s actor count (shown ++ more) u less
+far_moves s t actor count left less shown more w e far (inl did) =
+    let P : List ℕ → Type 0 = λ text. Far s actor count (shown ++ text) did.1 less in
+    (did.1, did.4, subst P (sym did.3) (far_more s t did.1 actor count left less shown did.0 e far did.2))
+far_moves s t actor count left less shown more w e far (inr silent) =
+    let P : List ℕ → Type 0 = λ text. Far s actor count text silent.0 less in
+    (silent.0, silent.3, subst P (sym (ap (λ (text : List ℕ). shown ++ text) silent.2 ∙ append-nil shown)) (far_silent s t silent.0 actor count left less shown e far silent.1))
 
 runs_none : (s : State) (actor n : ℕ) → RunsPart s actor n []
 runs_none s actor zero = refl
@@ -61,22 +104,22 @@ runs_none s actor (suc n) = inl refl
 pub far_done : (s t : State) (actor count left : ℕ) (shown : List ℕ) (w : World) → left ≡ 0 → 1 ≤ count → Far s actor count shown t left → (stands : IsWorld w t)
     → RunsTo s actor count shown (Ok tt) w
 far_done s t actor count left shown w none some far stands =
-    let Q : ℕ → Type 0 = λ n. Runs t actor n [] t in
-    let P : List ℕ → Type 0 = λ text. Runs s actor count text t in
-    let runs = subst P (append-nil shown) (far.runs [] t (subst Q (sym none) (refl, refl))) in
+    let Q : ℕ → Type 0 = λ n. Runs t actor n 0 [] t in
+    let P : List ℕ → Type 0 = λ text. Runs s actor count (far.refused + 0) text t in
+    let runs = subst P (append-nil shown) (far.runs 0 [] t (subst Q (sym none) (refl, refl, refl))) in
     elim far.some [
       | inl e ↦ absurd (omega (arith, e.1, none, some))
-      | inr within ↦ (t, within, runs, stands)
+      | inr within ↦ (t, far.refused + 0, within, runs, stands)
     ]
 
 -- the actor has no step
 pub far_idle : (s t : State) (actor count left less : ℕ) (shown idle : List ℕ) (w : World) → left ≡ suc less → Far s actor count shown t left → Quiet t actor → idle ≡ idle_line actor
     → (stands : IsWorld w t) → RunsTo s actor count (shown ++ idle) (Ok tt) w
 far_idle s t actor count left less shown idle w e far quiet is stands =
-    let Q : ℕ → Type 0 = λ n. Runs t actor n (idle_line actor) t in
-    let P : List ℕ → Type 0 = λ text. Runs s actor count (shown ++ text) t in
-    let runs = subst P (sym is) (far.runs (idle_line actor) t (subst Q (sym e) (inr (quiet, refl, refl)))) in
-    (t, within_start s t actor far.same (got_within t.workers actor quiet.worker quiet.at), runs, stands)
+    let Q : ℕ → Type 0 = λ n. Runs t actor n 0 (idle_line actor) t in
+    let P : List ℕ → Type 0 = λ text. Runs s actor count (far.refused + 0) (shown ++ text) t in
+    let runs = subst P (sym is) (far.runs 0 (idle_line actor) t (subst Q (sym e) (inr (inr (quiet, refl, refl, refl))))) in
+    (t, far.refused + 0, within_start s t actor far.same (got_within t.workers actor quiet.worker quiet.at), runs, stands)
 
 -- whether the actor is one, when nothing more was shown
 still_actor : (s t : State) (actor count left : ℕ) (shown more : List ℕ) → more ≡ [] → Far s actor count shown t left → IsActor s actor (shown ++ more)

@@ -15,7 +15,8 @@ use Rattle.mq_world.specs.Worlds.{IsWorld}
 -- The script so far is these lines and the begun one. The lines were played, and printed the text.
 pub record IsRead (x : Session) (script : List ℕ) (lines : List (List ℕ)) (text : List ℕ) : Type 0 where
   pub state : State
-  pub plays : Plays start lines text state
+  pub refused : ℕ
+  pub plays : Plays start lines refused text state
   pub stands : IsWorld x.world state
   pub number : x.number ≡ length lines
   pub script_is : IsScript script lines x.begun.items
@@ -34,7 +35,8 @@ RoomTo line count newline (Err NoMemory) = ⊥
 pub record IsAtBad (whole text : List ℕ) (number : ℕ) : Type 0 where
   pub before : List (List ℕ)
   pub state : State
-  pub plays : Plays start before text state
+  pub refused : ℕ
+  pub plays : Plays start before refused text state
   pub bad : HasBad whole before state
   pub number_is : number ≡ length before
 

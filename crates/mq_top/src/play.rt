@@ -16,13 +16,13 @@ use std::alloc::Global;
 /// What an actor did.
 #[derive(Clone, Copy, Debug, PartialEq, Eq)]
 pub enum Moved {
-    /// It acted.
+    /// It took a step.
     Acted,
     /// It has no step.
     Idle,
 }
 
-/// Takes a step of an actor, and prints its note or that it is idle.
+/// Takes a step of an actor, and prints its note or that it is idle. A step that is refused memory prints nothing.
 fn take_step<K: Sink>(
     alloc: Global,
     world: &mut World,
@@ -44,6 +44,7 @@ fn take_step<K: Sink>(
             print_idle(owed, actor)?;
             Ok(Moved::Idle)
         }
+        Ok(Stepped::Refused) => Ok(Moved::Acted),
         Ok(Stepped::Done) => Err(Stop::NoMemory),
         Err(WorldFault::Missing) => Err(Stop::BadLine),
         Err(WorldFault::NoMemory) => Err(Stop::NoMemory),

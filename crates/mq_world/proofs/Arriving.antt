@@ -3,7 +3,8 @@ use Rattle.std.proofs.Common.{◌≡◌, ◌≢◌, ℕ, ◌<◌, ◌≤◌, Lis
 use Rattle.std.specs.Result.{OnOk}
 use Rattle.mq_machine.specs.State as spec
 use Rattle.mq_machine.specs.State.{State, start}
-use Rattle.mq_machine.specs.Play.{OffersLink}
+use Rattle.mq_machine.specs.declared.line.Line.TheVariants as line
+use Rattle.mq_machine.specs.Play.{OffersLink, LinePlays}
 use Rattle.mq_machine.specs.Next.{Quiet}
 use Rattle.mq_conn.specs.declared.connection.Connection.{Connection}
 use Rattle.mq_world.specs.declared.link.Seat.TheVariants.{Offered, Held, Gone}
@@ -21,17 +22,17 @@ start_quiet s is =
 
 -- the first link is offered
 pub offered_first : (s : State) (entries actor : ℕ) → s ≡ start → entries ≡ 0 → actor ≤ 0
-    → (t : State) × ((s.links ≡ 0) × (◌≡◌ {A = List ℕ} [] []) × OffersLink s actor t) × IsLinked (record { pieces = []; seat = Offered }) t entries
+    → (t : State) × LinePlays s (line.Conn actor) 0 [] t × IsLinked (record { pieces = []; seat = Offered }) t entries
 offered_first s entries actor is none first =
     let o : spec.Offer = record { number = 0; link = record { pieces = [] } } in
     let w : spec.Worker = record { id = 0; offered = []; conns = []; next_seat = 0 } in
     let v : spec.Worker = record { id = 0; offered = o ∷ []; conns = []; next_seat = 0 } in
     let t : State = record { links = 1; workers = v ∷ []; shared = record { book = [] } } in
     let zero_is : actor ≡ 0 = omega arith in
-    let P : State → Type 0 = λ x. (x.links ≡ 0) × (◌≡◌ {A = List ℕ} [] []) × OffersLink x actor t in
+    let P : State → Type 0 = λ x. LinePlays x (line.Conn actor) 0 [] t in
     let Q : ℕ → Type 0 = λ a. OffersLink start a t in (
       t,
-      subst P (sym is) (refl, refl, subst Q (sym zero_is) (record { w = w; at = refl; new_is = refl })),
+      subst P (sym is) ((refl, subst Q (sym zero_is) (record { w = w; at = refl; new_is = refl })), refl, refl),
       record { worker = v; links = refl; workers = refl; id = refl; book = sym none; seat = (refl, refl) },
     )
 

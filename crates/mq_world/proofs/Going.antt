@@ -1,33 +1,30 @@
 -- What a connection does where nothing is due.
 use Rattle.std.proofs.Common.{◌≡◌, ◌≢◌, ℕ, List, [], ◌∷◌, length, Option, Some, None, Result, Ok, Err, refl, ap, arith, inr}
-use Rattle.std.specs.Result.{IfOk}
 use Rattle.mq_wire.specs.declared.NoMemory.{NoMemory}
 use Rattle.mq_talk.specs.declared.note.End.{End}
 use Rattle.mq_talk.specs.declared.note.Note.{Note}
 use Rattle.mq_machine.specs.State.{Conn, owed}
 use Rattle.mq_machine.specs.ConnNext.{CanRead}
 use Rattle.mq_conn.specs.declared.connection.Connection.{Connection}
-use Rattle.mq_conn.specs.Connections.{IsConn, IsClosed}
-use Rattle.mq_world.specs.Links.{Reads, Does, NotOver}
+use Rattle.mq_world.specs.Links.{TriesRead, Tries, NotOver}
 
 pub empty_of : (xs : List ℕ) → (xs ≢ [] → ⊥) → xs ≡ []
 empty_of [] h = refl
 empty_of (x ∷ xs) h = absurd (h (λ e. cc))
 
-over_of : (s : Conn) (ending : Option End) → s.ending ≡ ending → (s.ending ≢ None → IsClosed s) → s.due ≡ [] → owed s ≡ [] → NotOver s → s.ending ≡ None
-over_of s None is closed due owes not_over = is
-over_of s (Some why) is closed due owes not_over =
-    let tunnels = (closed (λ e. cc)).tunnels in
-    absurd (not_over why (record { due = due; ending = is; tunnels = tunnels; owed = owes }))
+over_of : (s : Conn) (ending : Option End) → s.ending ≡ ending → s.due ≡ [] → (s.ending ≢ None → s.tunnels ≡ []) → owed s ≡ [] → NotOver s → s.ending ≡ None
+over_of s None is due live owes not_over = is
+over_of s (Some why) is due live owes not_over =
+    absurd (not_over why (record { due = due; ending = is; tunnels = live (λ e. cc); owed = λ h. owes }))
 
 -- a connection that isn't over can read
-pub can_read : (s : Conn) (c : Connection) → IsConn c s → s.due ≡ [] → owed s ≡ [] → NotOver s → CanRead s
-can_read s c is due owes not_over =
+pub can_read : (s : Conn) → s.due ≡ [] → (s.ending ≢ None → s.tunnels ≡ []) → owed s ≡ [] → NotOver s → CanRead s
+can_read s due live owes not_over =
     let none : length (owed s) ≡ 0 = ap length owes in
-    record { due = due; owed = omega arith; ending = over_of s s.ending refl is.closed due owes not_over }
+    record { due = due; owed = omega arith; ending = over_of s s.ending refl due live owes not_over }
 
 pub reads_last : (conn entries : ℕ) (pieces left : List (List ℕ)) (s : Conn) (c : Connection) (result : Result (Option Note) NoMemory) → owed s ≡ [] → CanRead s
-    → IfOk result (λ note. Reads conn pieces s note left c) → IfOk result (λ note. Does conn entries pieces s note left c)
+    → TriesRead conn pieces s result left c → Tries conn entries pieces s result left c
 reads_last conn entries pieces left s c (Ok None) owes can r = record { due = can.due; owed = owes; ending = can.ending; none = r.0; left_is = r.1; is = r.2 }
 reads_last conn entries pieces left s c (Ok (Some note)) owes can r = inr (inr (record { owed = owes; did = r }))
-reads_last conn entries pieces left s c (Err e) owes can r = tt
+reads_last conn entries pieces left s c (Err refused) owes can r = record { alive = can.ending; busy = inr (can, r.some); left_is = r.left_is; is = r.is }

@@ -10,15 +10,14 @@ use Rattle.mq_talk.specs.declared.note.Note.TheVariants.{Accepted, Took, Ported,
 use Rattle.mq_talk.specs.declared.note.Why.TheVariants as why
 use Rattle.mq_machine.specs.State as spec
 use Rattle.mq_machine.specs.State.{State}
-use Rattle.mq_machine.specs.ConnNext.{WantNext, IsOver}
+use Rattle.mq_machine.specs.ConnNext.{WantNext, starved, IsOver}
 use Rattle.mq_machine.specs.Next.{entries_of}
 use Rattle.mq_conn.specs.declared.connection.Connection.{Connection}
 use Rattle.mq_conn.specs.Connections.{IsConn}
 use Rattle.mq_world.specs.declared.link.Seat.TheVariants.{Offered, Held, Gone}
-use Rattle.std.specs.Result.{IfOk}
-use Rattle.mq_world.specs.Links.{written, Does, DidWant, DidWrite, ReadLast, DidNothing}
+use Rattle.mq_world.specs.Links.{written, Tries, Starves, DidWant, DidWrite, ReadLast, DidNothing}
 use Rattle.mq_world.specs.Worlds.{IsLinked, LinkSteps}
-use Rattle.mq_world.proofs.Turning.{want_turn, write_turn, read_turn, end_turn, accept_turn, quiet_with, quiet_without, after_act, turned}
+use Rattle.mq_world.proofs.Turning.{silent_turn, want_turn, write_turn, read_turn, end_turn, accept_turn, quiet_with, quiet_without, after_act, turned}
 
 -- what an act writes into the book
 calls_written : (conn entries : ℕ) (s t : spec.Conn) (note : Note) (calls : List Call) → WantNext conn entries s note t calls → length calls ≡ written note
@@ -30,6 +29,7 @@ calls_written conn entries s t (Refused c stream status rule) calls h = ap (λ (
 calls_written conn entries s t (Sent from n packet) calls h = ap (λ (xs : List Call). length xs) h.1
 calls_written conn entries s t (Wrote c bytes) calls h = absurd h
 calls_written conn entries s t (Closed tunnel why.Malformed left) calls h = ap (λ (xs : List Call). length xs) h.1
+calls_written conn entries s t (Closed tunnel why.Conn left) calls h = ap (λ (xs : List Call). length xs) h.1
 calls_written conn entries s t (Ended c reason) calls h = absurd h
 
 -- the connection on its link
@@ -88,7 +88,7 @@ did_write s entries pieces left conn c note h did =
     let book = h.book in
     subst P (sym did.note_is) (subst Q (sym did.left_is) (
       _,
-      write_turn s h.worker (held_of pieces conn) did.bytes did.t h.workers h.offered h.conns did.due did.wrote,
+      write_turn s h.worker (held_of pieces conn) did.bytes did.t h.workers h.offered h.conns (did.due, did.live) did.over did.wrote,
       linked_after s entries 0 pieces pieces conn did.t c s.shared h (omega arith) did.is,
     ))
 
@@ -113,15 +113,28 @@ did_nothing s entries pieces left conn c h did =
       record { worker = h.worker; links = h.links; workers = h.workers; id = h.id; book = h.book; seat = (h.offered, conn, h.conns, did.is) },
     )
 
+did_starve : (s : State) (entries : ℕ) (pieces left : List (List ℕ)) (conn : spec.Conn) (c : Connection) (refused : NoMemory) → IsHeld s entries pieces conn
+    → Starves pieces conn left c → LinkSteps s entries (Err refused) (record { pieces = left; seat = Held c })
+did_starve s entries pieces left conn c refused h did =
+    let h2 = held_of pieces (starved conn) in
+    let v : spec.Worker = record h.worker { conns = h2 ∷ [] } in
+    let Q : List (List ℕ) → Type 0 = λ all. LinkSteps s entries (Err refused) (record { pieces = all; seat = Held c }) in
+    let book = h.book in
+    subst Q (sym did.left_is) (
+      turned s v s.shared,
+      silent_turn s h.worker (held_of pieces conn) h.workers h.offered h.conns did.alive did.busy,
+      record { worker = v; links = h.links; workers = refl; id = h.id; book = book; seat = (h.offered, starved conn, refl, did.is) },
+    )
+
 -- a connection's step is the link's
 pub held_step : (s : State) (entries : ℕ) (pieces left : List (List ℕ)) (c : Connection) (conn : spec.Conn) (result : Result (Option Note) NoMemory)
-    → IsHeld s entries pieces conn → IfOk result (λ note. Does 0 entries pieces conn note left c)
+    → IsHeld s entries pieces conn → Tries 0 entries pieces conn result left c
     → LinkSteps s entries result (record { pieces = left; seat = Held c })
 held_step s entries pieces left c conn (Ok None) h did = did_nothing s entries pieces left conn c h did
 held_step s entries pieces left c conn (Ok (Some note)) h (inl did) = did_want s entries pieces left conn c note h did
 held_step s entries pieces left c conn (Ok (Some note)) h (inr (inl did)) = did_write s entries pieces left conn c note h did
 held_step s entries pieces left c conn (Ok (Some note)) h (inr (inr did)) = did_read s entries pieces left conn c note h did
-held_step s entries pieces left c conn (Err e) h did = tt
+held_step s entries pieces left c conn (Err refused) h did = did_starve s entries pieces left conn c refused h did
 
 -- the end of the connection
 pub ended_step : (s : State) (entries : ℕ) (pieces : List (List ℕ)) (conn : spec.Conn) (why : End) → IsHeld s entries pieces conn → IsOver conn why

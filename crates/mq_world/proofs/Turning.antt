@@ -1,13 +1,13 @@
 -- The turn of the one worker with its one link.
-use Rattle.std.proofs.Common.{◌≡◌, ℕ, zero, suc, ◌+◌, ◌<◌, List, [], ◌∷◌, ◌++◌, length, Some, None, slice_get, slice_set, remove, refl, sym, ap, subst, ◌∙◌, arith}
+use Rattle.std.proofs.Common.{◌≡◌, ◌≢◌, ℕ, zero, suc, ◌+◌, ◌<◌, List, [], ◌∷◌, ◌++◌, length, Some, None, slice_get, slice_set, remove, refl, sym, ap, subst, ◌∙◌, arith}
 use Rattle.mq_talk.specs.declared.book.Call.{Call}
 use Rattle.mq_talk.specs.declared.note.End.{End}
 use Rattle.mq_talk.specs.declared.note.Note.{Note}
 use Rattle.mq_talk.specs.declared.note.Note.TheVariants.{Accepted, Took, Ported, Opened, Refused, Sent, Wrote, Closed, Ended}
 use Rattle.mq_talk.specs.declared.note.Why.TheVariants as why
 use Rattle.mq_machine.specs.State.{Conn, new_conn, Offer, Held, Worker, Shared, State, owed}
-use Rattle.mq_machine.specs.ConnNext.{WantNext, WroteNext, TookNext, IsOver}
-use Rattle.mq_machine.specs.Next.{Takes, HasConn, DueNext, OfNext, HeldNext, Try, Want, Write, Read, order, Seat, Offers, Of, place, SeatNext, NoLater, IsIdle, WorkerTurn, Turn, Quiet}
+use Rattle.mq_machine.specs.ConnNext.{WantNext, WroteNext, TookNext, starved, IsOver}
+use Rattle.mq_machine.specs.Next.{Takes, HasConn, DueNext, OfNext, HeldNext, Try, Want, Write, Read, order, Seat, Offers, Of, place, SeatNext, NoLater, IsIdle, WorkerTurn, IsBusy, SilentTurn, Turn, Quiet}
 
 -- a seat comes no later than itself
 no_later : (from a : ℕ) → NoLater from a a
@@ -73,35 +73,40 @@ accept_others : (w : Worker) (sh : Shared) → w.conns ≡ [] → (other : Seat)
 accept_others w sh none Offers later try = absurd (later (no_later w.next_seat 0))
 accept_others w sh none (Of c) later try = no_conn_idle w sh c (no_conns w c none) try
 
--- nothing is next
-pub want_none : (conn entries : ℕ) (s t : Conn) (note : Note) (calls : List Call) → s.due ≡ [] → WantNext conn entries s note t calls → ⊥
-want_none conn entries s t (Accepted c actor) calls due h = h
-want_none conn entries s t (Took c count) calls due h = h
-want_none conn entries s t (Ported c stream) calls due h = let is = h.1.due in cc
-want_none conn entries s t (Opened tunnel c stream kind) calls due h = let is = h.4.due in cc
-want_none conn entries s t (Refused c stream status rule) calls due h = let is = h.1.due in cc
-want_none conn entries s t (Sent from n packet) calls due h = let is = h.0.due in cc
-want_none conn entries s t (Wrote c bytes) calls due h = h
-want_none conn entries s t (Closed tunnel why.Malformed left) calls due h = let is = h.0.due in cc
-want_none conn entries s t (Ended c reason) calls due h = h
+-- nothing is due, and an ending connection has no tunnel
+abbrev pub WantsNothing : Conn → Type 0
+WantsNothing s = (s.due ≡ []) × (s.ending ≢ None → s.tunnels ≡ [])
 
-due_none : (actor : ℕ) (h : Held) (sh : Shared) (note : Note) (g : Held) (after : Shared) → h.conn.due ≡ [] → DueNext actor h sh note g after → ⊥
+-- nothing is next
+pub want_none : (conn entries : ℕ) (s t : Conn) (note : Note) (calls : List Call) → WantsNothing s → WantNext conn entries s note t calls → ⊥
+want_none conn entries s t (Accepted c actor) calls none h = h
+want_none conn entries s t (Took c count) calls none h = h
+want_none conn entries s t (Ported c stream) calls none h = let due = none.0 in let is = h.1.due in cc
+want_none conn entries s t (Opened tunnel c stream kind) calls none h = let due = none.0 in let is = h.4.due in cc
+want_none conn entries s t (Refused c stream status rule) calls none h = let due = none.0 in let is = h.1.due in cc
+want_none conn entries s t (Sent from n packet) calls none h = let due = none.0 in let is = h.0.due in cc
+want_none conn entries s t (Wrote c bytes) calls none h = h
+want_none conn entries s t (Closed tunnel why.Malformed left) calls none h = let due = none.0 in let is = h.0.due in cc
+want_none conn entries s t (Closed tunnel why.Conn left) calls none h = let left = none.1 h.0.ending in let is = h.0.tunnels in cc
+want_none conn entries s t (Ended c reason) calls none h = h
+
+due_none : (actor : ℕ) (h : Held) (sh : Shared) (note : Note) (g : Held) (after : Shared) → WantsNothing h.conn → DueNext actor h sh note g after → ⊥
 due_none actor h sh note g after due d = want_none h.number (length sh.book) h.conn d.conn note d.calls due d.next
 
 conn_is : (w : Worker) (h : Held) (c : ℕ) → w.conns ≡ h ∷ [] → (i : ℕ) (g : Held) → HasConn w c i g → h.conn ≡ g.conn
 conn_is w h c is i g has = sym (ap (λ (x : Held). x.conn) (only_conn w h c is i g has).0)
 
 -- the connection wants nothing
-pub wants_idle : (w : Worker) (sh : Shared) (h : Held) (c : ℕ) → w.conns ≡ h ∷ [] → h.conn.due ≡ [] → ((reason : End) → IsOver h.conn reason → ⊥) → IsIdle w sh (Of c) Want
-wants_idle w sh h c is due over (Accepted conn actor) new after x = let P : Conn → Type 0 = λ k. k.due ≡ [] in due_none w.id x.h sh (Accepted conn actor) x.g after (subst P (conn_is w h c is x.i x.h x.has) due) x.next
-wants_idle w sh h c is due over (Took conn count) new after x = let P : Conn → Type 0 = λ k. k.due ≡ [] in due_none w.id x.h sh (Took conn count) x.g after (subst P (conn_is w h c is x.i x.h x.has) due) x.next
-wants_idle w sh h c is due over (Ported conn stream) new after x = let P : Conn → Type 0 = λ k. k.due ≡ [] in due_none w.id x.h sh (Ported conn stream) x.g after (subst P (conn_is w h c is x.i x.h x.has) due) x.next
-wants_idle w sh h c is due over (Opened tunnel conn stream kind) new after x = let P : Conn → Type 0 = λ k. k.due ≡ [] in due_none w.id x.h sh (Opened tunnel conn stream kind) x.g after (subst P (conn_is w h c is x.i x.h x.has) due) x.next
-wants_idle w sh h c is due over (Refused conn stream status rule) new after x = let P : Conn → Type 0 = λ k. k.due ≡ [] in due_none w.id x.h sh (Refused conn stream status rule) x.g after (subst P (conn_is w h c is x.i x.h x.has) due) x.next
-wants_idle w sh h c is due over (Sent from n packet) new after x = let P : Conn → Type 0 = λ k. k.due ≡ [] in due_none w.id x.h sh (Sent from n packet) x.g after (subst P (conn_is w h c is x.i x.h x.has) due) x.next
-wants_idle w sh h c is due over (Wrote conn bytes) new after x = let P : Conn → Type 0 = λ k. k.due ≡ [] in due_none w.id x.h sh (Wrote conn bytes) x.g after (subst P (conn_is w h c is x.i x.h x.has) due) x.next
-wants_idle w sh h c is due over (Closed tunnel reason left) new after x = let P : Conn → Type 0 = λ k. k.due ≡ [] in due_none w.id x.h sh (Closed tunnel reason left) x.g after (subst P (conn_is w h c is x.i x.h x.has) due) x.next
-wants_idle w sh h c is due over (Ended conn reason) new after x =
+pub wants_idle : (w : Worker) (sh : Shared) (h : Held) (c : ℕ) → w.conns ≡ h ∷ [] → WantsNothing h.conn → ((reason : End) → IsOver h.conn reason → ⊥) → IsIdle w sh (Of c) Want
+wants_idle w sh h c is none over (Accepted conn actor) new after x = due_none w.id x.h sh (Accepted conn actor) x.g after (subst WantsNothing (conn_is w h c is x.i x.h x.has) none) x.next
+wants_idle w sh h c is none over (Took conn count) new after x = due_none w.id x.h sh (Took conn count) x.g after (subst WantsNothing (conn_is w h c is x.i x.h x.has) none) x.next
+wants_idle w sh h c is none over (Ported conn stream) new after x = due_none w.id x.h sh (Ported conn stream) x.g after (subst WantsNothing (conn_is w h c is x.i x.h x.has) none) x.next
+wants_idle w sh h c is none over (Opened tunnel conn stream kind) new after x = due_none w.id x.h sh (Opened tunnel conn stream kind) x.g after (subst WantsNothing (conn_is w h c is x.i x.h x.has) none) x.next
+wants_idle w sh h c is none over (Refused conn stream status rule) new after x = due_none w.id x.h sh (Refused conn stream status rule) x.g after (subst WantsNothing (conn_is w h c is x.i x.h x.has) none) x.next
+wants_idle w sh h c is none over (Sent from n packet) new after x = due_none w.id x.h sh (Sent from n packet) x.g after (subst WantsNothing (conn_is w h c is x.i x.h x.has) none) x.next
+wants_idle w sh h c is none over (Wrote conn bytes) new after x = due_none w.id x.h sh (Wrote conn bytes) x.g after (subst WantsNothing (conn_is w h c is x.i x.h x.has) none) x.next
+wants_idle w sh h c is none over (Closed tunnel reason left) new after x = due_none w.id x.h sh (Closed tunnel reason left) x.g after (subst WantsNothing (conn_is w h c is x.i x.h x.has) none) x.next
+wants_idle w sh h c is none over (Ended conn reason) new after x =
     let P : Conn → Type 0 = λ k. IsOver k reason in
     over reason (subst P (sym (conn_is w h c is x.0.i x.0.h x.0.has)) x.0.over)
 
@@ -202,15 +207,15 @@ before_write w sh seat Write idle h = absurd (omega arith)
 before_write w sh seat Read idle h = absurd (omega arith)
 
 pub write_turn : (s : State) (w : Worker) (h : Held) (bytes : List ℕ) (t : Conn) → s.workers ≡ w ∷ [] → w.offered ≡ [] → w.conns ≡ h ∷ []
-    → h.conn.due ≡ [] → WroteNext h.conn bytes t → Turn s 0 (Wrote h.number bytes) (turned s (after_act w h (record h { conn = t })) s.shared)
-write_turn s w h bytes t is none conns due wrote =
+    → WantsNothing h.conn → ((reason : End) → IsOver h.conn reason → ⊥) → WroteNext h.conn bytes t → Turn s 0 (Wrote h.number bytes) (turned s (after_act w h (record h { conn = t })) s.shared)
+write_turn s w h bytes t is none conns wants over wrote =
     let g = record h { conn = t } in
     turn_of s w (after_act w h g) (Wrote h.number bytes) s.shared is (record {
       seat = Of h.number;
       try = Write;
       allowed = of_next w s.shared s.shared h g Write (Wrote h.number bytes) conns (record { after = t; conn_is = refl; wrote = wrote; new_is = refl }, refl);
       first = others_idle w s.shared h none conns;
-      inner = λ other earlier. before_write w s.shared (Of h.number) other (wants_idle w s.shared h h.number conns due (λ reason over. wrote.some over.owed)) earlier;
+      inner = λ other earlier. before_write w s.shared (Of h.number) other (wants_idle w s.shared h h.number conns wants over) earlier;
     })
 
 before_read : (w : Worker) (sh : Shared) (seat : Seat) (other : Try) → IsIdle w sh seat Want → IsIdle w sh seat Write → order other < 2 → IsIdle w sh seat other
@@ -229,7 +234,7 @@ read_turn s w h bytes left t is none conns owes takes took =
       try = Read;
       allowed = of_next w s.shared s.shared h g Read (Took h.number (length bytes)) conns (record { bytes = bytes; pieces = left; after = t; conn_is = refl; takes = takes; count_is = refl; took = took; new_is = refl }, refl);
       first = others_idle w s.shared h none conns;
-      inner = λ other earlier. before_read w s.shared (Of h.number) other (wants_idle w s.shared h h.number conns took.can.due (λ reason over. let ends = over.ending in cc)) (writes_idle w s.shared h h.number conns owes) earlier;
+      inner = λ other earlier. before_read w s.shared (Of h.number) other (wants_idle w s.shared h h.number conns (took.can.due, λ ends. absurd (ends going)) (λ reason over. let ends = over.ending in cc)) (writes_idle w s.shared h h.number conns owes) earlier;
     })
 
 -- every seat is idle
@@ -246,7 +251,7 @@ pub quiet_without : (s : State) (w : Worker) → s.workers ≡ w ∷ [] → w.of
 quiet_without s w is none conns = quiet_of s w is none (λ c try. no_conn_idle w s.shared c (no_conns w c conns) try)
 
 held_quiet : (w : Worker) (sh : Shared) (h : Held) (c : ℕ) → w.conns ≡ h ∷ [] → h.conn.due ≡ [] → owed h.conn ≡ [] → h.conn.ending ≡ None → h.link.pieces ≡ [] → (try : Try) → IsIdle w sh (Of c) try
-held_quiet w sh h c is due owes going pieces Want = wants_idle w sh h c is due (λ reason over. let ends = over.ending in cc)
+held_quiet w sh h c is due owes going pieces Want = wants_idle w sh h c is (due, λ ends. absurd (ends going)) (λ reason over. let ends = over.ending in cc)
 held_quiet w sh h c is due owes going pieces Write = writes_idle w sh h c is owes
 held_quiet w sh h c is due owes going pieces Read = reads_idle w sh h c is pieces
 
@@ -269,3 +274,30 @@ accept_turn s w o is id offered conns =
       first = other_idle;
       inner = λ other earlier. never other _ earlier;
     })
+
+-- the connection is refused memory
+pub silent_turn : (s : State) (w : Worker) (h : Held) → s.workers ≡ w ∷ [] → w.offered ≡ [] → w.conns ≡ h ∷ [] → h.conn.ending ≡ None → IsBusy h
+    → SilentTurn s 0 (turned s (record w { conns = record h { conn = starved h.conn } ∷ [] }) s.shared)
+silent_turn s w h is none conns alive busy =
+    let g = record h { conn = starved h.conn } in
+    let v : Worker = record w { conns = g ∷ [] } in
+    let P : List Held → Type 0 = λ hs. slice_get hs 0 ≡ Some h in
+    let Q : List Held → Type 0 = λ hs. v ≡ record w { conns = slice_set hs 0 g } in
+    let R : List Worker → Type 0 = λ ws. slice_get ws 0 ≡ Some w in
+    let T : List Worker → Type 0 = λ ws. turned s v s.shared ≡ record s { workers = slice_set ws 0 v } in
+    record {
+      worker = w;
+      after = v;
+      at = subst R (sym is) refl;
+      starves = record {
+        c = h.number;
+        i = 0;
+        h = h;
+        has = record { at = subst P (sym conns) refl; number = refl };
+        alive = alive;
+        busy = busy;
+        first = others_idle w s.shared h none conns;
+        new_is = subst Q (sym conns) refl;
+      };
+      new_is = subst T (sym is) refl;
+    }

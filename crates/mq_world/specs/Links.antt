@@ -1,10 +1,11 @@
 -- What one step of a connection on its link does.
-use Rattle.std.specs.Prelude.{◌≡◌, ℕ, ◌⊎◌, List, [], length, Option, Some, None}
+use Rattle.std.specs.Prelude.{◌≡◌, ◌≢◌, ℕ, ◌⊎◌, List, [], length, Option, Some, None, Result, Ok, Err}
+use Rattle.mq_wire.specs.declared.NoMemory.{NoMemory}
 use Rattle.mq_talk.specs.declared.book.Call.{Call}
 use Rattle.mq_talk.specs.declared.note.End.{End}
 use Rattle.mq_talk.specs.declared.note.Note.{Note}
 use Rattle.mq_talk.specs.declared.note.Note.TheVariants.{Accepted, Took, Ported, Opened, Refused, Sent, Wrote, Closed, Ended}
-use Rattle.mq_machine.specs.ConnNext.{WantNext, WroteNext, TookNext, IsOver}
+use Rattle.mq_machine.specs.ConnNext.{WantNext, WroteNext, TookNext, CanRead, starved, IsOver}
 use Rattle.mq_machine.specs.Next.{Takes}
 use Rattle.mq_machine.specs.State.{Conn, owed}
 use Rattle.mq_conn.specs.declared.connection.Connection.{Connection}
@@ -38,7 +39,17 @@ abbrev pub Reads : ℕ → List (List ℕ) → Conn → Option Note → List (Li
 Reads conn pieces s None left c = (pieces ≡ []) × (left ≡ []) × IsConn c s
 Reads conn pieces s (Some note) left c = DidRead conn pieces s note left c
 
--- what is due, or the end
+-- a read was refused memory
+pub record StarvedReading (pieces : List (List ℕ)) (s : Conn) (left : List (List ℕ)) (c : Connection) : Type 0 where
+  pub some : pieces ≢ []
+  pub left_is : left ≡ pieces
+  pub is : IsConn c (starved s)
+
+abbrev pub TriesRead : ℕ → List (List ℕ) → Conn → Result (Option Note) NoMemory → List (List ℕ) → Connection → Type 0
+TriesRead conn pieces s (Ok note) left c = Reads conn pieces s note left c
+TriesRead conn pieces s (Err refused) left c = StarvedReading pieces s left c
+
+-- what is next
 pub record DidWant (conn entries : ℕ) (pieces : List (List ℕ)) (s : Conn) (note : Note) (left : List (List ℕ)) (c : Connection) : Type 0 where
   pub t : Conn
   pub calls : List Call
@@ -52,6 +63,8 @@ pub record DidWrite (conn : ℕ) (pieces : List (List ℕ)) (s : Conn) (note : N
   pub bytes : List ℕ
   pub note_is : note ≡ Wrote conn bytes
   pub due : s.due ≡ []
+  pub live : s.ending ≢ None → s.tunnels ≡ []
+  pub over : NotOver s
   pub wrote : WroteNext s bytes t
   pub left_is : left ≡ pieces
   pub is : IsConn c t
@@ -74,3 +87,14 @@ abbrev pub Does : ℕ → ℕ → List (List ℕ) → Conn → Option Note → L
 Does conn entries pieces s None left c = DidNothing pieces s left c
 Does conn entries pieces s (Some note) left c =
     DidWant conn entries pieces s note left c ⊎ (DidWrite conn pieces s note left c ⊎ ReadLast conn pieces s note left c)
+
+-- the connection was refused memory for what is due, or for a read
+pub record Starves (pieces : List (List ℕ)) (s : Conn) (left : List (List ℕ)) (c : Connection) : Type 0 where
+  pub alive : s.ending ≡ None
+  pub busy : (s.due ≢ []) ⊎ (CanRead s × (pieces ≢ []))
+  pub left_is : left ≡ pieces
+  pub is : IsConn c (starved s)
+
+abbrev pub Tries : ℕ → ℕ → List (List ℕ) → Conn → Result (Option Note) NoMemory → List (List ℕ) → Connection → Type 0
+Tries conn entries pieces s (Ok note) left c = Does conn entries pieces s note left c
+Tries conn entries pieces s (Err refused) left c = Starves pieces s left c

@@ -1,13 +1,13 @@
 -- What the world stands for, and what happens to it.
 use Rattle.std.specs.Prelude.{◌≡◌, ℕ, ◌+◌, ◌≤◌, List, [], ◌∷◌, length, Option, Some, None, Result, Ok, Err}
 use Rattle.mq_machine.specs.declared.line.Line.TheVariants as line
-use Rattle.mq_machine.specs.Next.{Turn, Quiet}
+use Rattle.mq_machine.specs.Next.{Turn, SilentTurn, Quiet}
 use Rattle.mq_machine.specs.Play.{LinePlays, IsBadHere, Arrives}
 use Rattle.mq_machine.specs.State.{State, start}
 use Rattle.mq_world.specs.declared.event.Event.{Event}
 use Rattle.mq_world.specs.declared.event.Event.TheVariants.{Conn, Piece, Step}
 use Rattle.mq_world.specs.declared.event.Stepped.{Stepped}
-use Rattle.mq_world.specs.declared.event.Stepped.TheVariants.{Done, Did, Idle}
+use Rattle.mq_world.specs.declared.event.Stepped.TheVariants.{Done, Did, Idle, Refused}
 use Rattle.mq_world.specs.declared.event.WorldFault.{WorldFault}
 use Rattle.mq_world.specs.declared.event.WorldFault.TheVariants.{Missing, NoMemory}
 use Rattle.mq_world.specs.declared.world.World.{World}
@@ -48,32 +48,35 @@ IsWorld w s = MayBeLinked w.link s w.entries
 abbrev pub ArrivedOn : State → List ℕ → Link → ℕ → Type 0
 ArrivedOn s bytes link entries = (t : State) × Arrives s 0 bytes t × IsLinked link t entries
 
--- the worker's turn on its link, or it has none
+-- the worker's turn on its link, or it has none, or it was refused memory
 abbrev pub LinkSteps : State → ℕ → Result (Option Note) wire.NoMemory → Link → Type 0
 LinkSteps s entries (Ok (Some note)) link = (t : State) × Turn s 0 note t × IsLinked link t (entries + written note)
 LinkSteps s entries (Ok None) link = Quiet s 0 × IsLinked link s entries
-LinkSteps s entries (Err e) link = Unit {0}
+LinkSteps s entries (Err refused) link = (t : State) × SilentTurn s 0 t × IsLinked link t entries
 
 -- a new link, or that there can be none
 abbrev pub Offers : State → ℕ → Result Stepped WorldFault → World → Type 0
-Offers s actor (Ok Done) w = (t : State) × LinePlays s (line.Conn actor) [] t × IsWorld w t
+Offers s actor (Ok Done) w = (t : State) × LinePlays s (line.Conn actor) 0 [] t × IsWorld w t
 Offers s actor (Err Missing) w = IsBadHere s (line.Conn actor) × IsWorld w s
 Offers s actor (Err NoMemory) w = Unit {0}
 Offers s actor (Ok (Did note)) w = ⊥
 Offers s actor (Ok Idle) w = ⊥
+Offers s actor (Ok Refused) w = ⊥
 
 -- a piece arrives, or its link never was
 abbrev pub Arrived : State → ℕ → List ℕ → Result Stepped WorldFault → World → Type 0
-Arrived s conn bytes (Ok Done) w = (t : State) × LinePlays s (line.Piece conn bytes) [] t × IsWorld w t
+Arrived s conn bytes (Ok Done) w = (t : State) × LinePlays s (line.Piece conn bytes) 0 [] t × IsWorld w t
 Arrived s conn bytes (Err Missing) w = IsBadHere s (line.Piece conn bytes) × IsWorld w s
 Arrived s conn bytes (Err NoMemory) w = Unit {0}
 Arrived s conn bytes (Ok (Did note)) w = ⊥
 Arrived s conn bytes (Ok Idle) w = ⊥
+Arrived s conn bytes (Ok Refused) w = ⊥
 
--- an actor's turn, or it has none, or never was
+-- an actor's turn, or it has none, or was refused memory, or never was
 abbrev pub Stepping : State → ℕ → Result Stepped WorldFault → World → Type 0
 Stepping s actor (Ok (Did note)) w = (t : State) × Turn s actor note t × IsWorld w t
 Stepping s actor (Ok Idle) w = Quiet s actor × IsWorld w s
+Stepping s actor (Ok Refused) w = (t : State) × SilentTurn s actor t × IsWorld w t
 Stepping s actor (Err Missing) w = (length s.workers ≤ actor) × IsWorld w s
 Stepping s actor (Err NoMemory) w = Unit {0}
 Stepping s actor (Ok Done) w = ⊥

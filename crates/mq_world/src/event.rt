@@ -23,6 +23,8 @@ pub enum Stepped {
     Did(Note),
     /// The actor has no step.
     Idle,
+    /// The actor's step was refused memory: it has no note, and its connection is ending.
+    Refused,
 }
 
 /// Why an event didn't happen.

@@ -4,7 +4,7 @@ ghost use Rattle.mq_talk.specs.declared.book.Call.{Call};
 ghost use Rattle.mq_machine.specs.State.{Conn};
 ghost use Rattle.mq_machine.specs.ConnNext.{CanRead};
 ghost use Rattle.mq_conn.specs.Connections.{IsConn};
-ghost use Rattle.mq_world.specs.Links.{Reads, Does, NotOver, written};
+ghost use Rattle.mq_world.specs.Links.{TriesRead, Tries, NotOver, written};
 
 use crate::pieces::Pieces;
 use mq_conn::Connection;
@@ -45,7 +45,7 @@ fn read(
     pieces: &mut Pieces,
     connection: &mut Connection,
 ) -> Result<Option<Note>, NoMemory>
-    ensures { (s : Conn) → IsConn connection.old s → CanRead s → IfOk result (λ note. Reads conn pieces.old s note pieces.new connection.new) }
+    ensures { (s : Conn) → IsConn connection.old s → CanRead s → TriesRead conn pieces.old s result pieces.new connection.new }
 {
     let Some(bytes) = pieces.first() else {
         return Ok(None);
@@ -56,7 +56,7 @@ fn read(
     Ok(Some(Note::Took { conn, count }))
 }
 
-/// One step of a connection that isn't over: what is due, a write, or a read.
+/// One step of a connection that isn't over: what is next, a write, or a read. Where it is refused memory, it is ending.
 pub fn go_on(
     alloc: Global,
     conn: u32,
@@ -64,7 +64,7 @@ pub fn go_on(
     pieces: &mut Pieces,
     connection: &mut Connection,
 ) -> Result<Option<Note>, NoMemory>
-    ensures { (s : Conn) → IsConn connection.old s → NotOver s → IfOk result (λ note. Does conn entries pieces.old s note pieces.new connection.new) }
+    ensures { (s : Conn) → IsConn connection.old s → NotOver s → Tries conn entries pieces.old s result pieces.new connection.new }
 {
     if let Some(note) = connection.act(conn, entries)? {
         return Ok(Some(note));

@@ -114,12 +114,13 @@ impl World {
         let Some(link) = &mut self.link else {
             return Ok(Stepped::Idle);
         };
-        match step_link(alloc, self.entries, link)? {
-            None => Ok(Stepped::Idle),
-            Some(note) => {
+        match step_link(alloc, self.entries, link) {
+            Ok(None) => Ok(Stepped::Idle),
+            Ok(Some(note)) => {
                 self.entries = self.entries.checked_add(written(&note)).ok_or(NoMemory)?;
                 Ok(Stepped::Did(note))
             }
+            Err(_) => Ok(Stepped::Refused),
         }
     }
 }

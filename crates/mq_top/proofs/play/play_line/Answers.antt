@@ -6,7 +6,7 @@ use Rattle.mq_top.proofs.Shown.{prints_none, silent_counts}
 use Rattle.mq_top.proofs.play.play_line.Goals as goal
 
 pub returns-in-Ok-Blank-clause-line : goal.returns-in-Ok-Blank-clause-line
-returns-in-Ok-Blank-clause-line g c = ([], prints_none _ _, λ s is. let says = rw c.in-Ok-Blank.field-0-is at c.in-Ok-Blank.ensures.ok in (Blank, s, says, (refl, refl), is))
+returns-in-Ok-Blank-clause-line g c = ([], prints_none _ _, λ s is. let says = rw c.in-Ok-Blank.field-0-is at c.in-Ok-Blank.ensures.ok in (Blank, s, 0, says, (refl, refl, refl), is))
 
 pub returns-in-Ok-Conn-clause-line : goal.returns-in-Ok-Conn-clause-line
 returns-in-Ok-Conn-clause-line g c = (

@@ -1,4 +1,4 @@
-use Rattle.std.proofs.Common.{[], refl, sym, ◌∙◌, append-nil}
+use Rattle.std.proofs.Common.{[], refl, sym, ◌∙◌, append-nil, inl, inr}
 use Rattle.std.proofs.lemmas.Result.{err_from_is_err_and}
 use Rattle.mq_machine.specs.Text.{note_line}
 use Rattle.mq_top.proofs.Playing.{spilled, unprinted}
@@ -13,7 +13,7 @@ returns-in_ok-spill-in-Ok-Did-clause-step g c =
       prints_flushed _ _ _ _ _ _ shown said c.in_ok-spill-in-Ok-Did.ensures.prints,
       λ s is.
           let told = rw c.in-Ok-Did.field-0-is at (c.in-Ok-Did.ensures s is) in
-          (c.in-Ok-Did.note, told.0, told.1, refl, told.2),
+          inl (c.in-Ok-Did.note, told.0, told.1, refl, told.2),
     )
 
 pub returns-in_err-spill-in-Ok-Did-clause-step : goal.returns-in_err-spill-in-Ok-Did-clause-step
@@ -39,3 +39,6 @@ returns-in_err-print_idle-in-Ok-Idle-clause-step g c = (
 
 pub returns-in-Err-Missing-clause-step : goal.returns-in-Err-Missing-clause-step
 returns-in-Err-Missing-clause-step g c = ([], prints_none _ _, λ s is. let told = rw c.in-Err-Missing.field-0-is at (c.in-Err-Missing.ensures s is) in (told.0, refl))
+
+pub returns-in-Ok-Refused-clause-step : goal.returns-in-Ok-Refused-clause-step
+returns-in-Ok-Refused-clause-step g c = ([], prints_none _ _, λ s is. let told = rw c.in-Ok-Refused.field-0-is at (c.in-Ok-Refused.ensures s is) in inr (told.0, told.1, refl, told.2))

@@ -1,7 +1,7 @@
-use Rattle.std.proofs.Common.{◌≡◌, ℕ, suc, ◌-◌, ◌++◌, List, sym, ◌∙◌, subst, arith}
+use Rattle.std.proofs.Common.{[], refl, ◌≡◌, ℕ, suc, ◌-◌, ◌++◌, List, sym, ◌∙◌, subst, arith}
 use Rattle.std.proofs.lemmas.Result.{err_from_is_err_and}
-use Rattle.mq_top.proofs.Shown.{prints_more}
-use Rattle.mq_top.proofs.Steps.{Far, far_more, far_done, far_idle, far_stopped}
+use Rattle.mq_top.proofs.Shown.{prints_none, prints_more}
+use Rattle.mq_top.proofs.Steps.{far_none, far_moves, far_done, far_idle, far_stopped}
 use Rattle.mq_top.proofs.play.take_steps.Goals as goal
 
 pub returns-in_err-take_step-clause-runs : goal.returns-in_err-take_step-clause-runs
@@ -19,6 +19,9 @@ returns-in_err-take_step-clause-runs g c =
           rw (p.1, p.2) (far_stopped s far.0 c.args.actor c.args.count left (left - 1) inv.0 step.0 c.in_err-take_step.field-0.0 w w e far.2 (step.2 far.0 far.1)),
     )
 
+pub loop-left-init : goal.loop-left-init
+loop-left-init g c = ([], prints_none _ _, (λ s is. (s, is, far_none s c.args.actor c.args.count)), refl)
+
 pub loop-left-preserved : goal.loop-left-preserved
 loop-left-preserved g c =
     let inv = c.loop-left.invariant in
@@ -30,8 +33,7 @@ loop-left-preserved g c =
       (λ s is.
           let far = inv.2 s is in
           let told = rw c.in-Acted.is at (step.2 far.0 far.1) in
-          let P : List ℕ → Type 0 = λ shown. Far s c.args.actor c.args.count (inv.0 ++ shown) told.1 (left - 1) in
-          (told.1, told.4, subst P (sym told.3) (far_more s far.0 told.1 c.args.actor c.args.count left (left - 1) inv.0 told.0 e far.2 told.2))),
+          far_moves s far.0 c.args.actor c.args.count left (left - 1) inv.0 step.0 c.take_step.new.world e far.2 told),
       c.in_ok-take_step.ensures.counts ∙ inv.3,
     )
 

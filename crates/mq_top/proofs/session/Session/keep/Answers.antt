@@ -1,7 +1,8 @@
-use Rattle.std.proofs.Common.{◌≡◌, ℕ, ◌++◌, List, [], refl, subst, arith, append-nil}
+use Rattle.std.proofs.Common.{◌≡◌, ℕ, ◌++◌, List, [], refl, sym, subst, arith, append_assoc, append-nil}
 use Rattle.std.proofs.lemmas.Grind.{common_steps}
 use Rattle.std.proofs.lemmas.Result.{err_from_is_err_and}
-use Rattle.mq_top.proofs.Reading.{too_much, kept, room_silent}
+use Rattle.mq_top.proofs.Reading.{too_much, kept, no_memory, room_silent}
+use Rattle.mq_machine.specs.Play.{IsPlayedPart}
 use Rattle.mq_top.specs.Reading.{StopsAt}
 use Rattle.mq_top.specs.declared.session.Session.{Session}
 use Rattle.mq_top.proofs.session.Session.keep.Goals as goal
@@ -20,6 +21,12 @@ pub returns-in_err-count-clause-silent : goal.returns-in_err-count-clause-silent
 returns-in_err-count-clause-silent c =
     let p = err_from_is_err_and c.from_residual.result c.from_residual.ensures.1 in
     rw (p.1, p.2) (room_silent _ _ _ c.in_err-count.field-0.0 c.in_err-count.ensures)
+
+pub returns-then-is_err-clause-keeps : goal.returns-then-is_err-clause-keeps
+returns-then-is_err-clause-keeps c = λ script lines text plain r more.
+    let bytes = c.args.bytes.now in
+    let P : List ℕ → Type 0 = λ whole. IsPlayedPart whole text in
+    subst P (sym (append_assoc script bytes more)) (no_memory c.args.self.now script lines text (bytes ++ more) r)
 
 pub returns-clause-keeps : goal.returns-clause-keeps
 returns-clause-keeps c = λ script lines text plain r.

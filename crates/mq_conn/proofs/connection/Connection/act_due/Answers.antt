@@ -10,7 +10,7 @@ use Rattle.mq_machine.specs.ConnNext.{goal_kind, without}
 use Rattle.mq_machine.specs.State.{Tunnel}
 use Rattle.mq_conn.specs.Connections.{Follows, tunnels_of}
 use Rattle.mq_conn.proofs.Doing.{ends, done, owed_more, given_more, live_tunnel, no_tunnels, serves_opening, serves_opened, serves_on, serves_no_end, serves_no_refusal, follows_none, without_none, still}
-use Rattle.mq_conn.proofs.connection.Connection.act.Goals as goal
+use Rattle.mq_conn.proofs.connection.Connection.act_due.Goals as goal
 
 pub returns-in-Some-Payload : goal.returns-in-Some-Payload
 returns-in-Some-Payload c = λ s is.
@@ -59,7 +59,7 @@ returns-in-Some-Malformed c = λ s is.
         tunnels = live.removed ∙ ap tunnels_of (sym none);
         follows = follows_none _ (without stream rest) (sym left ∙ follows.2);
         phase = done c.args.self.now.phase s.reads s.due _ rest (without stream rest) _ _ s.ending (Some end.Tunnel) due (λ w. ends (without stream rest) end.Tunnel) (λ w. serves_no_end (is_some c.args.self.now.tunnel) (is_some c.take.new.self) stream rest (without stream rest) w) is.phase;
-        closed = λ h. record { due = sym left ∙ follows.2; tunnels = live.removed };
+        closed = λ h. sym left ∙ follows.2;
       },
     )
 
@@ -82,7 +82,7 @@ returns-in_ok-refusal-in-Some-Refuse c = λ s is.
         tunnels = is.tunnels;
         follows = follows_none _ rest follows.1;
         phase = done c.args.self.now.phase s.reads s.due _ rest rest _ _ s.ending (Some end.Refused) due (λ w. ends rest end.Refused) (λ w. serves_no_refusal (is_some c.args.self.now.tunnel) (is_some c.args.self.now.tunnel) refuse.stream refuse.status refuse.rule rest rest w) is.phase;
-        closed = λ h. record { due = follows.1; tunnels = no_tunnels c.args.self.now.tunnel s is.tunnels follows.0 };
+        closed = λ h. follows.1;
       },
     )
 
