@@ -1,4 +1,4 @@
-use Rattle.std.proofs.Common.{[], refl, ◌≡◌, ℕ, suc, ◌-◌, ◌++◌, List, sym, ◌∙◌, subst, arith}
+use Rattle.std.proofs.Common.{[], refl, ◌≡◌, suc, ◌-◌, ◌++◌, ◌∙◌, arith}
 use Rattle.std.proofs.lemmas.Result.{err_from_is_err_and}
 use Rattle.mq_top.proofs.Shown.{prints_none, prints_more}
 use Rattle.mq_top.proofs.Steps.{far_none, far_moves, far_done, far_idle, far_stopped}

@@ -1,4 +1,4 @@
-use Rattle.std.proofs.Common.{◌≡◌, List, ℕ, [], Option, sym, subst}
+use Rattle.std.proofs.Common.{List, ℕ, [], Option, sym, subst}
 use Rattle.mq_machine.specs.State.{State}
 use Rattle.mq_machine.specs.declared.line.Line.TheVariants as line
 use Rattle.mq_machine.specs.Play.{LinePlays}
