@@ -32,6 +32,7 @@ pub fn checksum(alloc: Global, count: u32) -> Result<u64, HuffFault> {
     Ok(sum)
 }
 
-fn ends(bytes: &[u8]) -> u64 {
+/// The number of bytes and the last of them.
+pub fn ends(bytes: &[u8]) -> u64 {
     bytes.len() as u64 + u64::from(bytes.last().copied().unwrap_or(0))
 }

@@ -3,9 +3,11 @@ pub mod Bounds
 pub mod Fits
 pub mod Found
 pub mod Integers
+pub mod OneReading
 pub mod ReadBack
 pub mod Readings
 pub mod Shorter
+pub mod Slots
 pub mod Spelling
 pub mod Statics
 pub mod StringsBack

@@ -9,7 +9,7 @@ use Rattle.mq_hpack.specs.declared.static_table.TheConstants.{STARTS, MIDDLES, T
 use Rattle.mq_hpack.specs.Static.{static_fields}
 use Rattle.mq_hpack.proofs.Found.{length-static}
 
-unfoldable same : List ℕ → List ℕ → Bool
+unfoldable pub same : List ℕ → List ℕ → Bool
 same [] [] = true
 same [] (y ∷ ys) = false
 same (x ∷ xs) [] = false
@@ -29,12 +29,12 @@ all_placed : IsTrue (placed 684 TEXT static_fields STARTS MIDDLES)
 unfolding placed same static_fields
 all_placed = refl
 
-both : (a b : Bool) → (a && b) ≡ true → (a ≡ true) × (b ≡ true)
+pub both : (a b : Bool) → (a && b) ≡ true → (a ≡ true) × (b ≡ true)
 both true true h = (refl, refl)
 both true false h = cc
 both false b h = cc
 
-is_same : (xs ys : List ℕ) → same xs ys ≡ true → xs ≡ ys
+pub is_same : (xs ys : List ℕ) → same xs ys ≡ true → xs ≡ ys
 unfolding same
 is_same [] [] h = refl
 is_same [] (y ∷ ys) h = cc

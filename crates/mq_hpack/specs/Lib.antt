@@ -3,7 +3,9 @@ pub mod Decoder
 pub mod Encoder
 pub mod Form
 pub mod Integer
+pub mod OneReading
 pub mod ReadBack
+pub mod Slot
 pub mod Static
 pub mod Table
 pub mod Taking

@@ -18,6 +18,9 @@ use std::marker::Model;
 /// The most that the fields of one block may count.
 const MOST: u32 = 16384;
 
+/// Few blocks have more fields than this.
+const USUAL: usize = 20;
+
 /// Reads the blocks of a connection, one after another. After a fault it is spent, and answers that
 /// fault again; want of memory spends it too.
 #[derive(Drop)]
@@ -77,7 +80,7 @@ impl Decoder {
 fn read_block(alloc: Global, table: &mut FieldTable, bytes: &[u8]) -> Result<Vec<Field>, HpackFault>
     ensures { Tells (λ fields. (fields.items, table.new)) (Reads table.old bytes.now) result }
 {
-    let mut fields = Vec::new(alloc);
+    let mut fields = Vec::with_capacity(alloc, USUAL)?;
     let mut total = 0;
     let mut rest = bytes;
     while !rest.is_empty() {

@@ -87,6 +87,150 @@ fn several_rows() -> &'static str {
 "
 }
 
+/// Each field of the static table.
+fn table_rows() -> &'static str {
+    "\
+:authority:  is 81
+:method: GET is 82
+:method: POST is 83
+:path: / is 84
+:path: /index.html is 85
+:scheme: http is 86
+:scheme: https is 87
+:status: 200 is 88
+:status: 204 is 89
+:status: 206 is 8a
+:status: 304 is 8b
+:status: 400 is 8c
+:status: 404 is 8d
+:status: 500 is 8e
+accept-charset:  is 8f
+accept-encoding: gzip, deflate is 90
+accept-language:  is 91
+accept-ranges:  is 92
+accept:  is 93
+access-control-allow-origin:  is 94
+age:  is 95
+allow:  is 96
+authorization:  is 97
+cache-control:  is 98
+content-disposition:  is 99
+content-encoding:  is 9a
+content-language:  is 9b
+content-length:  is 9c
+content-location:  is 9d
+content-range:  is 9e
+content-type:  is 9f
+cookie:  is a0
+date:  is a1
+etag:  is a2
+expect:  is a3
+expires:  is a4
+from:  is a5
+host:  is a6
+if-match:  is a7
+if-modified-since:  is a8
+if-none-match:  is a9
+if-range:  is aa
+if-unmodified-since:  is ab
+last-modified:  is ac
+link:  is ad
+location:  is ae
+max-forwards:  is af
+proxy-authenticate:  is b0
+proxy-authorization:  is b1
+range:  is b2
+referer:  is b3
+refresh:  is b4
+retry-after:  is b5
+server:  is b6
+set-cookie:  is b7
+strict-transport-security:  is b8
+transfer-encoding:  is b9
+user-agent:  is ba
+vary:  is bb
+via:  is bc
+www-authenticate:  is bd
+"
+}
+
+/// Each name of the static table, with a value that it doesn't have there.
+fn name_rows() -> &'static str {
+    "\
+:authority: @@ is 01024040
+:method: @@ is 02024040
+:path: @@ is 04024040
+:scheme: @@ is 06024040
+:status: @@ is 08024040
+accept-charset: @@ is 0f00024040
+accept-encoding: @@ is 0f01024040
+accept-language: @@ is 0f02024040
+accept-ranges: @@ is 0f03024040
+accept: @@ is 0f04024040
+access-control-allow-origin: @@ is 0f05024040
+age: @@ is 0f06024040
+allow: @@ is 0f07024040
+authorization: @@ is 0f08024040
+cache-control: @@ is 0f09024040
+content-disposition: @@ is 0f0a024040
+content-encoding: @@ is 0f0b024040
+content-language: @@ is 0f0c024040
+content-length: @@ is 0f0d024040
+content-location: @@ is 0f0e024040
+content-range: @@ is 0f0f024040
+content-type: @@ is 0f10024040
+cookie: @@ is 0f11024040
+date: @@ is 0f12024040
+etag: @@ is 0f13024040
+expect: @@ is 0f14024040
+expires: @@ is 0f15024040
+from: @@ is 0f16024040
+host: @@ is 0f17024040
+if-match: @@ is 0f18024040
+if-modified-since: @@ is 0f19024040
+if-none-match: @@ is 0f1a024040
+if-range: @@ is 0f1b024040
+if-unmodified-since: @@ is 0f1c024040
+last-modified: @@ is 0f1d024040
+link: @@ is 0f1e024040
+location: @@ is 0f1f024040
+max-forwards: @@ is 0f20024040
+proxy-authenticate: @@ is 0f21024040
+proxy-authorization: @@ is 0f22024040
+range: @@ is 0f23024040
+referer: @@ is 0f24024040
+refresh: @@ is 0f25024040
+retry-after: @@ is 0f26024040
+server: @@ is 0f27024040
+set-cookie: @@ is 0f28024040
+strict-transport-security: @@ is 0f29024040
+transfer-encoding: @@ is 0f2a024040
+user-agent: @@ is 0f2b024040
+vary: @@ is 0f2c024040
+via: @@ is 0f2d024040
+www-authenticate: @@ is 0f2e024040
+"
+}
+
+/// Names as long as one of the static table, with its first and last byte; and parts of names.
+fn near_rows() -> &'static str {
+    "\
+axe: @@ is 0003617865024040
+acceqt: @@ is 008419085ec9024040
+dbte: @@ is 0083923497024040
+lonk: @@ is 0083a0f575024040
+:stotus: @@ is 0085b8849d36a3024040
+:mathod: @@ is 0085b948d339e4024040
+hoot: @@ is 00839ce74f024040
+usar-agent: @@ is 0087b503b161cc5a93024040
+content-typo: @@ is 008921ea496a4ac9f559ff024040
+ageage: @@ is 00841cc51cc5024040
+a: @@ is 000161024040
+e: @@ is 000165024040
+accept-: @@ is 008519085ad2b7024040
+"
+}
+
 fn bytes_of(alloc: Global, text: &str) -> Result<Bytes, Fail> {
     Ok(Bytes::from_vec(Vec::from_slice(alloc, text.as_bytes())?))
 }
@@ -155,6 +299,13 @@ fn each_field_has_its_form(rt: HostRuntime) -> Result<(), Fail> {
     check_later(&rt, rt.alloc(), named_rows())?;
     check_later(&rt, rt.alloc(), new_rows())?;
     check_later(&rt, rt.alloc(), several_rows())
+}
+
+#[test]
+fn the_static_table_is_searched_whole(rt: HostRuntime) -> Result<(), Fail> {
+    check_later(&rt, rt.alloc(), table_rows())?;
+    check_later(&rt, rt.alloc(), name_rows())?;
+    check_later(&rt, rt.alloc(), near_rows())
 }
 
 /// The first bytes of a field whose value is a letter, so many times.

@@ -19,7 +19,7 @@ pub use decoder::Decoder;
 pub use encoder::Encoder;
 pub use fault::HpackFault;
 pub use field::Field;
-pub use laws::{is_read_back, is_read_too_large};
+pub use laws::{has_one_reading, is_read_back, is_read_too_large};
 
 #[cfg(test)]
 mod decoder_tests;

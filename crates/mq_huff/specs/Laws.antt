@@ -1,7 +1,7 @@
 -- The laws of the code.
-use Rattle.std.specs.Prelude.{◌≡◌, ℕ, ◌≤◌, Bool, List, ◌++◌, length}
+use Rattle.std.specs.Prelude.{◌≡◌, ℕ, ◌≤◌, ◌⊎◌, Bool, List, ◌++◌, length}
 use Rattle.mq_huff.specs.Code.{code_of}
-use Rattle.mq_huff.specs.Coded.{IsCoded, AreBytes}
+use Rattle.mq_huff.specs.Coded.{IsCoded, MeetsEos, IsBadlyPadded, AreBytes}
 
 -- no code begins another
 abbrev pub IsPrefixFree : Type 0
@@ -18,3 +18,11 @@ HaveOneReading = (a b bytes : List ℕ) → IsCoded a bytes → IsCoded b bytes 
 -- a text has one code
 abbrev pub HaveOneCoding : Type 0
 HaveOneCoding = (text a b : List ℕ) → AreBytes a → AreBytes b → IsCoded text a → IsCoded text b → a ≡ b
+
+-- bytes that are the code of a text have no fault
+abbrev pub HaveTextOrFault : Type 0
+HaveTextOrFault = (text bytes : List ℕ) → IsCoded text bytes → MeetsEos bytes ⊎ IsBadlyPadded bytes → ⊥
+
+-- no bytes have both faults
+abbrev pub HaveOneFault : Type 0
+HaveOneFault = (bytes : List ℕ) → MeetsEos bytes → IsBadlyPadded bytes → ⊥

@@ -30,7 +30,9 @@ pub fn decode(alloc: Global, text: &[u8]) -> Result<Vec<u8>, HuffFault>
 fn walk(alloc: Global, text: &[u8]) -> Result<Vec<u8>, HuffFault>
     ensures { Tells text.now result }
 {
-    let mut out = Vec::new(alloc);
+    // No code is shorter than five bits, so there is room for all symbols.
+    let room = (text.len() / 5).saturating_add(1).saturating_mul(8);
+    let mut out = Vec::with_capacity(alloc, room)?;
     let mut state = 0;
     for byte in text {
         state = read_byte(&mut out, state, *byte)?;

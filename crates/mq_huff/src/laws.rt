@@ -1,5 +1,5 @@
 //! What holds of the code itself.
-ghost use Rattle.mq_huff.specs.Laws.{HaveOneReading, HaveOneCoding, IsComplete, IsPrefixFree};
+ghost use Rattle.mq_huff.specs.Laws.{HaveOneCoding, HaveOneFault, HaveOneReading, HaveTextOrFault, IsComplete, IsPrefixFree};
 
 /// The table is a whole code: no code begins another, and any 30 bits begin with one.
 pub fn whole_code()
@@ -15,4 +15,11 @@ pub fn one_reading()
 /// A text has one code.
 pub fn one_coding()
     ensures { HaveOneCoding }
+{}
+
+/// Bytes that are the code of a text have no fault, and no bytes have both faults. So what the clauses of `decode`
+/// say of an answer, they say of no other answer.
+pub fn one_answer()
+    ensures text_or_fault { HaveTextOrFault }
+    ensures one_fault { HaveOneFault }
 {}

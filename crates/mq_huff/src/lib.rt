@@ -14,5 +14,5 @@ mod tests;
 pub use decoding::decode;
 pub use encoding::encode;
 pub use fault::HuffFault;
-pub use laws::{one_coding, one_reading, whole_code};
+pub use laws::{one_answer, one_coding, one_reading, whole_code};
 pub use size::encoded_len;

@@ -9,12 +9,12 @@ use Rattle.mq_hpack.proofs.decoder.read_block.Goals as goal
 pub loop-rest-init : goal.loop-rest-init
 loop-rest-init c =
     let P : List Field → Type 0 = λ xs. Leads c.args.table.now c.args.bytes.now xs c.args.table.now 0 c.args.bytes.now in
-    subst P (sym c.new-fields.ensures.items) (leads_start c.args.table.now c.args.bytes.now)
+    subst P (sym c.in_ok-fields.ensures.items) (leads_start c.args.table.now c.args.bytes.now)
 
 pub returns-in_err-form : goal.returns-in_err-form
 returns-in_err-form c =
     let some = nonempty c.loop-rest.rest.now (eqb-false (length c.loop-rest.rest.now) 0 (sym c.is_empty.ensures ∙ c.loop-rest-test.true)) in
-    let p = err_from_is_err_and c.from_residual.result c.from_residual.ensures.1 in
+    let p = err_from_is_err_and c.from_residual-in_err-form.result c.from_residual-in_err-form.ensures.1 in
     rw (p.1, p.2)
     (leads_fault c.args.table.now c.loop-rest.table c.args.bytes.now c.loop-rest.rest.now c.loop-rest.fields.items c.loop-rest.total c.loop-rest.invariant some _ c.in_err-form.ensures)
 

@@ -1,4 +1,4 @@
-use Rattle.std.proofs.Common.{sym, ◌∙◌, ap, arith}
+use Rattle.std.proofs.Common.{sym, ◌∙◌, ap, arith, rules}
 use Rattle.std.proofs.lemmas.List.{take_all}
 use Rattle.std.proofs.lemmas.Result.{err_from_is_err_and}
 use Rattle.mq_huff.specs.Coded.{bits}
@@ -7,9 +7,9 @@ use Rattle.mq_huff.proofs.decoding.walk.Goals as goal
 
 pub loop-byte-init : goal.loop-byte-init
 loop-byte-init c = record {
-  bytes = c.type_inv.out;
+  bytes = rw c.in_ok-out.ensures.items (search rules);
   state = omega arith;
-  walked = rw c.new-out.ensures.items start;
+  walked = rw c.in_ok-out.ensures.items start;
 }
 
 pub loop-byte-preserved : goal.loop-byte-preserved
@@ -22,7 +22,7 @@ loop-byte-preserved c = record {
 
 pub returns-in_err-state : goal.returns-in_err-state
 returns-in_err-state c =
-    let p = err_from_is_err_and c.from_residual.result c.from_residual.ensures.1 in
+    let p = err_from_is_err_and c.from_residual-in_err-state.result c.from_residual-in_err-state.ensures.1 in
     rw (p.1, p.2) (told c.args.text.now c.loop-byte.out.items c.read_byte.new.out.items c.loop-byte.byte-index c.loop-byte.state c.in_err-state.field-0.0
     (omega arith) c.read_byte.ensures.bytes c.loop-byte.invariant.walked c.in_err-state.ensures.steps)
 

@@ -1,6 +1,0 @@
-use Rattle.std.proofs.Common.{◌≡◌}
-use Rattle.mq_hpack.specs.Encoder.{NoneBefore}
-use Rattle.mq_hpack.proofs.search.place_of_name.Given as goal
-
-abbrev pub invariant-loop-at : goal.invariant-loop-at
-invariant-loop-at l = NoneBefore l.at (λ g. g.name ≡ l.name)
