@@ -7,8 +7,10 @@ mod front;
 mod laws;
 mod line;
 mod list;
+mod place;
 mod reader;
 mod rules;
+mod short;
 mod step;
 mod target;
 
