@@ -67,8 +67,7 @@ head_of : (x : List ℕ) → AreLines x → (more rest : List ℕ) (s : List Fie
     → HeadBefore (x ++ more) rest
 head_of x lines more rest s section =
     let read = lines.reads more in
-    let tree : RequestTree = (lines.start, (lines.fields ++ s.0, s.1)) in
-    (
+    let tree : RequestTree = (lines.start, (lines.fields ++ s.0, s.1)) in (
       request_head tree,
       request_from_pieces (x ++ more) tree rest (read.0, read.1, sections_join lines.fields s.0 s.1 read.0 more rest read.2 section),
     )
@@ -208,8 +207,7 @@ methods_before b a n m tn tm more rest h =
       omega (arith, tm.0, length-append m cut.0),
       All-append (λ v. is_token_byte v ≡ true) m cut.0 tm.1 pass.1,
       ap (λ (t : List ℕ). m ++ t) cut.2 ∙ sym (append_assoc m cut.0 (32 ∷ pieces.1.2.0)),
-    ) in
-    (
+    ) in (
       request_head tree,
       request_from_pieces ((print_blank a ++ m) ++ more) tree rest
           (pieces.0, (m ++ more, there, (pieces.1.2.0, word, pieces.1.2.2)), pieces.2),
@@ -239,8 +237,7 @@ words_before x y wx wy more rest h =
     let target = subst (λ (m : List ℕ). Target h.0.target m start.2.2.0) same2.1 start.2.2.1 in
     let same3 = Target_deterministic.unique _ _ _ _ _ target read.2.2 in
     let version = subst (λ (m : List ℕ). Then Version Newline (h.0.minor, h.0.line_end) m pieces.0) same3.1 start.2.2.2 in
-    let tree : RequestTree = ((wy.blank, (wy.method, (wy.target, (h.0.minor, h.0.line_end)))), (h.0.fields, h.0.last)) in
-    (
+    let tree : RequestTree = ((wy.blank, (wy.method, (wy.target, (h.0.minor, h.0.line_end)))), (h.0.fields, h.0.last)) in (
       request_head tree,
       request_from_pieces (y ++ more) tree rest
           (pieces.0, (give.0, give.1, (give.2.0, give.2.1, (more, give.2.2, version))), pieces.2),

@@ -115,7 +115,7 @@ head_has_two bytes h rest x =
 
 -- ---- behind bytes that end in the target
 
-and_parts : (x y : Bool) → (x && y) ≡ true → (x ≡ true) × (y ≡ true)
+pub and_parts : (x y : Bool) → (x && y) ≡ true → (x ≡ true) × (y ≡ true)
 and_parts true y e = (refl, e)
 and_parts false y e = absurd (cc)
 

@@ -4,12 +4,20 @@ use Rattle.httparse.specs.Grammar.{HasNoRequest}
 use Rattle.mq_head.specs.declared.place.Place.{Place}
 use Rattle.mq_head.specs.declared.place.Place.TheVariants.{InTarget, Behind}
 use Rattle.mq_head.specs.Heads.{ends_in_target, CanBecomeHead}
-use Rattle.mq_head.specs.Short.{Alike}
+use Rattle.mq_head.specs.Short.{Alike, Stays}
+use Rattle.mq_head.specs.declared.run.Run.{Run}
 
--- the bytes end inside the request target, or are like the text behind which the next piece is parsed
+-- nothing is decided, the next piece is parsed behind the text, and more of the run changes nothing
+pub record IsBehind (text : List ℕ) (run : Run) (bytes : List ℕ) : Type 0 where
+  pub none : HasNoRequest bytes
+  pub can : CanBecomeHead bytes
+  pub alike : Alike bytes text
+  pub stays : Stays run bytes
+
+-- the bytes end inside the request target, or elsewhere
 abbrev pub IsPlace : Place → List ℕ → Type 0
 IsPlace InTarget bytes = ends_in_target bytes ≡ true
-IsPlace (Behind text) bytes = Alike bytes text.items
+IsPlace (Behind text run) bytes = IsBehind text.items run bytes
 
 -- the bytes with the piece behind them wait for more, but for the limit, and end at this place
 pub record StaysOpen (bytes piece : List ℕ) (place : Place) : Type 0 where

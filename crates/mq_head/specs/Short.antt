@@ -1,7 +1,9 @@
 -- Short texts in place of the bytes so far: a head is found behind them exactly where it is behind those bytes.
-use Rattle.std.specs.Prelude.{◌≡◌, ℕ, Bool, ◌==◌, List, [], ◌∷◌, ◌++◌, take, codes, if◌then◌else◌, Option, Some, None, false}
-use Rattle.std.specs.List.{list_any}
-use Rattle.httparse.specs.Grammar.{RequestHead, ReadsRequest, HasNoRequest}
+use Rattle.std.specs.Prelude.{◌≡◌, ℕ, Bool, ◌==◌, List, [], ◌∷◌, ◌++◌, take, codes, if◌then◌else◌, Option, Some, None, true, false}
+use Rattle.std.specs.List.{list_any, list_all}
+use Rattle.httparse.specs.Grammar.{RequestHead, ReadsRequest, HasNoRequest, is_token, is_value_byte}
+use Rattle.mq_head.specs.declared.run.Run.{Run}
+use Rattle.mq_head.specs.declared.run.Run.TheVariants.{Ended, Token, Value}
 use Rattle.mq_head.specs.Heads.{skip_line_bytes, ends_in_target, CanBecomeHead}
 
 -- a head stands at the front, and then the rest
@@ -18,6 +20,16 @@ pub record IsOpen (bytes : List ℕ) : Type 0 where
   pub none : HasNoRequest bytes
   pub can : CanBecomeHead bytes
   pub outside : ends_in_target bytes ≡ false
+
+-- the bytes go on with a run of this kind
+abbrev pub is_in_run : Run → List ℕ → Bool
+is_in_run Ended bytes = false
+is_in_run Token bytes = is_token bytes
+is_in_run Value bytes = list_all is_value_byte bytes
+
+-- more of the run changes nothing
+abbrev pub Stays : Run → List ℕ → Type 0
+Stays run bytes = (piece : List ℕ) → is_in_run run piece ≡ true → Alike bytes (bytes ++ piece)
 
 abbrev pub has : ℕ → List ℕ → Bool
 has byte bytes = list_any (λ b. b == byte) bytes
@@ -44,6 +56,26 @@ behind_target line = behind_next 32 (behind 32 line)
 unfoldable pub short_line : List ℕ → List ℕ
 short_line line =
     if has 58 line then (if has 13 line then codes "A:\r" else codes "A:") else take 1 line
+
+-- the run of an unfinished line that has no colon
+abbrev pub word_run : List ℕ → Run
+word_run [] = Ended
+word_run (b ∷ bs) = if b == 13 then Ended else Token
+
+abbrev pub line_run : List ℕ → Run
+line_run line = if has 58 line then (if has 13 line then Ended else Value) else word_run line
+
+abbrev pub run_behind : Option (List ℕ) → Run
+run_behind None = Ended
+run_behind (Some section) = line_run (last_line section)
+
+abbrev pub run_start : List ℕ → Option (List ℕ) → Run
+run_start bytes None = word_run (last_line bytes)
+run_start bytes (Some version) = run_behind (behind 10 version)
+
+-- the run in which the bytes end
+abbrev pub run_of : List ℕ → Run
+run_of bytes = run_start bytes (behind_target (skip_line_bytes bytes))
 
 -- behind a request target: what came of the version, or a version and the unfinished line
 abbrev pub short_version : List ℕ → Option (List ℕ) → List ℕ

@@ -10,6 +10,7 @@ mod list;
 mod place;
 mod reader;
 mod rules;
+mod run;
 mod short;
 mod step;
 mod target;

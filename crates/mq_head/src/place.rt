@@ -6,6 +6,7 @@ ghost use Rattle.mq_head.specs.Places.{IsPlace, StaysOpen};
 
 use crate::front::is_open;
 use crate::line::{ends_in_target, stays_in_target};
+use crate::run::Run;
 use crate::short::short;
 use mq_wire::NoMemory;
 use std::alloc::Global;
@@ -15,8 +16,9 @@ use std::alloc::Global;
 pub enum Place {
     /// Inside the request target.
     InTarget,
-    /// Elsewhere. What follows decides the same behind this text, of at most 16 bytes.
-    Behind(Vec<u8>),
+    /// Elsewhere. What follows decides the same behind this text, of at most 16 bytes, and more of the run decides
+    /// nothing.
+    Behind { text: Vec<u8>, run: Run },
 }
 
 impl Place {
@@ -27,8 +29,8 @@ impl Place {
         if ends_in_target(bytes) {
             return Ok(Place::InTarget);
         }
-        let text = short(alloc, bytes)?;
-        Ok(Place::Behind(text))
+        let (text, run) = short(alloc, bytes)?;
+        Ok(Place::Behind { text, run })
     }
 
     /// Where the bytes end with this piece, if they end here and the piece decides nothing. None where only all bytes
@@ -38,7 +40,11 @@ impl Place {
     {
         match self {
             Place::InTarget => Ok(in_target(piece)),
-            Place::Behind(text) => behind_text(alloc, text, piece),
+            Place::Behind { text, run } if run.goes_on(piece) => Ok(Some(Place::Behind {
+                text,
+                run,
+            })),
+            Place::Behind { text, .. } => behind_text(alloc, text, piece),
         }
     }
 }
@@ -62,6 +68,6 @@ fn behind_text(alloc: Global, mut text: Vec<u8>, piece: &[u8]) -> Result<Option<
     if !is_open(alloc, text.as_slice())? {
         return Ok(None);
     }
-    let next = short(alloc, text.as_slice())?;
-    Ok(Some(Place::Behind(next)))
+    let (text, run) = short(alloc, text.as_slice())?;
+    Ok(Some(Place::Behind { text, run }))
 }

@@ -1,8 +1,9 @@
 //! Short texts in place of the first bytes of a head: what follows decides the same behind both.
 ghost use Rattle.std.specs.Prelude.{◌≡◌, ◌++◌, take, option_map, IfOk};
-ghost use Rattle.mq_head.specs.Short.{has, behind, last_line, behind_target, short_line, short};
+ghost use Rattle.mq_head.specs.Short.{has, behind, last_line, behind_target, word_run, short_line, line_run, short, run_of};
 
 use crate::line::skip_line_bytes;
+use crate::run::Run;
 use mq_wire::NoMemory;
 use std::alloc::Global;
 
@@ -52,17 +53,29 @@ fn first_byte(line: &[u8]) -> &[u8]
     first
 }
 
-/// What stands for an unfinished field line.
+/// The run of an unfinished line that has no colon.
+fn word_run(line: &[u8]) -> Run
+    ensures { result ≡ word_run line.now }
+{
+    match line {
+        [] => Run::Ended,
+        [b'\r', ..] => Run::Ended,
+        [_, ..] => Run::Token,
+    }
+}
+
+/// What stands for an unfinished field line, and its run.
 #[tactic(auto, unfolding(crate::specs::Short::short_line))]
-fn short_line(line: &[u8]) -> &[u8]
-    ensures { result.now ≡ short_line line.now }
+fn short_line(line: &[u8]) -> (&[u8], Run)
+    ensures text { result.0.now ≡ short_line line.now }
+    ensures run { result.1 ≡ line_run line.now }
 {
     if !has(b':', line) {
-        first_byte(line)
+        (first_byte(line), word_run(line))
     } else if has(b'\r', line) {
-        b"A:\r"
+        (b"A:\r", Run::Ended)
     } else {
-        b"A:"
+        (b"A:", Run::Value)
     }
 }
 
@@ -74,16 +87,23 @@ fn joined(alloc: Global, front: &[u8], rest: &[u8]) -> Result<Vec<u8>, NoMemory>
     Ok(text)
 }
 
-/// A text of at most 16 bytes that stands for bytes that can become a head, and don't end inside the request target.
+/// A text of at most 16 bytes that stands for bytes that can become a head and don't end inside the request target, and
+/// the run at their end.
 #[tactic(auto, unfolding(crate::specs::Short::short))]
-pub fn short(alloc: Global, bytes: &[u8]) -> Result<Vec<u8>, NoMemory>
-    ensures { IfOk result (λ text. text.items ≡ short bytes.now) }
+pub fn short(alloc: Global, bytes: &[u8]) -> Result<(Vec<u8>, Run), NoMemory>
+    ensures text { IfOk result (λ r. r.0.items ≡ short bytes.now) }
+    ensures run { IfOk result (λ r. r.1 ≡ run_of bytes.now) }
 {
     let Some(version) = behind_target(skip_line_bytes(bytes)) else {
-        return joined(alloc, b"", first_byte(last_line(bytes)));
+        let line = last_line(bytes);
+        let text = joined(alloc, b"", first_byte(line))?;
+        return Ok((text, word_run(line)));
     };
-    match behind(b'\n', version) {
-        None => joined(alloc, b"A / ", version),
-        Some(section) => joined(alloc, b"A / HTTP/1.1\n", short_line(last_line(section))),
-    }
+    let Some(section) = behind(b'\n', version) else {
+        let text = joined(alloc, b"A / ", version)?;
+        return Ok((text, Run::Ended));
+    };
+    let (line, run) = short_line(last_line(section));
+    let text = joined(alloc, b"A / HTTP/1.1\n", line)?;
+    Ok((text, run))
 }

@@ -28,8 +28,7 @@ returns-clause-step c = λ begun.
     let front = c.within_limit-2.result.now in
     let kept = c.extend_from_slice.new.self.items in
     let step : IsStep bytes piece c.in_ok-step.step =
-    step_from_first bytes piece kept front begun (kept_is c) (front_is c) c.in_ok-step.step (answer_is c) in
-    (
+    step_from_first bytes piece kept front begun (kept_is c) (front_is c) c.in_ok-step.step (answer_is c) in (
       step,
       λ is_more.
           let first : IsMore front = subst (IsAnswer front (length bytes)) is_more (answer_is c) in
