@@ -1,12 +1,12 @@
 -- Texts that heads begin with alike.
-use Rattle.std.proofs.Common.{◌≡◌, true, ℕ, ◌+◌, ◌<◌, ◌≤◌, List, [], ◌∷◌, ◌++◌, length, All, refl, sym, ap, ◌∙◌, subst, arith, append_assoc, append-nil, length-append}
+use Rattle.std.proofs.Common.{◌≡◌, true, ℕ, List, [], ◌∷◌, ◌++◌, All, sym, ap, ◌∙◌, subst, arith, append_assoc, length-append}
 use Rattle.std.specs.Prelude.{flat_map}
-use Rattle.std.proofs.lemmas.List.Elements.{All-append, All-head, All-tail, All-push, All-nil, All-cons}
+use Rattle.std.proofs.lemmas.List.Elements.{All-append, All-head, All-tail, All-cons}
 use Rattle.std.proofs.lemmas.Grind.{flat_map-append}
-use Rattle.httparse.specs.Grammar.{is_token_byte, is_value_byte, AllPass, IsToken, LineEnd, print_end, print_blank, Field, IsField, print_field, print_section, RequestHead, ReadsRequest}
-use Rattle.httparse.specs.Pieces.{Piece, Then, Stops, is_newline, Blank, Method, Target, Version, Newline, FieldLine, FieldLines, Section, RequestStart}
-use Rattle.httparse.proofs.PieceLemmas.{Blank_deterministic, Method_deterministic, Target_deterministic, RequestStart_deterministic, Section_skip, newline_not_stopped, print_end_unique, Stops_token, Stops_value, colon_ends_token, space_ends_token, print_field-append, front-append}
-use Rattle.httparse.proofs.GrammarLemmas.{RequestTree, request_tree, request_head, request_pieces, request_from_pieces}
+use Rattle.httparse.specs.Grammar.{is_token_byte, is_value_byte, AllPass, IsToken, LineEnd, print_end, print_blank, Field, IsField, print_field}
+use Rattle.httparse.specs.Pieces.{Then, Stops, is_newline, Blank, Method, Target, Version, Newline, FieldLine, FieldLines, Section, RequestStart}
+use Rattle.httparse.proofs.PieceLemmas.{Blank_deterministic, Method_deterministic, Target_deterministic, RequestStart_deterministic, Section_skip, newline_not_stopped, print_end_unique, Stops_token, Stops_value, colon_ends_token, space_ends_token, print_field-append}
+use Rattle.httparse.proofs.GrammarLemmas.{RequestTree, request_head, request_pieces, request_from_pieces}
 use Rattle.httparse.proofs.RunLemmas.{run_unique}
 use Rattle.mq_head.specs.Short.{HeadBefore, Alike}
 use Rattle.mq_head.proofs.TextLemmas.{run_begins, pass_front}

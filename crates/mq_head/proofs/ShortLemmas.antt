@@ -1,16 +1,16 @@
 -- A text that can become a head is like its short text.
-use Rattle.std.proofs.Common.{◌≡◌, ℕ, zero, suc, ◌+◌, ◌<◌, ◌≤◌, ◌⊎◌, Bool, true, false, cond, List, [], ◌∷◌, ◌++◌, length, take, nat_lt, ◌==◌, All, Option, Some, None, codes, refl, sym, ap, ◌∙◌, subst, arith, append_assoc, append-nil, length-append, inl, inr}
+use Rattle.std.proofs.Common.{◌≡◌, ℕ, zero, suc, ◌<◌, ◌≤◌, ◌⊎◌, Bool, true, false, cond, List, [], ◌∷◌, ◌++◌, length, take, nat_lt, ◌==◌, All, Option, Some, None, codes, refl, sym, ap, ◌∙◌, subst, arith, append_assoc, append-nil, length-append, inl, inr}
 use Rattle.std.specs.Prelude.{flat_map}
 use Rattle.std.proofs.lemmas.List.Elements.{All-nil, All-cons, All-head, All-tail, All-append}
 use Rattle.std.proofs.lemmas.List.Sums.{AllPass-from_list_all}
 use Rattle.std.proofs.lemmas.Bool.{cond-false, ltb-true}
 use Rattle.std.specs.List.{list_all}
-use Rattle.httparse.specs.Grammar.{is_token_byte, is_uri_byte, is_value_byte, AllPass, IsToken, IsRequestHead, LineEnd, crlf, lf, print_end, print_blank, print_version, Field, IsField, print_field, print_section, RequestHead, print_request, ReadsRequest, HasNoRequest}
+use Rattle.httparse.specs.Grammar.{is_token_byte, is_uri_byte, is_value_byte, AllPass, IsToken, IsRequestHead, LineEnd, crlf, lf, print_end, print_blank, print_version, Field, IsField, print_field, print_section, RequestHead, ReadsRequest, HasNoRequest}
 use Rattle.std.specs.Prelude.{IsUtf8}
 use Rattle.std.proofs.lemmas.Str.{IsUtf8-from_ascii}
 use Rattle.std.proofs.lemmas.Str.Ascii.{IsAscii-cons, IsAscii-nil}
-use Rattle.httparse.specs.Pieces.{Then, FieldLines, RequestStart, Section}
-use Rattle.httparse.proofs.PieceLemmas.{Stops_token, colon_ends_token, space_ends_token, print_field-append}
+use Rattle.httparse.specs.Pieces.{Section}
+use Rattle.httparse.proofs.PieceLemmas.{Stops_token, colon_ends_token, space_ends_token}
 use Rattle.httparse.proofs.GrammarLemmas.{print_request-append}
 use Rattle.mq_head.specs.Heads.{skip_line_bytes, ends_in_target, CanBecomeHead}
 use Rattle.mq_head.specs.Short.{Alike, IsOpen, has, behind, last_line, behind_next, behind_target, short_line, short_version, short_start, short, HeadBefore, Stays, is_in_run, word_run, line_run, run_behind, run_start, run_of}

@@ -7,7 +7,6 @@ use Rattle.mq_head.specs.Heads.{IsMore}
 use Rattle.mq_head.specs.Places.{IsPlace}
 use Rattle.mq_head.specs.Steps.{IsStep}
 use Rattle.mq_head.specs.declared.step.HeadStep.{HeadStep}
-use Rattle.mq_head.specs.declared.step.HeadStep as HeadStep
 
 -- these bytes came, and nothing is decided
 abbrev pub IsBegun : List ℕ → Type 0

@@ -38,7 +38,7 @@ fn within_limit(piece: &[u8], before: usize) -> &[u8]
     front
 }
 
-/// Whether bytes behind so many others are fewer than a head may have.
+/// Whether the piece leaves the bytes, so many before it, fewer than the most that a head may have.
 fn is_within(piece: &[u8], before: usize) -> bool
     ensures { result ≡ nat_lt (length piece.now) (head_limit - before) }
 {
