@@ -8,7 +8,7 @@ use Rattle.httparse.specs.Pieces.{Then, Stops, is_newline, Blank, Method, Target
 use Rattle.httparse.proofs.PieceLemmas.{Blank_deterministic, Method_deterministic, Target_deterministic, RequestStart_deterministic, Section_skip, newline_not_stopped, print_end_unique, Stops_token, Stops_value, colon_ends_token, space_ends_token, print_field-append}
 use Rattle.httparse.proofs.GrammarLemmas.{RequestTree, request_head, request_pieces, request_from_pieces}
 use Rattle.httparse.proofs.RunLemmas.{run_unique}
-use Rattle.mq_head.specs.Short.{HeadBefore, Alike}
+use Rattle.mq_head.specs.Alike.{HeadBefore, Alike}
 use Rattle.mq_head.proofs.TextLemmas.{run_begins, pass_front}
 
 -- ---- what holds of all

@@ -9,7 +9,8 @@ use Rattle.std.proofs.lemmas.List.Folds.{list_any-append}
 use Rattle.std.proofs.lemmas.List.Elements.{All-head, All-tail}
 use Rattle.httparse.specs.Grammar.{AllPass, is_token_byte, is_uri_byte, IsToken, LineEnd, crlf, lf, print_end, print_blank, RequestHead, ReadsRequest, HasNoRequest, EndsInTarget, print_version, print_section}
 use Rattle.httparse.proofs.GrammarLemmas.{print_request-append}
-use Rattle.mq_head.specs.Heads.{is_line_byte, is_space, skip_line_bytes, has_one_space, stays_in_target, ends_in_target}
+use Rattle.mq_head.specs.Heads.{is_line_byte, is_space, skip_line_bytes, has_one_space, ends_in_target}
+use Rattle.mq_head.specs.Places.{stays_in_target}
 
 -- neither a space nor a line byte
 abbrev pub IsPlain : ℕ → Type 0

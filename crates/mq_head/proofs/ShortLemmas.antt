@@ -13,7 +13,8 @@ use Rattle.httparse.specs.Pieces.{Section}
 use Rattle.httparse.proofs.PieceLemmas.{Stops_token, colon_ends_token, space_ends_token}
 use Rattle.httparse.proofs.GrammarLemmas.{print_request-append}
 use Rattle.mq_head.specs.Heads.{skip_line_bytes, ends_in_target, CanBecomeHead}
-use Rattle.mq_head.specs.Short.{Alike, IsOpen, has, behind, last_line, behind_next, behind_target, short_line, short_version, short_start, short, HeadBefore, Stays, is_in_run, word_run, line_run, run_behind, run_start, run_of}
+use Rattle.mq_head.specs.Alike.{Alike, IsOpen, HeadBefore, Stays, is_in_run}
+use Rattle.mq_head.specs.Short.{has, behind, last_line, behind_next, behind_target, short_line, short_version, short_start, short, word_run, line_run, run_behind, run_start, run_of}
 use Rattle.std.proofs.Common.{Vec, Global}
 use Rattle.mq_head.specs.declared.place.Place.TheVariants.{Behind}
 use Rattle.mq_head.specs.Places.{IsBehind, StaysOpen}

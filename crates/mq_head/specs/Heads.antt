@@ -35,10 +35,6 @@ has_one_space line = (count_by is_space line == 1) && not (list_any is_line_byte
 unfoldable pub ends_in_target : List ℕ → Bool
 ends_in_target bytes = has_one_space (skip_line_bytes bytes)
 
--- no space, and no CR or LF
-abbrev pub stays_in_target : List ℕ → Bool
-stays_in_target piece = (count_by is_space piece == 0) && not (list_any is_line_byte piece)
-
 -- some bytes can follow that make these a whole head
 abbrev pub CanBecomeHead : List ℕ → Type 0
 CanBecomeHead bytes = (more : List ℕ) × (head : RequestHead) × ReadsRequest (bytes ++ more) head []

@@ -3,6 +3,7 @@ pub mod Fields
 pub mod Target
 pub mod Rules
 pub mod Heads
+pub mod Alike
 pub mod Short
 pub mod Steps
 pub mod Places

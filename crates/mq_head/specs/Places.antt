@@ -1,11 +1,16 @@
 -- Where the bytes so far end.
-use Rattle.std.specs.Prelude.{◌≡◌, ◌⊎◌, List, ℕ, ◌++◌, true, IsTrue}
+use Rattle.std.specs.Prelude.{◌≡◌, ◌⊎◌, List, ℕ, ◌++◌, Bool, true, IsTrue, not, ◌&&◌, ◌==◌, count_by}
+use Rattle.std.specs.List.{list_any}
 use Rattle.httparse.specs.Grammar.{HasNoRequest}
 use Rattle.mq_head.specs.declared.place.Place.{Place}
 use Rattle.mq_head.specs.declared.place.Place.TheVariants.{InTarget, Behind}
-use Rattle.mq_head.specs.Heads.{ends_in_target, CanBecomeHead}
-use Rattle.mq_head.specs.Short.{Alike, Stays}
+use Rattle.mq_head.specs.Heads.{is_space, is_line_byte, ends_in_target, CanBecomeHead}
+use Rattle.mq_head.specs.Alike.{Alike, Stays}
 use Rattle.mq_head.specs.declared.run.Run.{Run}
+
+-- no space, and no CR or LF
+abbrev pub stays_in_target : List ℕ → Bool
+stays_in_target piece = (count_by is_space piece == 0) && not (list_any is_line_byte piece)
 
 -- nothing is decided, the next piece is parsed behind the text, and more of the run changes nothing
 pub record IsBehind (text : List ℕ) (run : Run) (bytes : List ℕ) : Type 0 where

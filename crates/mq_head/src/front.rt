@@ -3,7 +3,7 @@ ghost use Rattle.std.specs.Prelude.{◌≡◌, ◌≤◌, ◌<◌, ◌/◌, leng
 ghost use Rattle.httparse.specs.Grammar.{HasNoRequest};
 ghost use Rattle.httparse.specs.Spans.{IsRequestWithin, IsRequestOf};
 ghost use Rattle.mq_head.specs.Heads.{CanBecomeHead, ends_in_target, head_limit};
-ghost use Rattle.mq_head.specs.Short.{IsOpen};
+ghost use Rattle.mq_head.specs.Alike.{IsOpen};
 ghost use Rattle.mq_head.specs.Parsed.{IsParsed, IsAnswer};
 
 use crate::line::ends_in_target;

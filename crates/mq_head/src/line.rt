@@ -1,7 +1,8 @@
 //! Whether the bytes of a connection end inside the request target.
 ghost use Rattle.std.specs.Prelude.{◌≡◌, count_by};
 ghost use Rattle.std.specs.List.{list_any};
-ghost use Rattle.mq_head.specs.Heads.{ends_in_target, has_one_space, stays_in_target, is_space, skip_line_bytes, is_line_byte};
+ghost use Rattle.mq_head.specs.Heads.{ends_in_target, has_one_space, is_space, skip_line_bytes, is_line_byte};
+ghost use Rattle.mq_head.specs.Places.{stays_in_target};
 
 fn is_line_byte(byte: u8) -> bool
     ensures { result ≡ is_line_byte byte }

@@ -1,7 +1,7 @@
 //! Where the bytes so far end: what a reader knows of them, so that it parses no byte again and again.
 ghost use Rattle.std.specs.Prelude.{◌≡◌, true, ℕ, List, IfOk, IfSome};
 ghost use Rattle.mq_head.specs.Heads.{IsMore, ends_in_target};
-ghost use Rattle.mq_head.specs.Short.{Alike};
+ghost use Rattle.mq_head.specs.Alike.{Alike};
 ghost use Rattle.mq_head.specs.Places.{IsPlace, StaysOpen};
 
 use crate::front::is_open;

@@ -1,6 +1,6 @@
 //! Runs: bytes of which any number may come next and decide nothing.
 ghost use Rattle.std.specs.Prelude.{◌≡◌};
-ghost use Rattle.mq_head.specs.Short.{is_in_run};
+ghost use Rattle.mq_head.specs.Alike.{is_in_run};
 
 use httparse::{is_header_value, is_token};
 

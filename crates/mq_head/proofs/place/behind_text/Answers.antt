@@ -1,6 +1,7 @@
 use Rattle.std.proofs.Common.{◌≡◌, ◌++◌, List, ℕ, subst, sym, ap, ◌∙◌}
 use Rattle.mq_head.specs.declared.run.Run.{Run}
-use Rattle.mq_head.specs.Short.{IsOpen, short, run_of}
+use Rattle.mq_head.specs.Alike.{IsOpen}
+use Rattle.mq_head.specs.Short.{short, run_of}
 use Rattle.mq_head.specs.Places.{IsBehind}
 use Rattle.mq_head.proofs.ShortLemmas.{open_behind, stays_open}
 use Rattle.mq_head.proofs.place.behind_text.Goals as goal

@@ -1,5 +1,5 @@
 use Rattle.std.proofs.Common.{◌≡◌, ◌++◌, true, inl, sym, ◌∙◌}
-use Rattle.mq_head.specs.Heads.{stays_in_target}
+use Rattle.mq_head.specs.Places.{stays_in_target}
 use Rattle.mq_head.proofs.BytesLemmas.{target_stays, target_waits}
 use Rattle.mq_head.proofs.place.in_target.Goals as goal
 

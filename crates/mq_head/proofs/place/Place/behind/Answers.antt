@@ -1,6 +1,6 @@
 use Rattle.std.proofs.Common.{◌≡◌, true, subst, sym, ◌∙◌}
 use Rattle.mq_head.specs.declared.place.Place.{Place}
-use Rattle.mq_head.specs.Short.{is_in_run}
+use Rattle.mq_head.specs.Alike.{is_in_run}
 use Rattle.mq_head.specs.Places.{IsPlace, IsBehind}
 use Rattle.mq_head.proofs.ShortLemmas.{run_behind_stays, stays_open}
 use Rattle.mq_head.proofs.place.Place.behind.Goals as goal
