@@ -51,7 +51,11 @@ pub fn checksum_by_bytes(alloc: Global, count: u32) -> Result<u64, NoMemory> {
 /// The start and what repeats, up to 8,191 bytes.
 fn long(alloc: Global, start: &[u8], repeats: &[u8]) -> Result<Vec<u8>, NoMemory> {
     let mut bytes = Vec::from_slice(alloc, start)?;
-    for byte in repeats.iter().cycle().take(8191usize.saturating_sub(start.len())) {
+    for byte in repeats
+        .iter()
+        .cycle()
+        .take(8191usize.saturating_sub(start.len()))
+    {
         bytes.push(*byte)?;
     }
     Ok(bytes)
