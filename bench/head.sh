@@ -1,5 +1,6 @@
 #!/bin/sh
-# Times the heads of requests: whole, and byte by byte. Build the program first: `rt ci mq_bench`, or `rt run` in its crate.
+# Times the heads of requests: whole, byte by byte, and rounds of six starts of 8,191 bytes each, byte by byte.
+# Build the program first: `rt ci mq_bench`, or `rt run` in its crate.
 # A count may be given for each.
 set -e
 cd "$(dirname "$0")/.."
@@ -13,3 +14,4 @@ run() {
 }
 run head "${1:-200000}"
 run head_bytes "${2:-5000}"
+run head_long "${3:-20}"

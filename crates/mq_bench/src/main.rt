@@ -21,6 +21,7 @@ fn checksum(alloc: Global, word: &str, count: u32) -> Option<u64> {
         "frames_16384" => frames::checksum(alloc, count, 16_384).ok(),
         "head" => head::checksum(alloc, count).ok(),
         "head_bytes" => head::checksum_by_bytes(alloc, count).ok(),
+        "head_long" => head::checksum_of_long(alloc, count).ok(),
         "hpack" => hpack::checksum(alloc, count),
         "hpack_write" => hpack::checksum_written(alloc, count),
         "huffman" => huffman::checksum(alloc, count).ok(),

@@ -2,13 +2,15 @@
 use Rattle.std.proofs.Common.{◌≡◌, ℕ, ◌+◌, Bool, true, false, not, ◌&&◌, ◌||◌, cond, ◌==◌, IsTrue, List, [], ◌∷◌, ◌++◌, refl, sym, ap, subst, ◌∙◌, arith, append_assoc, zero-add}
 use Rattle.std.specs.Prelude.{count_by}
 use Rattle.std.specs.List.{list_any}
-use Rattle.std.proofs.lemmas.Bool.{cond-false, ne_eqb, eq-eqb, and_from}
+use Rattle.std.proofs.lemmas.Bool.{cond-false, ne_eqb, eq-eqb, eqb-true, and_from}
 use Rattle.std.proofs.lemmas.List.{append-nil}
-use Rattle.std.proofs.lemmas.List.Sums.{sum_by-cons}
+use Rattle.std.proofs.lemmas.List.Sums.{sum_by-cons, sum_by-append}
+use Rattle.std.proofs.lemmas.List.Folds.{list_any-append}
 use Rattle.std.proofs.lemmas.List.Elements.{All-head, All-tail}
-use Rattle.httparse.specs.Grammar.{AllPass, is_token_byte, is_uri_byte, IsToken, LineEnd, crlf, lf, print_end, print_blank, RequestHead, ReadsRequest, EndsInTarget, print_version, print_section}
+use Rattle.httparse.specs.Grammar.{AllPass, is_token_byte, is_uri_byte, IsToken, LineEnd, crlf, lf, print_end, print_blank, RequestHead, ReadsRequest, HasNoRequest, EndsInTarget, print_version, print_section}
 use Rattle.httparse.proofs.GrammarLemmas.{print_request-append}
 use Rattle.mq_head.specs.Heads.{is_line_byte, is_space, skip_line_bytes, has_one_space, ends_in_target}
+use Rattle.mq_head.specs.Places.{stays_in_target}
 
 -- neither a space nor a line byte
 abbrev pub IsPlain : ℕ → Type 0
@@ -52,18 +54,18 @@ any_plain test plain (x ∷ xs) ys pass =
     ∙ any_plain test plain xs ys (All-tail (λ b. IsTrue (test b)) x xs pass)
 
 -- the empty lines in front are skipped
-skip_blank : (ends : List LineEnd) (xs : List ℕ) → skip_line_bytes (print_blank ends ++ xs) ≡ skip_line_bytes xs
+pub skip_blank : (ends : List LineEnd) (xs : List ℕ) → skip_line_bytes (print_blank ends ++ xs) ≡ skip_line_bytes xs
 skip_blank [] xs = refl
 skip_blank (crlf ∷ ends) xs = skip_blank ends xs
 skip_blank (lf ∷ ends) xs = skip_blank ends xs
 
 -- and a token isn't
-skip_token : (method xs : List ℕ) → IsToken method → skip_line_bytes (method ++ xs) ≡ method ++ xs
+pub skip_token : (method xs : List ℕ) → IsToken method → skip_line_bytes (method ++ xs) ≡ method ++ xs
 skip_token [] xs token = absurd (omega (arith, token.0))
 skip_token (m ∷ ms) xs token =
     cond-false (is_line_byte m) _ _ (tokens_plain m (All-head (λ b. IsTrue (is_token_byte b)) m ms token.1)).1
 
-skip_start : (ends : List LineEnd) (method xs : List ℕ) → IsToken method
+pub skip_start : (ends : List LineEnd) (method xs : List ℕ) → IsToken method
     → skip_line_bytes (print_blank ends ++ (method ++ xs)) ≡ method ++ xs
 skip_start ends method xs token = skip_blank ends (method ++ xs) ∙ skip_token method xs token
 
@@ -111,3 +113,44 @@ head_has_two bytes h rest x =
     let behind = print_version h.minor ++ (print_end h.line_end ++ (print_section h.fields h.last ++ rest)) in
     let line = ap skip_line_bytes (x.1 ∙ print_request-append h rest) ∙ skip_start h.blank h.method (32 ∷ (h.target ++ 32 ∷ behind)) x.0.method in
     ap has_one_space line ∙ two_spaces h.method h.target behind x.0.method x.0.target.1
+
+-- ---- behind bytes that end in the target
+
+pub and_parts : (x y : Bool) → (x && y) ≡ true → (x ≡ true) × (y ≡ true)
+and_parts true y e = (refl, e)
+and_parts false y e = absurd (cc)
+
+not_parts : (x : Bool) → not x ≡ true → x ≡ false
+not_parts true e = absurd (cc)
+not_parts false e = refl
+
+line_stays : (line piece : List ℕ) → has_one_space line ≡ true → stays_in_target piece ≡ true → has_one_space (line ++ piece) ≡ true
+line_stays line piece one none =
+    let a = and_parts (count_by is_space line == 1) (not (list_any is_line_byte line)) one in
+    let b = and_parts (count_by is_space piece == 0) (not (list_any is_line_byte piece)) none in
+    let spaces : count_by is_space (line ++ piece) ≡ count_by is_space line + count_by is_space piece =
+    sum_by-append (λ c. cond (is_space c) 1 0) line piece in
+    let first = eqb-true (count_by is_space line) 1 a.0 in
+    let second = eqb-true (count_by is_space piece) 0 b.0 in
+    let lines : list_any is_line_byte (line ++ piece) ≡ false =
+    list_any-append is_line_byte line piece ∙ or_false (not_parts _ a.1) (not_parts _ b.1) in
+    and_from _ _ (eq-eqb _ 1 (omega (arith, spaces, first, second))) (ap not lines)
+
+skipped_stays : (bytes piece : List ℕ) → has_one_space (skip_line_bytes bytes) ≡ true → stays_in_target piece ≡ true
+    → has_one_space (skip_line_bytes (bytes ++ piece)) ≡ true
+skipped_stays [] piece one none = absurd (cc)
+skipped_stays (b ∷ bytes) piece one none = by_test (is_line_byte b) (skipped_stays bytes piece) one
+  where
+    by_test : (t : Bool) → (has_one_space (skip_line_bytes bytes) ≡ true → stays_in_target piece ≡ true → has_one_space (skip_line_bytes (bytes ++ piece)) ≡ true)
+        → has_one_space (cond t (skip_line_bytes bytes) (b ∷ bytes)) ≡ true
+        → has_one_space (cond t (skip_line_bytes (bytes ++ piece)) (b ∷ (bytes ++ piece))) ≡ true
+    by_test true later whole = later whole none
+    by_test false later whole = line_stays (b ∷ bytes) piece whole none
+
+pub target_stays : (bytes piece : List ℕ) → ends_in_target bytes ≡ true → stays_in_target piece ≡ true → ends_in_target (bytes ++ piece) ≡ true
+unfolding ends_in_target
+target_stays bytes piece = skipped_stays bytes piece
+
+-- bytes that end in the target hold no head
+pub target_waits : (bytes : List ℕ) → ends_in_target bytes ≡ true → HasNoRequest bytes
+target_waits bytes inside h rest reads = let outside = head_has_two bytes h rest reads in cc

@@ -2,5 +2,8 @@ pub mod ListsLemmas
 pub mod FieldsLemmas
 pub mod BytesLemmas
 pub mod HeadsLemmas
+pub mod TextLemmas
+pub mod AlikeLemmas
+pub mod ShortLemmas
 pub mod RulesLemmas
 pub mod StepsLemmas

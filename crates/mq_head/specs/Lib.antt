@@ -3,7 +3,10 @@ pub mod Fields
 pub mod Target
 pub mod Rules
 pub mod Heads
+pub mod Alike
+pub mod Short
 pub mod Steps
+pub mod Places
 pub mod Reader
 pub mod Answers
 pub mod Laws

@@ -3,6 +3,7 @@ ghost use Rattle.std.specs.Prelude.{◌≡◌, ◌≤◌, ◌<◌, ◌/◌, leng
 ghost use Rattle.httparse.specs.Grammar.{HasNoRequest};
 ghost use Rattle.httparse.specs.Spans.{IsRequestWithin, IsRequestOf};
 ghost use Rattle.mq_head.specs.Heads.{CanBecomeHead, ends_in_target, head_limit};
+ghost use Rattle.mq_head.specs.Alike.{IsOpen};
 ghost use Rattle.mq_head.specs.Parsed.{IsParsed, IsAnswer};
 
 use crate::line::ends_in_target;
@@ -72,6 +73,22 @@ fn without_head(front: &[u8], before: usize) -> HeadStep
         HeadStep::More
     } else {
         HeadStep::Refuse { status: 400 }
+    }
+}
+
+/// Whether bytes that don't end inside the request target hold no head yet, and can become one.
+pub fn is_open(alloc: Global, front: &[u8]) -> Result<bool, NoMemory>
+    ensures { IfOk result (λ answer. IsTrue answer → IsOpen front.now) }
+{
+    if ends_in_target(front) {
+        return Ok(false);
+    }
+    let mut room = vec![in alloc; EMPTY_HEADER_SPAN; front.len() / 3 + 1]?;
+    let headers = room.as_mut_slice();
+    match parse(front, headers) {
+        Parsed::Open => Ok(true),
+        Parsed::Whole(_) => Ok(false),
+        Parsed::Never => Ok(false),
     }
 }
 

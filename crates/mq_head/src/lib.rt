@@ -7,8 +7,11 @@ mod front;
 mod laws;
 mod line;
 mod list;
+mod place;
 mod reader;
 mod rules;
+mod run;
+mod short;
 mod step;
 mod target;
 

@@ -2,6 +2,7 @@
 ghost use Rattle.std.specs.Prelude.{◌≡◌, count_by};
 ghost use Rattle.std.specs.List.{list_any};
 ghost use Rattle.mq_head.specs.Heads.{ends_in_target, has_one_space, is_space, skip_line_bytes, is_line_byte};
+ghost use Rattle.mq_head.specs.Places.{stays_in_target};
 
 fn is_line_byte(byte: u8) -> bool
     ensures { result ≡ is_line_byte byte }
@@ -9,7 +10,8 @@ fn is_line_byte(byte: u8) -> bool
     byte == b'\r' || byte == b'\n'
 }
 
-fn skip_line_bytes(mut bytes: &[u8]) -> &[u8]
+/// The bytes behind the empty lines in front.
+pub fn skip_line_bytes(mut bytes: &[u8]) -> &[u8]
     ensures { result.now ≡ skip_line_bytes bytes.now }
 {
     while let [first, rest @ ..] = bytes
@@ -36,6 +38,13 @@ fn has_one_space(line: &[u8]) -> bool
     ensures { result ≡ has_one_space line.now }
 {
     count_spaces(line) == 1 && !has_line_byte(line)
+}
+
+/// Whether bytes that end inside the request target still do so with these behind them.
+pub fn stays_in_target(piece: &[u8]) -> bool
+    ensures { result ≡ stays_in_target piece.now }
+{
+    count_spaces(piece) == 0 && !has_line_byte(piece)
 }
 
 /// Whether the bytes end inside the request target.

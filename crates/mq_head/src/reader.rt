@@ -1,22 +1,30 @@
 //! The reader of heads: any cutting of a connection's bytes into pieces.
-ghost use Rattle.std.specs.Prelude.{◌≡◌, ◌≢◌, ◌≤◌, ◌-◌, take, ◌++◌, ℕ, List, length, [], IfOk, OnErr, IsErr, Ok};
-ghost use Rattle.mq_head.specs.Heads.{head_limit};
+ghost use Rattle.std.specs.Prelude.{◌≡◌, ◌≢◌, ◌≤◌, ◌-◌, nat_lt, take, ◌++◌, ℕ, List, length, [], IfOk, OnErr, IsErr, Ok};
+ghost use Rattle.mq_head.specs.Heads.{head_limit, IsMore};
 ghost use Rattle.mq_head.specs.Steps.{IsStep};
-ghost use Rattle.mq_head.specs.Reader.{IsHeadOf, IsSpent, IsBegun, StandsFor};
+ghost use Rattle.mq_head.specs.Reader.{IsHeadOf, IsSpent, IsBegun, StandsFor, Follows};
 
 use crate::front::{MAX_HEAD, decide};
+use crate::place::Place;
 use crate::step::HeadStep;
 use mq_wire::NoMemory;
 use std::alloc::Global;
 use std::mem::replace;
+
+/// The bytes so far, by which nothing is decided, and where they end.
+#[derive(Drop)]
+struct Waiting {
+    kept: Vec<u8>,
+    place: Place,
+}
 
 /// What a reader was fed.
 #[derive(Drop)]
 enum State {
     /// Nothing yet.
     Fresh,
-    /// These bytes, and nothing is decided.
-    Begun(Vec<u8>),
+    /// Bytes that wait for more.
+    Begun(Waiting),
     /// The reader was refused memory, or gave its last answer.
     Spent,
 }
@@ -30,33 +38,67 @@ fn within_limit(piece: &[u8], before: usize) -> &[u8]
     front
 }
 
+/// Whether the piece leaves the bytes, so many before it, fewer than the most that a head may have.
+fn is_within(piece: &[u8], before: usize) -> bool
+    ensures { result ≡ nat_lt (length piece.now) (head_limit - before) }
+{
+    piece.len() < MAX_HEAD.saturating_sub(before)
+}
+
+/// What a reader goes on with that waits for more behind these bytes.
+fn wait_behind(alloc: Global, kept: Vec<u8>) -> Result<State, NoMemory>
+    ensures { IfOk result (λ state. IsMore kept.items → StandsFor state kept.items) }
+{
+    let place = Place::of(alloc, kept.as_slice())?;
+    Ok(State::Begun(Waiting { kept, place }))
+}
+
 /// What a reader goes on with, after this answer to these bytes.
-fn state_after(step: &HeadStep, kept: Vec<u8>) -> State
-    ensures more { step.now ≡ HeadStep.More → result ≡ State.Begun kept }
-    ensures last { step.now ≢ HeadStep.More → result ≡ State.Spent }
+fn state_after(alloc: Global, step: &HeadStep, kept: Vec<u8>) -> Result<State, NoMemory>
+    ensures more { IfOk result (λ state. step.now ≡ HeadStep.More → IsMore kept.items → StandsFor state kept.items) }
+    ensures last { IfOk result (λ state. step.now ≢ HeadStep.More → state ≡ State.Spent) }
 {
     match step {
-        HeadStep::More => State::Begun(kept),
-        HeadStep::Upgrade { .. } => State::Spent,
-        HeadStep::Refuse { .. } => State::Spent,
+        HeadStep::More => wait_behind(alloc, kept),
+        HeadStep::Upgrade { .. } => Ok(State::Spent),
+        HeadStep::Refuse { .. } => Ok(State::Spent),
     }
 }
 
-/// The answer to a piece that follows these bytes, and what the reader goes on with.
+/// The answer to a piece that follows these bytes, and what the reader goes on with. All bytes are parsed.
 fn step_behind(
     alloc: Global,
     mut kept: Vec<u8>,
     piece: &[u8],
 ) -> Result<(HeadStep, State), NoMemory>
-    ensures step { IfOk result (λ r. IsBegun kept.items → IsStep kept.items piece.now r.0) }
+    ensures step { IfOk result (λ r. IsBegun kept.items → Follows kept.items piece.now r.0 r.1) }
     ensures last { IfOk result (λ r. r.0 ≢ HeadStep.More → r.1 ≡ State.Spent) }
-    ensures more { IfOk result (λ r. r.0 ≡ HeadStep.More → IsBegun kept.items → StandsFor r.1 (kept.items ++ piece.now)) }
 {
     let before = kept.as_slice().len();
     kept.extend_from_slice(within_limit(piece, before))?;
     let step = decide(alloc, within_limit(kept.as_slice(), 0), before)?;
-    let state = state_after(&step, kept);
+    let state = state_after(alloc, &step, kept)?;
     Ok((step, state))
+}
+
+/// The answer to a piece that follows bytes by which nothing is decided. They are parsed again only where the piece may
+/// decide something, or the limit is reached.
+fn step_waiting(
+    alloc: Global,
+    waiting: Waiting,
+    piece: &[u8],
+) -> Result<(HeadStep, State), NoMemory>
+    ensures step { IfOk result (λ r. (bytes : List ℕ) → StandsFor (State.Begun waiting) bytes → Follows bytes piece.now r.0 r.1) }
+    ensures last { IfOk result (λ r. r.0 ≢ HeadStep.More → r.1 ≡ State.Spent) }
+{
+    let Waiting { mut kept, place } = waiting;
+    if is_within(piece, kept.as_slice().len())
+        && let Some(place) = place.behind(alloc, piece)?
+    {
+        kept.extend_from_slice(piece)?;
+        return Ok((HeadStep::More, State::Begun(Waiting { kept, place })));
+    }
+    step_behind(alloc, kept, piece)
 }
 
 /// Reads the head of a connection, in pieces of any length. It keeps at most 8,191 bytes.
@@ -86,7 +128,7 @@ impl HeadReader {
     {
         let (step, state) = match replace(&mut self.state, State::Spent) {
             State::Fresh => step_behind(alloc, Vec::new(alloc), piece)?,
-            State::Begun(kept) => step_behind(alloc, kept, piece)?,
+            State::Begun(waiting) => step_waiting(alloc, waiting, piece)?,
             State::Spent => return Err(NoMemory),
         };
         self.state = state;

@@ -9,6 +9,7 @@ mod cuts;
 mod heads;
 mod limits;
 mod others;
+mod pieces;
 
 /// What an answer has to be.
 #[derive(Clone, Copy)]

@@ -34,7 +34,7 @@ fn a_head_has_up_to_64_fields(rt: HostRuntime) -> Result<(), Fail> {
         (1300, Want::Refused(400)),
     ] {
         let head = with_fields(rt.alloc(), count)?;
-        for size in [1000usize, 8192] {
+        for size in [1usize, 1000, 8192] {
             let (step, _) = answer(rt.alloc(), head.as_slice(), size)?;
             assert!(rt;
                 is_wanted(&step, want),
@@ -55,7 +55,7 @@ fn a_head_has_up_to_8192_bytes(rt: HostRuntime) -> Result<(), Fail> {
     ] {
         let head = with_bytes(rt.alloc(), count)?;
         assert_eq!(rt; head.len(), count);
-        for size in [100usize, 8191, 16384] {
+        for size in [1usize, 100, 8191, 16384] {
             let (step, _) = answer(rt.alloc(), head.as_slice(), size)?;
             assert!(rt; is_wanted(&step, want), "{count} bytes in pieces of {size}");
         }

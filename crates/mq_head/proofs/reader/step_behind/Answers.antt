@@ -4,36 +4,35 @@ use Rattle.mq_head.specs.Reader.{StandsFor}
 use Rattle.mq_head.specs.Parsed.{IsAnswer}
 use Rattle.mq_head.specs.Steps.{IsStep}
 use Rattle.mq_head.proofs.StepsLemmas.{step_from_first, kept_from_first}
-use Rattle.mq_head.proofs.reader.step_behind.Goals.{After-state_after-state}
+use Rattle.mq_head.proofs.reader.step_behind.Goals.{In_ok-state}
 use Rattle.mq_head.proofs.reader.step_behind.Goals as goal
 
-before_is : (c : After-state_after-state) → length c.as_slice-before.result.now ≡ length c.args.kept.items
+before_is : (c : In_ok-state) → length c.as_slice-before.result.now ≡ length c.args.kept.items
 before_is c = ap length c.as_slice-before.ensures.value
 
 -- what is kept, and the first bytes of it
-kept_is : (c : After-state_after-state) → c.extend_from_slice.new.self.items ≡ c.args.kept.items ++ take (head_limit - length c.args.kept.items) c.args.piece.now
+kept_is : (c : In_ok-state) → c.extend_from_slice.new.self.items ≡ c.args.kept.items ++ take (head_limit - length c.args.kept.items) c.args.piece.now
 kept_is c =
     c.in_ok-extend_from_slice.ensures.items ∙ ap (λ t. c.args.kept.items ++ t) (c.within_limit.ensures.front ∙ ap (λ n. take (head_limit - n) c.args.piece.now) (before_is c))
 
-front_is : (c : After-state_after-state) → c.within_limit-2.result.now ≡ take head_limit c.extend_from_slice.new.self.items
+front_is : (c : In_ok-state) → c.within_limit-2.result.now ≡ take head_limit c.extend_from_slice.new.self.items
 front_is c = c.within_limit-2.ensures.front ∙ ap (take head_limit) c.as_slice.ensures.value
 
-answer_is : (c : After-state_after-state) → IsAnswer c.within_limit-2.result.now (length c.args.kept.items) c.in_ok-step.step
+answer_is : (c : In_ok-state) → IsAnswer c.within_limit-2.result.now (length c.args.kept.items) c.in_ok-step.step
 answer_is c = subst (λ n. IsAnswer c.within_limit-2.result.now n c.in_ok-step.step) (before_is c) c.in_ok-step.ensures
 
 pub returns-clause-step : goal.returns-clause-step
 returns-clause-step c = λ begun.
-    step_from_first c.args.kept.items c.args.piece.now c.extend_from_slice.new.self.items c.within_limit-2.result.now begun (kept_is c) (front_is c)
-    c.in_ok-step.step (answer_is c)
-
-pub returns-clause-more : goal.returns-clause-more
-returns-clause-more c = λ is_more begun.
+    let bytes = c.args.kept.items in
     let piece = c.args.piece.now in
     let front = c.within_limit-2.result.now in
     let kept = c.extend_from_slice.new.self.items in
-    let more : IsMore front = subst (IsAnswer front (length c.args.kept.items)) is_more (answer_is c) in
-    let all : kept ≡ c.args.kept.items ++ piece = kept_from_first c.args.kept.items piece kept front begun (kept_is c) (front_is c) more in
-    let step : IsMore (c.args.kept.items ++ piece) =
-    subst (IsStep c.args.kept.items piece) is_more
-    (step_from_first c.args.kept.items piece kept front begun (kept_is c) (front_is c) c.in_ok-step.step (answer_is c)) in
-    subst (λ s. StandsFor s (c.args.kept.items ++ piece)) (sym (c.state_after-state.ensures.more is_more)) (all, step)
+    let step : IsStep bytes piece c.in_ok-step.step =
+    step_from_first bytes piece kept front begun (kept_is c) (front_is c) c.in_ok-step.step (answer_is c) in (
+      step,
+      λ is_more.
+          let first : IsMore front = subst (IsAnswer front (length bytes)) is_more (answer_is c) in
+          let all : kept ≡ bytes ++ piece = kept_from_first bytes piece kept front begun (kept_is c) (front_is c) first in
+          let more : IsMore (bytes ++ piece) = subst (IsStep bytes piece) is_more step in
+          subst (StandsFor c.in_ok-state.state) all (c.in_ok-state.ensures.more is_more (subst IsMore (sym all) more)),
+    )
