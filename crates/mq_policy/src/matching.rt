@@ -1,5 +1,5 @@
 //! Which rules are for a goal, and which of them decides.
-ghost use Rattle.std.specs.Prelude.{◌≡◌, ◌↔◌, ◌<◌, ◌^◌, ◌×◌, ◌≤◌, length, IsTrue, MatchOption, Bool};
+ghost use Rattle.std.specs.Prelude.{◌≡◌, ◌↔◌, ◌<◌, ◌^◌, ◌≤◌, length, IsTrue, MatchOption, Bool};
 ghost use Rattle.std.specs.List.{AllWithin, HoldsAt};
 ghost use Rattle.mq_policy.specs.Rules.{Matches, IsForPort, IsForProtocol, allows};
 ghost use Rattle.mq_policy.specs.Decisions.{DecidesGoal};

@@ -15,9 +15,11 @@ pub struct Names {
 }
 
 impl Model for Names {
-    ghost use Rattle.mq_policy.specs.Names.{NameTable, table_of};
+    ghost use Rattle.mq_policy.specs.Names.{NameTable, names_code, table_of};
 
     ghost Value = { NameTable };
+
+    ghost coded = { names_code };
 
     ghost view = { λ names. table_of names.addrs };
 }

@@ -21,9 +21,11 @@ pub struct Policy {
 
 impl Model for Policy {
     ghost use Rattle.std.specs.Prelude.{length, ◌<◌, ◌^◌};
-    ghost use Rattle.mq_policy.specs.Tables.{Tables};
+    ghost use Rattle.mq_policy.specs.Tables.{Tables, tables_code};
 
     ghost Value = { Tables };
+
+    ghost coded = { tables_code };
 
     ghost view = { λ policy. record { names = policy.names; rules = policy.rules.items } };
 
