@@ -1,5 +1,5 @@
 -- Rules and tables decide in one way.
-use Rattle.std.proofs.Common.{◌≡◌, ℕ, ◌+◌, ◌⊎◌, Bool, true, false, List, [], length, Option, Some, None, ap, sym, ◌∙◌, subst, refl, inl, inr}
+use Rattle.std.proofs.Common.{◌≡◌, ℕ, ◌+◌, false, List, Option, Some, None, ap, sym, ◌∙◌, subst, refl, inl, inr}
 use Rattle.std.specs.Option.{unwrap_or, IsSome}
 use Rattle.std.proofs.lemmas.Bool.{both_ways}
 use Rattle.mq_talk.specs.declared.goal.Goal.{Goal}
@@ -10,7 +10,7 @@ use Rattle.mq_policy.specs.declared.rule.Rule.{Rule}
 use Rattle.mq_policy.specs.Goals.{goal_of}
 use Rattle.mq_policy.specs.Rules.{allows}
 use Rattle.mq_policy.specs.Tables.{Tables}
-use Rattle.mq_policy.specs.Decisions.{First, Allows, Denies, DecidesGoal, Decides, HasOneDecision}
+use Rattle.mq_policy.specs.Decisions.{Allows, Denies, DecidesGoal, Decides, HasOneDecision}
 use Rattle.mq_policy.proofs.Firsts.{one_first, some_rule, some_matches}
 
 -- no rules both allow and deny a goal

@@ -1,5 +1,5 @@
 -- Where the target of a request leads, with its name looked up (RFC 9298, section 2; RFC 9484, section 3).
-use Rattle.std.specs.Prelude.{ℕ, Option, Some, None}
+use Rattle.std.specs.Prelude.{Option, Some, None}
 use Rattle.std.specs.Option.{option_map}
 use Rattle.std.specs.FinMap as map
 use Rattle.mq_addr.specs.declared.addr.Addr.{Addr}

@@ -55,8 +55,7 @@ impl Names {
     pub fn copy(&self) -> Result<Names, NoMemory>
         ensures { IfOk result (λ copy. copy ≡ self.now) }
     {
-        Ok(Names {
-            addrs: self.addrs.clone()?,
-        })
+        let addrs = self.addrs.clone()?;
+        Ok(Names { addrs })
     }
 }

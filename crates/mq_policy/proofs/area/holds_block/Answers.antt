@@ -1,4 +1,4 @@
-use Rattle.std.proofs.Common.{◌≡◌, arith}
+use Rattle.std.proofs.Common.{arith}
 use Rattle.std.proofs.lemmas.Bool.{leb-true}
 use Rattle.mq_policy.proofs.Within.{first_in, within, no_longer, same_widths}
 use Rattle.mq_policy.proofs.area.holds_block.Goals as goal
