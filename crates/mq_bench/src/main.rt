@@ -5,6 +5,7 @@
 mod frames;
 mod head;
 mod huffman;
+mod policy;
 mod streams;
 mod varint;
 
@@ -21,6 +22,7 @@ fn checksum(alloc: Global, word: &str, count: u32) -> Option<u64> {
         "head" => head::checksum(alloc, count).ok(),
         "head_bytes" => head::checksum_by_bytes(alloc, count).ok(),
         "huffman" => huffman::checksum(alloc, count).ok(),
+        "policy" => policy::checksum(alloc, count).ok(),
         "streams" => streams::checksum(alloc, count).ok(),
         "varint" => varint::checksum(alloc, count).ok(),
         _ => None,
