@@ -8,7 +8,7 @@ use Rattle.mq_head.specs.declared.reader.HeadReader.{HeadReader}
 use Rattle.mq_head.specs.Heads.{IsUpgrade}
 use Rattle.mq_head.specs.Reader.{IsHeadOf}
 use Rattle.mq_talk.specs.declared.goal.Goal.{Goal}
-use Rattle.mq_talk.specs.declared.goal.Goal.TheVariants.{Udp}
+use Rattle.mq_talk.specs.declared.goal.Goal.TheVariants.{Udp, Ip}
 use Rattle.mq_machine.specs.declared.act.Act.{Act}
 use Rattle.mq_machine.specs.declared.act.Act.TheVariants.{Bind, Refuse}
 use Rattle.mq_machine.specs.Request.{IsRefusedRequest}
@@ -54,4 +54,5 @@ tunnel_so reader bytes rest path used (Udp (V4 addr) port) old mid items (Ok new
           }),
     )
 tunnel_so reader bytes rest path used (Udp (V6 addr) port) old mid items (Ok new) pushed rest_is leads is h = absurd leads
+tunnel_so reader bytes rest path used (Ip area protocol) old mid items (Ok new) pushed rest_is leads is h = absurd leads
 tunnel_so reader bytes rest path used goal old mid items (Err e) pushed rest_is leads is h = tt

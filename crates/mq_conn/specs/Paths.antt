@@ -3,7 +3,7 @@ use Rattle.std.specs.Prelude.{◌≡◌, ◌≢◌, ℕ, MatchOption, List, [], 
 use Rattle.std.specs.Borrow.{Bor}
 use Rattle.mq_addr.specs.declared.addr.Addr.TheVariants.{V4, V6}
 use Rattle.mq_talk.specs.declared.goal.Goal.{Goal}
-use Rattle.mq_talk.specs.declared.goal.Goal.TheVariants.{Udp}
+use Rattle.mq_talk.specs.declared.goal.Goal.TheVariants.{Udp, Ip}
 use Rattle.mq_text.specs.Cut.{Lacks}
 use Rattle.mq_machine.specs.Request.{IsUdpPath, IsOtherPath}
 
@@ -38,3 +38,4 @@ abbrev pub LeadsSomewhere : List ℕ → Option Goal → Type 0
 LeadsSomewhere path None = IsOtherPath path
 LeadsSomewhere path (Some (Udp (V4 addr) port)) = IsUdpPath path addr port
 LeadsSomewhere path (Some (Udp (V6 addr) port)) = ⊥
+LeadsSomewhere path (Some (Ip area protocol)) = ⊥

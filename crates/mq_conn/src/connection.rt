@@ -44,6 +44,7 @@ fn kind_of(goal: Goal) -> Kind
 {
     match goal {
         Goal::Udp { .. } => Kind::Udp,
+        Goal::Ip { .. } => Kind::Ip,
     }
 }
 

@@ -23,6 +23,7 @@ use Rattle.mq_machine.specs.State.{Conn, Tunnel, owed}
 
 abbrev pub goal_kind : Goal → Kind
 goal_kind (goal.Udp addr port) = kind.Udp
+goal_kind (goal.Ip area protocol) = kind.Ip
 
 -- tunnel t is at place i, and on this stream
 pub record HasTunnel (c : Conn) (stream i : ℕ) (t : Tunnel) : Type 0 where

@@ -1,0 +1,4 @@
+pub mod Decided
+pub mod Firsts
+pub mod Trees
+pub mod Within
