@@ -1,0 +1,4 @@
+pub mod Bads
+pub mod Counts
+pub mod Cuts
+pub mod Ends

@@ -1,0 +1,15 @@
+-- What is one for every script.
+use Rattle.std.specs.Prelude.{◌≡◌, ℕ, List, length}
+use Rattle.mq_machine.specs.Play.{IsScript, IsPlayed, IsPlayedBad}
+
+-- a script is cut into lines in one way
+abbrev pub IsCutInLines : Type 0
+IsCutInLines = (script : List ℕ) (a b : List (List ℕ)) (s t : List ℕ) → IsScript script a s → IsScript script b t → (a ≡ b) × (s ≡ t)
+
+-- no script is played to its end and has a bad line too, whatever was refused memory
+abbrev pub IsGoodOrBad : Type 0
+IsGoodOrBad = (script a b : List ℕ) → IsPlayed script a → IsPlayedBad script b → ⊥
+
+-- the first bad line of a script is one, whatever was refused memory
+abbrev pub HasOneBadLine : Type 0
+HasOneBadLine = (script a b : List ℕ) (p : IsPlayedBad script a) (q : IsPlayedBad script b) → length p.before ≡ length q.before
