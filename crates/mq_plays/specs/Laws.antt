@@ -1,6 +1,12 @@
 -- What is one for every script.
 use Rattle.std.specs.Prelude.{◌≡◌, ℕ, List, length}
+use Rattle.mq_machine.specs.declared.act.Act.{Act}
+use Rattle.mq_machine.specs.Request.{Asks}
 use Rattle.mq_machine.specs.Play.{IsScript, IsPlayed, IsPlayedBad}
+
+-- the reads of a connection ask for one list of acts
+abbrev pub IsAskedOnce : Type 0
+IsAskedOnce = (reads : List (List ℕ)) (a b : List Act) → Asks reads a → Asks reads b → a ≡ b
 
 -- a script is cut into lines in one way
 abbrev pub IsCutInLines : Type 0
