@@ -58,7 +58,7 @@ whole_front front line [] more end lacks is more_is ends = is ∙ append-nil fro
 whole_front front line (b ∷ bs) more end lacks is more_is ends =
     absurd (lacks_byte 10 front b bs (subst (λ (xs : List ℕ). Lacks 10 xs) is lacks) (subst EndsLine more_is ends))
 
-pub same_behind : (xs ys zs : List ℕ) → xs ++ ys ≡ xs ++ zs → ys ≡ zs
+pub same_behind : {A : Type 0} → (xs ys zs : List A) → xs ++ ys ≡ xs ++ zs → ys ≡ zs
 same_behind [] ys zs e = e
 same_behind (x ∷ xs) ys zs e = let tail : xs ++ ys ≡ xs ++ zs = cc in same_behind xs ys zs tail
 

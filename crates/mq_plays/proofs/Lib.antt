@@ -4,4 +4,8 @@ pub mod Counts
 pub mod Cuts
 pub mod Ends
 pub mod Heads
+pub mod Opening
 pub mod Requests
+pub mod Single
+pub mod Turns
+pub mod Wanting

@@ -2,11 +2,23 @@
 use Rattle.std.specs.Prelude.{◌≡◌, ℕ, List, length}
 use Rattle.mq_machine.specs.declared.act.Act.{Act}
 use Rattle.mq_machine.specs.Request.{Asks}
-use Rattle.mq_machine.specs.Play.{IsScript, IsPlayed, IsPlayedBad}
+use Rattle.mq_talk.specs.declared.note.Note.{Note}
+use Rattle.mq_machine.specs.State.{State, start}
+use Rattle.mq_machine.specs.Next.{Turn, Quiet}
+use Rattle.mq_machine.specs.Play.{Plays, IsScript, IsPlayed, IsPlayedBad}
 
 -- the reads of a connection ask for one list of acts
 abbrev pub IsAskedOnce : Type 0
 IsAskedOnce = (reads : List (List ℕ)) (a b : List Act) → Asks reads a → Asks reads b → a ≡ b
+
+-- in a state that lines lead to, an actor's turn is one note, and leads to one state
+abbrev pub HasOneTurn : Type 0
+HasOneTurn = (lines : List (List ℕ)) (refused actor : ℕ) (text : List ℕ) (s t u : State) (n m : Note) → Plays start lines refused text s
+    → Turn s actor n t → Turn s actor m u → (n ≡ m) × (t ≡ u)
+
+-- an actor that has a turn isn't quiet
+abbrev pub IsTurnOrQuiet : Type 0
+IsTurnOrQuiet = (s t : State) (actor : ℕ) (n : Note) → Turn s actor n t → Quiet s actor → ⊥
 
 -- a script is cut into lines in one way
 abbrev pub IsCutInLines : Type 0
