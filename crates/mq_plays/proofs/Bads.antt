@@ -11,7 +11,7 @@ use Rattle.mq_machine.specs.Play.{LinePlays, Plays, IsBad, IsBadHere, HasFront, 
 use Rattle.mq_plays.proofs.Cuts.{GoesOn, compare, none_more}
 use Rattle.mq_plays.proofs.Counts.{Alike, alike_self, alike_back, plays_alike, Parted, parted}
 
-at_within : {A : Type 0} → (xs : List A) (i : ℕ) (x : A) → slice_get xs i ≡ Some x → i < length xs
+pub at_within : {A : Type 0} → (xs : List A) (i : ℕ) (x : A) → slice_get xs i ≡ Some x → i < length xs
 at_within [] zero x e = absurd cc
 at_within [] (suc i) x e = absurd cc
 at_within (y ∷ ys) zero x e = omega arith

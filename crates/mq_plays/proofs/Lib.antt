@@ -5,6 +5,7 @@ pub mod Cuts
 pub mod Ends
 pub mod Heads
 pub mod Opening
+pub mod Plays
 pub mod Requests
 pub mod Single
 pub mod Turns

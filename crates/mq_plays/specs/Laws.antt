@@ -5,7 +5,7 @@ use Rattle.mq_machine.specs.Request.{Asks}
 use Rattle.mq_talk.specs.declared.note.Note.{Note}
 use Rattle.mq_machine.specs.State.{State, start}
 use Rattle.mq_machine.specs.Next.{Turn, Quiet}
-use Rattle.mq_machine.specs.Play.{Plays, IsScript, IsPlayed, IsPlayedBad}
+use Rattle.mq_machine.specs.Play.{Plays, IsScript, IsPlayed, IsPlayedSoFar, IsPlayedBad}
 
 -- the reads of a connection ask for one list of acts
 abbrev pub IsAskedOnce : Type 0
@@ -31,3 +31,16 @@ IsGoodOrBad = (script a b : List ℕ) → IsPlayed script a → IsPlayedBad scri
 -- the first bad line of a script is one, whatever was refused memory
 abbrev pub HasOneBadLine : Type 0
 HasOneBadLine = (script a b : List ℕ) (p : IsPlayedBad script a) (q : IsPlayedBad script b) → length p.before ≡ length q.before
+
+-- A script of good lines prints one text, where no step was refused memory: such a step prints nothing, and may come at any
+-- time.
+abbrev pub HasOnePlay : Type 0
+HasOnePlay = (script a b : List ℕ) (p : IsPlayed script a) (q : IsPlayed script b) → p.refused ≡ 0 → q.refused ≡ 0 → a ≡ b
+
+-- so do the whole lines of what was read of a script
+abbrev pub HasOnePlaySoFar : Type 0
+HasOnePlaySoFar = (script a b : List ℕ) (p : IsPlayedSoFar script a) (q : IsPlayedSoFar script b) → p.refused ≡ 0 → q.refused ≡ 0 → a ≡ b
+
+-- so does a script with a bad line
+abbrev pub HasOneBadPlay : Type 0
+HasOneBadPlay = (script a b : List ℕ) (p : IsPlayedBad script a) (q : IsPlayedBad script b) → p.refused ≡ 0 → q.refused ≡ 0 → a ≡ b

@@ -3,8 +3,10 @@
 
 mod asking;
 mod lines;
+mod play;
 mod turn;
 
 pub use asking::asked_once;
 pub use lines::{cut_in_lines, good_or_bad, one_bad_line};
+pub use play::{one_bad_play, one_play, one_play_so_far};
 pub use turn::{one_turn, turn_or_quiet};
