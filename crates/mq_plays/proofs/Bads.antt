@@ -18,7 +18,7 @@ at_within (y ∷ ys) zero x e = omega arith
 at_within (y ∷ ys) (suc i) x e = let h = at_within ys i x e in omega arith
 
 -- what a line says is good in a state or bad in one that is alike, and not both
-not_bad_here : (said : Line) (s t : State) (refused : ℕ) (text : List ℕ) (new : State) → Alike s t → LinePlays s said refused text new → IsBadHere t said → ⊥
+pub not_bad_here : (said : Line) (s t : State) (refused : ℕ) (text : List ℕ) (new : State) → Alike s t → LinePlays s said refused text new → IsBadHere t said → ⊥
 not_bad_here Blank s t refused text new h p bad = bad
 not_bad_here (Conn worker) s t refused text new h p bad =
     let links = h.links in
@@ -29,16 +29,16 @@ not_bad_here (Conn worker) s t refused text new h p bad =
 not_bad_here (Piece conn bytes) s t refused text new h p bad = let few = p.0.0 in let same = h.links in omega arith
 not_bad_here (Steps actor count) s t refused text new h p bad = let few = p.0 in let same = h.workers in omega arith
 
-not_wrong : SaysOne → (line : List ℕ) (said : Line) (s t : State) (refused : ℕ) (text : List ℕ) (new : State) → Says line said → Alike s t → LinePlays s said refused text new → IsBad t line → ⊥
-not_wrong one line said s t refused text new says h p bad =
-    let P : Line → Type 0 = λ x. LinePlays s x refused text new in
+not_wrong : SaysOne → (line : List ℕ) (said : Line) (t : State) → Says line said → (IsBadHere t said → ⊥) → IsBad t line → ⊥
+not_wrong one line said t says good bad =
+    let P : Line → Type 0 = λ x. IsBadHere t x in
     elim bad [
       | inl none ↦ none said says
-      | inr (other, told, here) ↦ not_bad_here other s t refused text new h (subst P (one line said other says told) p) here
+      | inr (other, told, here) ↦ good (subst P (one line other said told says) here)
     ]
 
 -- the front of a line that ends there is a front of it
-front_within : (front more line end : List ℕ) → Lacks 10 front → EndsLine end → front ++ more ≡ line ++ end → (rest : List ℕ) × (line ≡ front ++ rest) × (more ≡ rest ++ end)
+pub front_within : (front more line end : List ℕ) → Lacks 10 front → EndsLine end → front ++ more ≡ line ++ end → (rest : List ℕ) × (line ≡ front ++ rest) × (more ≡ rest ++ end)
 front_within [] more line end lacks ends e = (line, refl, e)
 front_within (f ∷ fs) more [] [] lacks ends e = absurd cc
 front_within (f ∷ fs) more [] (c ∷ cs) lacks ends e = let head : f ≡ c = cc in absurd (lacks.0 (head ∙ ends))
@@ -53,7 +53,7 @@ lacks_byte b [] y ys h e = h.0 e
 lacks_byte b (x ∷ xs) y ys h e = lacks_byte b xs y ys h.1 e
 
 -- where the line ends there, it is all of it
-whole_front : (front line rest more end : List ℕ) → Lacks 10 line → line ≡ front ++ rest → more ≡ rest ++ end → EndsLine more → line ≡ front
+pub whole_front : (front line rest more end : List ℕ) → Lacks 10 line → line ≡ front ++ rest → more ≡ rest ++ end → EndsLine more → line ≡ front
 whole_front front line [] more end lacks is more_is ends = is ∙ append-nil front
 whole_front front line (b ∷ bs) more end lacks is more_is ends =
     absurd (lacks_byte 10 front b bs (subst (λ (xs : List ℕ). Lacks 10 xs) is lacks) (subst EndsLine more_is ends))
@@ -81,9 +81,9 @@ none_past limit text front line rest end more is more_is fits full =
     nothing more (omega arith)
 
 -- a line that is good isn't bad
-pub not_bad : SaysOne → (script : List ℕ) (before : List (List ℕ)) (line : List ℕ) (said : Line) (s t : State) (refused : ℕ) (text : List ℕ) (new : State)
-    → HasLine script before line → Says line said → Alike s t → LinePlays s said refused text new → HasBad script before t → ⊥
-not_bad one script before line said s t refused text new l says h p bad =
+pub not_bad : SaysOne → (script : List ℕ) (before : List (List ℕ)) (line : List ℕ) (said : Line) (t : State)
+    → HasLine script before line → Says line said → (IsBadHere t said → ⊥) → HasBad script before t → ⊥
+not_bad one script before line said t l says good bad =
     elim bad [
       | inl long ↦ (
           let b = both_fronts script before long.front line long.has l.has l.ends in
@@ -100,7 +100,7 @@ not_bad one script before line said s t refused text new l says h p bad =
           let b = both_fronts script before wrong.line line wrong.has.has l.has l.ends in
           let same = whole_front wrong.line line b.0 wrong.has.has.more l.has.more l.has.front_is b.1 b.2 wrong.has.ends in
           let P : List ℕ → Type 0 = λ xs. IsBad t xs in
-          not_wrong one line said s t refused text new says h p (subst P (sym same) wrong.wrong)
+          not_wrong one line said t says good (subst P (sym same) wrong.wrong)
           )
     ]
 
@@ -113,7 +113,7 @@ empty_good one script before t is bad =
       | inr (inr wrong) ↦ (
           let none = empty_front script before wrong.line is wrong.has.has in
           let P : List ℕ → Type 0 = λ xs. IsBad t xs in
-          not_wrong one [] Blank t t 0 [] t (inl refl) (alike_self t) (refl, refl, refl) (subst P none.0 wrong.wrong)
+          not_wrong one [] Blank t (inl refl) (λ here. here) (subst P none.0 wrong.wrong)
           )
     ]
   where

@@ -8,7 +8,7 @@ use Rattle.mq_machine.specs.State.{State, start}
 use Rattle.mq_machine.specs.Play.{Plays, HasFront, HasLine, HasBad, EndsLine, text_of, AreLines, with_tail, IsScript, IsPlayed, IsPlayedBad, line_limit, script_limit}
 use Rattle.mq_plays.proofs.Cuts.{GoesOn, compare, none_more}
 use Rattle.mq_plays.proofs.Counts.{Alike, alike_self, alike_back, plays_alike, Parted, parted}
-use Rattle.mq_plays.proofs.Bads.{not_bad, empty_good}
+use Rattle.mq_plays.proofs.Bads.{not_bad_here, not_bad, empty_good}
 
 -- the lines of a play that go on with this one, which is where another play of the first ones is bad
 played_not_bad : SaysOne → (script : List ℕ) (before : List (List ℕ)) (line : List ℕ) (lines : List (List ℕ)) (r q : ℕ) (a b : List ℕ) (u v : State)
@@ -17,8 +17,8 @@ played_not_bad : SaysOne → (script : List ℕ) (before : List (List ℕ)) (lin
 played_not_bad one script before line lines r q a b u v p k has bad =
     let parts = parted before (line ∷ lines) start r a u p in
     let next = parts.next in
-    not_bad one script before line next.1 parts.mid v next.4 next.6 next.3 (has next.0) next.2
-    (plays_alike one before start start parts.before q parts.shown b parts.mid v (alike_self start) parts.plays k) next.8 bad
+    let alike = plays_alike one before start start parts.before q parts.shown b parts.mid v (alike_self start) parts.plays k in
+    not_bad one script before line next.1 v (has next.0) next.2 (not_bad_here next.1 parts.mid v next.4 next.6 next.3 alike next.8) bad
 
 script_more : (script : List ℕ) (before more : List (List ℕ)) (tail : List ℕ) → script ≡ text_of (before ++ more) ++ tail → script ≡ text_of before ++ (text_of more ++ tail)
 script_more script before more tail is =
@@ -28,7 +28,7 @@ line_behind : (line : List ℕ) (lines : List (List ℕ)) (tail : List ℕ) → 
 line_behind line lines tail = ap (λ (xs : List ℕ). xs ++ tail) (append_assoc line (10 ∷ []) (text_of lines)) ∙ append_assoc line (10 ∷ text_of lines) tail
 
 -- a line that others follow
-inner_line : (script : List ℕ) (before : List (List ℕ)) (line : List ℕ) (lines : List (List ℕ)) (tail : List ℕ) → script ≡ text_of (before ++ line ∷ lines) ++ tail
+pub inner_line : (script : List ℕ) (before : List (List ℕ)) (line : List ℕ) (lines : List (List ℕ)) (tail : List ℕ) → script ≡ text_of (before ++ line ∷ lines) ++ tail
     → AreLines before → Lacks 10 line → length (text_of (before ++ line ∷ lines)) ≤ script_limit → length line ≤ line_limit → HasLine script before line
 inner_line script before line lines tail is are lacks fits line_fits =
     let whole : text_of (before ++ line ∷ lines) ≡ text_of before ++ (line ++ 10 ∷ (text_of lines)) =
@@ -62,11 +62,11 @@ last_line script before line is are lacks fits line_fits =
     }
 
 -- the front that a bad line has
-record SomeFront (script : List ℕ) (before : List (List ℕ)) : Type 0 where
-  front : List ℕ
-  has : HasFront script before front
+pub record SomeFront (script : List ℕ) (before : List (List ℕ)) : Type 0 where
+  pub front : List ℕ
+  pub has : HasFront script before front
 
-front_of_bad : (script : List ℕ) (before : List (List ℕ)) (t : State) → HasBad script before t → SomeFront script before
+pub front_of_bad : (script : List ℕ) (before : List (List ℕ)) (t : State) → HasBad script before t → SomeFront script before
 front_of_bad script before t bad =
     elim bad [
       | inl long ↦ record { front = long.front; has = long.has }
@@ -74,7 +74,7 @@ front_of_bad script before t bad =
       | inr (inr wrong) ↦ record { front = wrong.line; has = wrong.has.has }
     ]
 
-tail_more : (before more : List (List ℕ)) (tail : List ℕ) → with_tail (before ++ more) tail ≡ before ++ with_tail more tail
+pub tail_more : (before more : List (List ℕ)) (tail : List ℕ) → with_tail (before ++ more) tail ≡ before ++ with_tail more tail
 tail_more before more [] = refl
 tail_more before more (b ∷ bs) = append_assoc before more ((b ∷ bs) ∷ [])
 
@@ -103,28 +103,30 @@ bad_in one script lines before (m ∷ ms) tail r q a b u v s fits is are rest p 
     played_not_bad one script before m (with_tail ms tail) r q a b u v (subst P (tail_of_cons m ms tail) p) k
     (inner_line script before m ms tail whole are rest.0 (omega arith)) bad
 
-same_script : (script : List ℕ) (before : List (List ℕ)) (f : SomeFront script before) → script ≡ text_of before ++ (f.front ++ f.has.more)
-same_script script before f = f.has.is
-
--- a script is good or bad
-pub good_not_bad : IsCutOnce → SaysOne → (script a b : List ℕ) → IsPlayed script a → IsPlayedBad script b → ⊥
-good_not_bad once one script a b p q =
-    let f = front_of_bad script q.before q.state q.bad in
+-- a script that is played has no bad line
+pub played_has_no_bad : IsCutOnce → SaysOne → (script a : List ℕ) (before : List (List ℕ)) (refused : ℕ) (text : List ℕ) (state : State) → IsPlayed script a → Plays start before refused text state
+    → HasBad script before state → ⊥
+played_has_no_bad once one script a before refused text state p plays bad =
+    let f = front_of_bad script before state bad in
     let are = f.has.before_are in
     let rest = f.front ++ f.has.more in
-    elim (compare once p.lines q.before p.tail rest p.script_is.lines_are are (sym p.script_is.is ∙ f.has.is)) [
-      | inl g ↦ bad_in one script p.lines q.before g.more p.tail p.refused q.refused a q.text p.new q.state p.script_is p.fits g.is are g.lines
-          (played_more p.lines q.before g.more p.tail p.refused a p.new g.is p.plays) q.plays q.bad
+    elim (compare once p.lines before p.tail rest p.script_is.lines_are are (sym p.script_is.is ∙ f.has.is)) [
+      | inl g ↦ bad_in one script p.lines before g.more p.tail p.refused refused a text p.new state p.script_is p.fits g.is are g.lines
+          (played_more p.lines before g.more p.tail p.refused a p.new g.is p.plays) plays bad
       | inr g ↦ (
-          let same = (none_more q.before p.lines rest p.tail p.script_is.tail_is g).0 in
-          let is = sym same ∙ sym (append-nil q.before) in
-          bad_in one script p.lines q.before [] p.tail p.refused q.refused a q.text p.new q.state p.script_is p.fits is are tt
-          (played_more p.lines q.before [] p.tail p.refused a p.new is p.plays) q.plays q.bad
+          let same = (none_more before p.lines rest p.tail p.script_is.tail_is g).0 in
+          let is = sym same ∙ sym (append-nil before) in
+          bad_in one script p.lines before [] p.tail p.refused refused a text p.new state p.script_is p.fits is are tt
+          (played_more p.lines before [] p.tail p.refused a p.new is p.plays) plays bad
           )
     ]
 
+-- a script is good or bad
+pub good_not_bad : IsCutOnce → SaysOne → (script a b : List ℕ) → IsPlayed script a → IsPlayedBad script b → ⊥
+good_not_bad once one script a b p q = played_has_no_bad once one script a q.before q.refused q.text q.state p q.plays q.bad
+
 -- the lines before a bad one don't go on behind those before another
-same_before : SaysOne → (script : List ℕ) (long short : List (List ℕ)) (tail rest : List ℕ) (r q : ℕ) (a b : List ℕ) (u v : State) → Plays start long r a u → Plays start short q b v
+pub same_before : SaysOne → (script : List ℕ) (long short : List (List ℕ)) (tail rest : List ℕ) (r q : ℕ) (a b : List ℕ) (u v : State) → Plays start long r a u → Plays start short q b v
     → HasFront script long tail → HasBad script short v → (more : List (List ℕ)) → AreLines short → AreLines more → long ≡ short ++ more → long ≡ short
 same_before one script long short tail rest r q a b u v p k f bad [] are lines is = is ∙ append-nil short
 same_before one script long short tail rest r q a b u v p k f bad (m ∷ ms) are lines is =

@@ -5,6 +5,8 @@ pub mod Cuts
 pub mod Ends
 pub mod Heads
 pub mod Opening
+pub mod Parts
+pub mod PartsBad
 pub mod Plays
 pub mod Requests
 pub mod Single

@@ -139,8 +139,10 @@ one_lines known says (first ∷ lines) s r q a b t u one none zero_too (fits, sa
     let P : ℕ → Type 0 = λ n. LinePlays s said n shown mid in
     let Q : ℕ → Type 0 = λ n. LinePlays s said n shown' mid' in
     let R : Line → Type 0 = λ l. LinePlays s l here' shown' mid' in
-    let x = subst P (omega arith) plays in
-    let y = subst Q (omega arith) (subst R (says first said' said told' told) plays') in
+    let none_here : here ≡ 0 = omega arith in
+    let none_now : here' ≡ 0 = omega arith in
+    let x = subst P none_here plays in
+    let y = subst Q none_now (subst R (says first said' said told' told) plays') in
     let same = one_line known said s shown shown' mid mid' one x y in
     let S : State → Type 0 = λ m. Plays m lines later' rest' u in
     let none_later : later ≡ 0 = omega arith in

@@ -1,11 +1,12 @@
 -- What is one for every script.
-use Rattle.std.specs.Prelude.{◌≡◌, ℕ, List, length}
+use Rattle.std.specs.Prelude.{◌≡◌, ℕ, List, ◌++◌, length}
 use Rattle.mq_machine.specs.declared.act.Act.{Act}
 use Rattle.mq_machine.specs.Request.{Asks}
 use Rattle.mq_talk.specs.declared.note.Note.{Note}
 use Rattle.mq_machine.specs.State.{State, start}
 use Rattle.mq_machine.specs.Next.{Turn, Quiet}
-use Rattle.mq_machine.specs.Play.{Plays, IsScript, IsPlayed, IsPlayedSoFar, IsPlayedBad}
+use Rattle.mq_machine.specs.Play.{Plays, IsScript, IsPlayed, IsPlayedSoFar, IsPlayedBad, IsPlayedPart, IsFrontOf}
+use Rattle.mq_plays.specs.Parts.{IsAllShown}
 
 -- the reads of a connection ask for one list of acts
 abbrev pub IsAskedOnce : Type 0
@@ -44,3 +45,17 @@ HasOnePlaySoFar = (script a b : List ℕ) (p : IsPlayedSoFar script a) (q : IsPl
 -- so does a script with a bad line
 abbrev pub HasOneBadPlay : Type 0
 HasOneBadPlay = (script a b : List ℕ) (p : IsPlayedBad script a) (q : IsPlayedBad script b) → p.refused ≡ 0 → q.refused ≡ 0 → a ≡ b
+
+-- What was printed when a play stopped is a front of what the whole script prints, where no step was refused memory.
+abbrev pub IsPartFront : Type 0
+IsPartFront = (script out whole : List ℕ) (p : IsPlayedPart script out) (q : IsPlayed script whole) → IsAllShown script out p → q.refused ≡ 0 → IsFrontOf out whole
+
+abbrev pub IsPartFrontOfBad : Type 0
+IsPartFrontOfBad = (script out whole : List ℕ) (p : IsPlayedPart script out) (q : IsPlayedBad script whole) → IsAllShown script out p → q.refused ≡ 0 → IsFrontOf out whole
+
+-- So is what the whole lines of a script's front print, whatever follows it.
+abbrev pub IsSoFarFront : Type 0
+IsSoFarFront = (script more out whole : List ℕ) (p : IsPlayedSoFar script out) (q : IsPlayed (script ++ more) whole) → p.refused ≡ 0 → q.refused ≡ 0 → IsFrontOf out whole
+
+abbrev pub IsSoFarFrontOfBad : Type 0
+IsSoFarFrontOfBad = (script more out whole : List ℕ) (p : IsPlayedSoFar script out) (q : IsPlayedBad (script ++ more) whole) → p.refused ≡ 0 → q.refused ≡ 0 → IsFrontOf out whole
