@@ -1,13 +1,11 @@
 -- The reads of a connection ask for one list of acts.
-use Rattle.std.proofs.Common.{◌≡◌, ℕ, ◌+◌, List, [], ◌∷◌, ◌++◌, drop, refl, sym, ap, subst, ◌∙◌, ◌⊎◌, inl, inr, append_assoc}
+use Rattle.std.proofs.Common.{◌≡◌, ℕ, ◌+◌, List, [], ◌∷◌, ◌++◌, drop, refl, sym, ap, subst, ◌∙◌, inl, inr, append_assoc}
 use Rattle.std.specs.List.{concat}
-use Rattle.mq_addr.specs.declared.addr.Addr.TheVariants.{V4}
-use Rattle.mq_talk.specs.declared.goal.Goal.TheVariants as goal
 use Rattle.mq_head.specs.Reader.{IsBegun}
 use Rattle.mq_machine.specs.declared.act.Act.{Act}
 use Rattle.mq_machine.specs.declared.act.Act.TheVariants.{Bind, Open, Refuse, Payload, Malformed}
-use Rattle.mq_machine.specs.Capsule.{Front, More, Broken, Whole, front_of, Reads}
-use Rattle.mq_machine.specs.Request.{AreBegun, Decides, AsksTunnel, AsksRefusal, AsksNothing, Asks, IsRequest, IsRefusedRequest}
+use Rattle.mq_machine.specs.Capsule.{Reads}
+use Rattle.mq_machine.specs.Request.{AreBegun, Decides, AsksTunnel, AsksRefusal, Asks, IsRequest, IsRefusedRequest}
 use Rattle.mq_plays.proofs.Requests.{Known, one_request, request_or_refused, one_refusal, begun_or_request, begun_or_refusal}
 
 -- a data stream asks for one list of acts

@@ -1,15 +1,13 @@
 -- A line that is good where the lines before it lead isn't bad there.
-use Rattle.std.proofs.Common.{◌≡◌, ◌≢◌, ℕ, zero, suc, min, Some, slice_get, append-nil, ◌+◌, ◌<◌, ◌≤◌, List, [], ◌∷◌, ◌++◌, length, refl, sym, ap, subst, ◌∙◌, arith, ◌⊎◌, inl, inr, append_assoc}
+use Rattle.std.proofs.Common.{◌≡◌, ℕ, zero, suc, min, Some, slice_get, append-nil, ◌+◌, ◌<◌, ◌≤◌, List, [], ◌∷◌, ◌++◌, length, refl, sym, ap, subst, ◌∙◌, arith, inl, inr}
 use Rattle.std.proofs.lemmas.List.{length-append}
-use Rattle.std.proofs.lemmas.List.Concat.{flat_map-append}
-use Rattle.mq_text.specs.Cut.{Lacks, IsCutOnce}
+use Rattle.mq_text.specs.Cut.{Lacks}
 use Rattle.mq_machine.specs.declared.line.Line.{Line}
 use Rattle.mq_machine.specs.declared.line.Line.TheVariants.{Blank, Conn, Piece, Steps}
 use Rattle.mq_machine.specs.Line.{Says, SaysOne}
-use Rattle.mq_machine.specs.State.{State, start}
-use Rattle.mq_machine.specs.Play.{LinePlays, Plays, IsBad, IsBadHere, HasFront, HasLine, HasLong, HasPast, HasWrong, HasBad, EndsLine, text_of, AreLines, with_tail, IsScript, IsPlayed, IsPlayedBad, line_limit, script_limit}
-use Rattle.mq_plays.proofs.Cuts.{GoesOn, compare, none_more}
-use Rattle.mq_plays.proofs.Counts.{Alike, alike_self, alike_back, plays_alike, Parted, parted}
+use Rattle.mq_machine.specs.State.{State}
+use Rattle.mq_machine.specs.Play.{LinePlays, IsBad, IsBadHere, HasFront, HasLine, HasBad, EndsLine, text_of, script_limit}
+use Rattle.mq_plays.proofs.Counts.{Alike}
 
 pub at_within : {A : Type 0} → (xs : List A) (i : ℕ) (x : A) → slice_get xs i ≡ Some x → i < length xs
 at_within [] zero x e = absurd cc

@@ -1,11 +1,10 @@
 -- How many links and workers there are hangs on the lines alone.
-use Rattle.std.proofs.Common.{◌≡◌, ℕ, zero, suc, ◌+◌, ◌≤◌, List, [], ◌∷◌, ◌++◌, length, slice_set, refl, sym, ap, subst, ◌∙◌, arith, ◌⊎◌, inl, inr, append_assoc}
+use Rattle.std.proofs.Common.{◌≡◌, ℕ, zero, suc, ◌+◌, List, [], ◌∷◌, ◌++◌, length, slice_set, refl, sym, ap, subst, ◌∙◌, arith, inl, inr, append_assoc}
 use Rattle.mq_machine.specs.declared.line.Line.{Line}
 use Rattle.mq_machine.specs.declared.line.Line.TheVariants.{Blank, Conn, Piece, Steps}
-use Rattle.mq_machine.specs.Line.{Says, SaysOne}
-use Rattle.mq_machine.specs.State.{Worker, State, start}
-use Rattle.mq_machine.specs.Next.{Turn, SilentTurn}
-use Rattle.mq_machine.specs.Play.{Runs, Arrives, Happens, LinePlays, Plays}
+use Rattle.mq_machine.specs.Line.{SaysOne}
+use Rattle.mq_machine.specs.State.{Worker, State}
+use Rattle.mq_machine.specs.Play.{Runs, Arrives, LinePlays, Plays}
 
 -- as many links, and as many workers
 pub record Alike (a b : State) : Type 0 where

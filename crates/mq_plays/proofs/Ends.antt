@@ -1,13 +1,13 @@
 -- Where a script's good lines end.
-use Rattle.std.proofs.Common.{◌≡◌, ◌≢◌, ℕ, zero, suc, ◌+◌, ◌<◌, ◌≤◌, min, List, [], ◌∷◌, ◌++◌, length, refl, sym, ap, subst, ◌∙◌, arith, ◌⊎◌, inl, inr, append_assoc, append-nil}
+use Rattle.std.proofs.Common.{◌≡◌, ℕ, ◌+◌, ◌≤◌, List, [], ◌∷◌, ◌++◌, length, refl, sym, ap, subst, ◌∙◌, arith, inl, inr, append_assoc, append-nil}
 use Rattle.std.proofs.lemmas.List.{length-append}
 use Rattle.std.proofs.lemmas.List.Concat.{flat_map-append}
 use Rattle.mq_text.specs.Cut.{Lacks, IsCutOnce}
 use Rattle.mq_machine.specs.Line.{SaysOne}
 use Rattle.mq_machine.specs.State.{State, start}
-use Rattle.mq_machine.specs.Play.{Plays, HasFront, HasLine, HasBad, EndsLine, text_of, AreLines, with_tail, IsScript, IsPlayed, IsPlayedBad, line_limit, script_limit}
-use Rattle.mq_plays.proofs.Cuts.{GoesOn, compare, none_more}
-use Rattle.mq_plays.proofs.Counts.{Alike, alike_self, alike_back, plays_alike, Parted, parted}
+use Rattle.mq_machine.specs.Play.{Plays, HasFront, HasLine, HasBad, text_of, AreLines, with_tail, IsScript, IsPlayed, IsPlayedBad, line_limit, script_limit}
+use Rattle.mq_plays.proofs.Cuts.{compare, none_more}
+use Rattle.mq_plays.proofs.Counts.{alike_self, plays_alike, parted}
 use Rattle.mq_plays.proofs.Bads.{not_bad_here, not_bad, empty_good}
 
 -- the lines of a play that go on with this one, which is where another play of the first ones is bad

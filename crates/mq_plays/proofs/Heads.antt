@@ -1,13 +1,12 @@
 -- The bytes of a head have one answer, and the empty ones have none yet.
-use Rattle.std.proofs.Common.{◌≡◌, ℕ, ◌+◌, ◌<◌, ◌≤◌, IsTrue, IsAscii, get_or, zero, suc, List, [], ◌∷◌, ◌++◌, length, refl, sym, ap, subst, ◌∙◌, arith, ◌⊎◌, inl, inr, rules, append-nil}
+use Rattle.std.proofs.Common.{◌≡◌, ℕ, ◌+◌, ◌<◌, IsTrue, IsAscii, get_or, zero, suc, List, [], ◌∷◌, ◌++◌, length, refl, sym, ap, subst, ◌∙◌, arith, inl, inr, rules, append-nil}
 use Rattle.std.proofs.lemmas.List.{length-append}
 use Rattle.std.proofs.lemmas.Str.{IsUtf8-from_ascii}
 use Rattle.httparse.specs.Ascii.{space}
-use Rattle.httparse.specs.Grammar.{RequestHead, IsRequestHead, LineEnd, crlf, lf, print_blank, print_version, print_end, print_section, print_request, ReadsRequest, HasNoRequest, is_token_byte, is_uri_byte}
+use Rattle.httparse.specs.Grammar.{RequestHead, IsRequestHead, lf, print_blank, print_version, print_end, print_section, print_request, HasNoRequest, is_token_byte, is_uri_byte}
 use Rattle.mq_addr.specs.declared.kind.Kind.{Kind}
-use Rattle.mq_head.specs.declared.step.HeadStep.{HeadStep}
 use Rattle.mq_head.specs.declared.step.HeadStep.TheVariants.{More, Upgrade, Refuse}
-use Rattle.mq_head.specs.Heads.{HasHead, IsMore, IsUpgrade, IsRefused}
+use Rattle.mq_head.specs.Heads.{IsMore, IsUpgrade, IsRefused}
 use Rattle.mq_head.specs.Reader.{IsBegun}
 use Rattle.mq_head.specs.Steps.{IsStep}
 use Rattle.mq_head.specs.Laws.{OneAnswer}

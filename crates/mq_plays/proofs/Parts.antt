@@ -1,20 +1,19 @@
 -- What a play printed that stopped is a front of what the whole play prints.
-use Rattle.std.proofs.Common.{◌≡◌, ◌≢◌, ℕ, zero, suc, ◌+◌, ◌<◌, ◌≤◌, List, [], ◌∷◌, ◌++◌, length, refl, sym, ap, subst, ◌∙◌, arith, ◌⊎◌, inl, inr, append_assoc, append-nil}
+use Rattle.std.proofs.Common.{◌≡◌, ℕ, zero, suc, ◌+◌, List, [], ◌∷◌, ◌++◌, length, refl, sym, ap, subst, ◌∙◌, arith, ◌⊎◌, inl, inr, append_assoc, append-nil}
 use Rattle.mq_text.specs.Cut.{Lacks, IsCutOnce}
 use Rattle.mq_talk.specs.declared.note.Note.{Note}
 use Rattle.mq_machine.specs.declared.line.Line.{Line}
 use Rattle.mq_machine.specs.declared.line.Line.TheVariants as line
 use Rattle.mq_machine.specs.Line.{Says, SaysOne}
-use Rattle.mq_machine.specs.Text.{note_line, idle_line, bad_line}
+use Rattle.mq_machine.specs.Text.{note_line, bad_line}
 use Rattle.mq_machine.specs.State.{State, start}
-use Rattle.mq_machine.specs.Next.{Turn, SilentTurn, Quiet}
-use Rattle.mq_machine.specs.Play.{Runs, LinePlays, Plays, text_of, AreLines, IsScript, with_tail, EndsLine, HasFront, HasLine, HasBad, IsBadHere, IsPlayed, IsPlayedSoFar, IsPlayedBad, IsPlayedPart, RunsPart, LinePart, StopsIn, IsFrontOf}
-use Rattle.mq_plays.specs.Parts.{AreShown, IsLineShown, IsStopShown, IsAllShown}
+use Rattle.mq_machine.specs.Play.{Runs, LinePlays, Plays, text_of, AreLines, IsScript, with_tail, EndsLine, HasFront, HasBad, IsPlayed, IsPlayedPart, RunsPart, LinePart, StopsIn, IsFrontOf}
+use Rattle.mq_plays.specs.Parts.{AreShown, IsLineShown, IsAllShown}
 use Rattle.mq_plays.proofs.Requests.{Known}
-use Rattle.mq_plays.proofs.Cuts.{GoesOn, compare, none_more}
-use Rattle.mq_plays.proofs.Counts.{Parted, parted}
-use Rattle.mq_plays.proofs.Bads.{same_behind, front_within, whole_front, not_bad}
-use Rattle.mq_plays.proofs.Ends.{SomeFront, front_of_bad, tail_more, played_has_no_bad, same_before}
+use Rattle.mq_plays.proofs.Cuts.{compare, none_more}
+use Rattle.mq_plays.proofs.Counts.{parted}
+use Rattle.mq_plays.proofs.Bads.{front_within, whole_front}
+use Rattle.mq_plays.proofs.Ends.{tail_more, played_has_no_bad}
 use Rattle.mq_plays.proofs.Turns.{one_actor_turn, turn_not_quiet}
 use Rattle.mq_plays.proofs.Single.{IsSingle, settles, turn_single, plays_single, start_single}
 use Rattle.mq_plays.proofs.Plays.{one_lines}
@@ -123,11 +122,11 @@ within : IsCutOnce → (script : List ℕ) (before lines : List (List ℕ)) (fro
 within once script before lines front tail s f =
     elim (compare once lines before tail (front ++ f.more) s.lines_are f.before_are (sym s.is ∙ f.is)) [
       | inl on ↦ record {
-          later = on.more;
-          is = ap (λ (ls : List (List ℕ)). with_tail ls tail) on.is ∙ tail_more before on.more tail;
-          bytes = on.rest_is;
-          are = on.lines;
-        }
+        later = on.more;
+        is = ap (λ (ls : List (List ℕ)). with_tail ls tail) on.is ∙ tail_more before on.more tail;
+        bytes = on.rest_is;
+        are = on.lines;
+      }
       | inr back ↦ (
           let same = none_more before lines (front ++ f.more) tail s.tail_is back in
           record {
@@ -204,12 +203,11 @@ between_front known says script out whole p q f nothing none zero_too =
 abbrev pub Stop : (script : List ℕ) (before : List (List ℕ)) (state : State) (part : List ℕ) → Type 0
 Stop script before state part = (HasFront script before [] × (part ≡ [])) ⊎ (StopsIn script before state part ⊎ (HasBad script before state × (part ≡ bad_line (length before + 1))))
 
-by_stop : Known → SaysOne → (script out whole : List ℕ) (p : IsPlayedPart script out) (q : IsPlayed script whole) → (stop : Stop script p.before p.state p.part) → p.refused ≡ 0 → q.refused ≡ 0
-    → IsStopShown p.state p.part script p.before stop → IsFrontOf (p.text ++ p.part) whole
-by_stop known says script out whole p q (inl between) none zero_too shown = between_front known says script out whole p q between.0 between.1 none zero_too
-by_stop known says script out whole p q (inr (inl stop)) none zero_too shown = stopped_front known says script out whole p q stop none zero_too shown
-by_stop known says script out whole p q (inr (inr bad)) none zero_too shown = absurd (played_has_no_bad known.cut says script whole p.before p.refused p.text p.state q p.plays bad.0)
+by_stop : Known → SaysOne → (script out whole : List ℕ) (p : IsPlayedPart script out) (q : IsPlayed script whole) → (stop : Stop script p.before p.state p.part) → p.stops ≡ stop → IsAllShown script out p → q.refused ≡ 0 → IsFrontOf (p.text ++ p.part) whole
+by_stop known says script out whole p q (inl between) is shown zero_too = between_front known says script out whole p q between.0 between.1 shown.before zero_too
+by_stop known says script out whole p q (inr (inl stop)) is shown zero_too = stopped_front known says script out whole p q stop shown.before zero_too (shown.line stop is)
+by_stop known says script out whole p q (inr (inr bad)) is shown zero_too = absurd (played_has_no_bad known.cut says script whole p.before p.refused p.text p.state q p.plays bad.0)
 
 pub part_front : Known → SaysOne → (script out whole : List ℕ) (p : IsPlayedPart script out) (q : IsPlayed script whole) → IsAllShown script out p → q.refused ≡ 0 → IsFrontOf out whole
 part_front known says script out whole p q shown zero_too =
-    front_on out (p.text ++ p.part) whole p.front (by_stop known says script out whole p q p.stops shown.0 zero_too shown.1)
+    front_on out (p.text ++ p.part) whole p.front (by_stop known says script out whole p q p.stops refl shown zero_too)

@@ -1,21 +1,21 @@
 -- What a play printed that stopped is a front of what the whole play prints, where that ends in a bad line.
-use Rattle.std.proofs.Common.{◌≡◌, ◌≢◌, ℕ, zero, suc, ◌+◌, ◌<◌, ◌≤◌, List, [], ◌∷◌, ◌++◌, length, refl, sym, ap, subst, ◌∙◌, arith, ◌⊎◌, inl, inr, append_assoc, append-nil}
+use Rattle.std.proofs.Common.{◌≡◌, ℕ, ◌+◌, List, [], ◌∷◌, ◌++◌, length, refl, sym, ap, subst, ◌∙◌, arith, inl, inr, append_assoc, append-nil}
 use Rattle.std.proofs.lemmas.List.{length-append}
-use Rattle.mq_text.specs.Cut.{Lacks, IsCutOnce}
+use Rattle.mq_text.specs.Cut.{IsCutOnce}
 use Rattle.mq_machine.specs.declared.line.Line.{Line}
 use Rattle.mq_machine.specs.declared.line.Line.TheVariants as line
 use Rattle.mq_machine.specs.Line.{Says, SaysOne}
 use Rattle.mq_machine.specs.Text.{bad_line}
 use Rattle.mq_machine.specs.State.{State, start}
-use Rattle.mq_machine.specs.Play.{Plays, text_of, AreLines, EndsLine, HasFront, HasLine, HasBad, IsPlayed, IsPlayedSoFar, IsPlayedBad, IsPlayedPart, LinePart, StopsIn, IsFrontOf, script_limit}
-use Rattle.mq_plays.specs.Parts.{IsLineShown, IsStopShown, IsAllShown}
+use Rattle.mq_machine.specs.Play.{Plays, text_of, AreLines, HasFront, HasLine, HasBad, IsPlayed, IsPlayedSoFar, IsPlayedBad, IsPlayedPart, LinePart, StopsIn, IsFrontOf}
+use Rattle.mq_plays.specs.Parts.{IsLineShown, IsAllShown}
 use Rattle.mq_plays.proofs.Requests.{Known}
-use Rattle.mq_plays.proofs.Cuts.{GoesOn, compare}
+use Rattle.mq_plays.proofs.Cuts.{compare}
 use Rattle.mq_plays.proofs.Bads.{not_bad}
-use Rattle.mq_plays.proofs.Ends.{SomeFront, front_of_bad, same_before}
+use Rattle.mq_plays.proofs.Ends.{front_of_bad, same_before}
 use Rattle.mq_plays.proofs.Single.{plays_single, start_single}
 use Rattle.mq_plays.proofs.Plays.{one_lines, one_bad}
-use Rattle.mq_plays.proofs.Parts.{Rest, rest_of, cut_front, text_front, front_on, front_more, same_front, same_whole, line_behind, Stop, part_front}
+use Rattle.mq_plays.proofs.Parts.{rest_of, cut_front, text_front, front_on, front_more, same_front, same_whole, line_behind, Stop, part_front}
 
 -- the lines before the bad one, and how the bytes behind these lines go on
 record Before (script : List ℕ) (before : List (List ℕ)) (front more : List ℕ) (lines : List (List ℕ)) : Type 0 where
@@ -96,15 +96,14 @@ said_bad known says script out whole p q bad is none zero_too =
 whole_front : (text : List ℕ) (script whole : List ℕ) (q : IsPlayedBad script whole) → IsFrontOf text q.text → IsFrontOf text whole
 whole_front text script whole q x = let P : List ℕ → Type 0 = λ xs. IsFrontOf text xs in subst P (sym q.out_is) (front_more text q.text (bad_line (length q.before + 1)) x)
 
-by_stop : Known → SaysOne → (script out whole : List ℕ) (p : IsPlayedPart script out) (q : IsPlayedBad script whole) → (stop : Stop script p.before p.state p.part) → p.refused ≡ 0 → q.refused ≡ 0
-    → IsStopShown p.state p.part script p.before stop → IsFrontOf (p.text ++ p.part) whole
-by_stop known says script out whole p q (inl between) none zero_too shown = whole_front (p.text ++ p.part) script whole q (between_front known says script out whole p q between.0 between.1 none zero_too)
-by_stop known says script out whole p q (inr (inl stop)) none zero_too shown = whole_front (p.text ++ p.part) script whole q (stopped_front known says script out whole p q stop none zero_too shown)
-by_stop known says script out whole p q (inr (inr bad)) none zero_too shown = same_front (p.text ++ p.part) whole (said_bad known says script out whole p q bad.0 bad.1 none zero_too)
+by_stop : Known → SaysOne → (script out whole : List ℕ) (p : IsPlayedPart script out) (q : IsPlayedBad script whole) → (stop : Stop script p.before p.state p.part) → p.stops ≡ stop → IsAllShown script out p → q.refused ≡ 0 → IsFrontOf (p.text ++ p.part) whole
+by_stop known says script out whole p q (inl between) is shown zero_too = whole_front (p.text ++ p.part) script whole q (between_front known says script out whole p q between.0 between.1 shown.before zero_too)
+by_stop known says script out whole p q (inr (inl stop)) is shown zero_too = whole_front (p.text ++ p.part) script whole q (stopped_front known says script out whole p q stop shown.before zero_too (shown.line stop is))
+by_stop known says script out whole p q (inr (inr bad)) is shown zero_too = same_front (p.text ++ p.part) whole (said_bad known says script out whole p q bad.0 bad.1 shown.before zero_too)
 
 pub part_front_of_bad : Known → SaysOne → (script out whole : List ℕ) (p : IsPlayedPart script out) (q : IsPlayedBad script whole) → IsAllShown script out p → q.refused ≡ 0 → IsFrontOf out whole
 part_front_of_bad known says script out whole p q shown zero_too =
-    front_on out (p.text ++ p.part) whole p.front (by_stop known says script out whole p q p.stops shown.0 zero_too shown.1)
+    front_on out (p.text ++ p.part) whole p.front (by_stop known says script out whole p q p.stops refl shown zero_too)
 
 -- ---- what was read
 
@@ -122,8 +121,11 @@ part_of script more out p =
     } in
     record { before = p.lines; state = p.new; text = out; part = []; refused = p.refused; plays = p.plays; stops = inl (has, refl); front = ([], refl) }
 
+whole_lines : (script more out : List ℕ) (p : IsPlayedSoFar script out) → p.refused ≡ 0 → IsAllShown (script ++ more) out (part_of script more out p)
+whole_lines script more out p none = record { before = none; line = λ stop is. absurd cc }
+
 pub so_far_front : Known → SaysOne → (script more out whole : List ℕ) (p : IsPlayedSoFar script out) (q : IsPlayed (script ++ more) whole) → p.refused ≡ 0 → q.refused ≡ 0 → IsFrontOf out whole
-so_far_front known says script more out whole p q none zero_too = part_front known says (script ++ more) out whole (part_of script more out p) q (none, tt) zero_too
+so_far_front known says script more out whole p q none zero_too = part_front known says (script ++ more) out whole (part_of script more out p) q (whole_lines script more out p none) zero_too
 
 pub so_far_front_of_bad : Known → SaysOne → (script more out whole : List ℕ) (p : IsPlayedSoFar script out) (q : IsPlayedBad (script ++ more) whole) → p.refused ≡ 0 → q.refused ≡ 0 → IsFrontOf out whole
-so_far_front_of_bad known says script more out whole p q none zero_too = part_front_of_bad known says (script ++ more) out whole (part_of script more out p) q (none, tt) zero_too
+so_far_front_of_bad known says script more out whole p q none zero_too = part_front_of_bad known says (script ++ more) out whole (part_of script more out p) q (whole_lines script more out p none) zero_too

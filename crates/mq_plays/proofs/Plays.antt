@@ -1,19 +1,18 @@
 -- A script of which no step is refused memory is played in one way.
-use Rattle.std.proofs.Common.{◌≡◌, ◌≢◌, ℕ, zero, suc, ◌+◌, ◌<◌, ◌≤◌, List, [], ◌∷◌, ◌++◌, length, slice_get, slice_set, Some, refl, sym, ap, subst, ◌∙◌, arith, ◌⊎◌, inl, inr, All}
+use Rattle.std.proofs.Common.{◌≡◌, ◌≢◌, ℕ, zero, suc, ◌+◌, ◌≤◌, List, [], ◌∷◌, ◌++◌, length, slice_get, slice_set, Some, sym, ap, subst, ◌∙◌, arith, inl, inr, All}
 use Rattle.mq_talk.specs.declared.note.Note.{Note}
 use Rattle.mq_machine.specs.declared.line.Line.{Line}
 use Rattle.mq_machine.specs.declared.line.Line.TheVariants as line
 use Rattle.mq_machine.specs.Line.{SaysOne}
 use Rattle.mq_machine.specs.Text.{note_line, bad_line}
-use Rattle.mq_machine.specs.State.{Feed, Offer, Held, Worker, State, start}
-use Rattle.mq_machine.specs.Next.{Turn, SilentTurn, Quiet}
+use Rattle.mq_machine.specs.State.{Offer, Held, Worker, State, start}
 use Rattle.mq_machine.specs.Play.{OffersLink, with_piece, ArrivesOffered, ArrivesHeld, ArrivesLate, Arrives, Runs, LinePlays, Plays, with_tail, IsPlayed, IsPlayedSoFar, IsPlayedBad}
 use Rattle.mq_plays.proofs.Requests.{Known}
 use Rattle.mq_plays.proofs.Bads.{at_within}
 use Rattle.mq_plays.proofs.Cuts.{one_script}
 use Rattle.mq_plays.proofs.Ends.{one_before}
 use Rattle.mq_plays.proofs.Turns.{some_same, one_actor_turn, turn_not_quiet}
-use Rattle.mq_plays.proofs.Single.{Holds, IsSingle, get_only, get_one, settles, turn_single, line_single, start_single}
+use Rattle.mq_plays.proofs.Single.{IsSingle, get_only, get_one, settles, turn_single, line_single, start_single}
 
 -- ---- steps
 

@@ -1,16 +1,13 @@
 -- The bytes of a request ask for one thing.
-use Rattle.std.proofs.Common.{◌≡◌, ℕ, List, [], ◌∷◌, ◌++◌, codes, refl, sym, ap, subst, ◌∙◌, ◌⊎◌, inl, inr}
+use Rattle.std.proofs.Common.{◌≡◌, ℕ, List, [], ◌∷◌, ◌++◌, codes, refl, sym, ap, subst, ◌∙◌, inl, inr}
 use Rattle.std.specs.Str.Parse.{digits_value}
-use Rattle.mq_text.specs.Cut.{Lacks, IsCut, IsCutOnce}
-use Rattle.mq_addr.specs.declared.addr.Addr.{Addr}
+use Rattle.mq_text.specs.Cut.{Lacks, IsCutOnce}
 use Rattle.mq_addr.specs.declared.addr.Addr.TheVariants.{V4}
 use Rattle.mq_addr.specs.Addr.{IsAddrText, HasOneAddr}
-use Rattle.mq_addr.specs.declared.kind.Kind.{Kind}
 use Rattle.mq_addr.specs.declared.kind.Kind.TheVariants as kind
-use Rattle.mq_head.specs.Heads.{IsUpgrade, IsRefused}
 use Rattle.mq_head.specs.Reader.{IsBegun}
 use Rattle.mq_head.specs.Laws.{OneAnswer}
-use Rattle.mq_machine.specs.Request.{IsPort, IsUdpPath, IsRequest, IsOtherPath, IsRefusedRequest}
+use Rattle.mq_machine.specs.Request.{IsUdpPath, IsRequest, IsRefusedRequest}
 use Rattle.mq_plays.proofs.Bads.{same_behind}
 use Rattle.mq_plays.proofs.Heads.{begun_or_up, begun_or_refused, up_or_refused, one_refused, one_up}
 

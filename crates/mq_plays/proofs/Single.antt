@@ -1,17 +1,17 @@
 -- The states that lines lead to: one worker, one link at most, and one tunnel at most.
-use Rattle.std.proofs.Common.{◌≡◌, ◌≢◌, ℕ, zero, suc, ◌+◌, ◌<◌, ◌≤◌, List, [], ◌∷◌, ◌++◌, length, take, drop, slice_get, slice_set, remove, Option, Some, None, refl, sym, ap, subst, ◌∙◌, arith, ◌⊎◌, inl, inr}
+use Rattle.std.proofs.Common.{◌≡◌, ℕ, zero, suc, ◌+◌, ◌≤◌, List, [], ◌∷◌, ◌++◌, length, slice_get, slice_set, remove, Some, refl, sym, ap, subst, ◌∙◌, arith, ◌⊎◌, inl, inr}
 use Rattle.std.proofs.lemmas.List.{length-append}
 use Rattle.mq_talk.specs.declared.note.Note.{Note}
 use Rattle.mq_machine.specs.declared.line.Line.{Line}
 use Rattle.mq_machine.specs.declared.line.Line.TheVariants as line
-use Rattle.mq_machine.specs.State.{Conn, new_conn, Feed, Offer, Held, Worker, Shared, State, start}
+use Rattle.mq_machine.specs.State.{new_conn, Offer, Held, Worker, Shared, State, start}
 use Rattle.mq_machine.specs.ConnNext.{starved}
-use Rattle.mq_machine.specs.Next.{HasConn, DueNext, HeldNext, OfNext, Try, Want, Write, Read, Seat, Offers, Of, place, SeatNext, WorkerTurn, WorkerStarves, Turn, SilentTurn}
-use Rattle.mq_machine.specs.Play.{OffersLink, with_piece, ArrivesOffered, ArrivesHeld, Arrives, Runs, LinePlays, Plays}
+use Rattle.mq_machine.specs.Next.{HeldNext, OfNext, Try, Want, Write, Read, Seat, Offers, Of, SeatNext, WorkerStarves, Turn, SilentTurn}
+use Rattle.mq_machine.specs.Play.{OffersLink, with_piece, Arrives, Runs, LinePlays, Plays}
 use Rattle.mq_plays.proofs.Requests.{Known}
 use Rattle.mq_plays.proofs.Counts.{set_length}
 use Rattle.mq_plays.proofs.Opening.{IsOne, new_one, want_one, wrote_one, took_one, starved_one, remove_length}
-use Rattle.mq_plays.proofs.Turns.{Settled, some_same, IsRead, reads, IsWritten, writes, IsAccepted, accepts, IsEnded, ends_or_goes}
+use Rattle.mq_plays.proofs.Turns.{Settled, some_same, reads, writes, IsAccepted, accepts, IsEnded, ends_or_goes}
 
 -- each connection of these has one tunnel at most
 abbrev pub AreOne : List Held → Type 0

@@ -1,15 +1,14 @@
 -- The turn of a worker is one.
-use Rattle.std.proofs.Common.{◌≡◌, ◌≢◌, ℕ, zero, suc, ◌+◌, ◌<◌, ◌≤◌, List, [], ◌∷◌, ◌++◌, length, take, drop, slice_get, slice_set, remove, Option, Some, None, refl, sym, ap, subst, ◌∙◌, arith, ◌⊎◌, inl, inr}
+use Rattle.std.proofs.Common.{◌≡◌, ℕ, ◌+◌, ◌<◌, List, [], ◌∷◌, ◌++◌, length, take, drop, slice_get, slice_set, remove, Some, refl, sym, ap, subst, ◌∙◌, arith, ◌⊎◌, inl, inr}
 use Rattle.std.proofs.lemmas.Bool.{cases_lt}
 use Rattle.mq_talk.specs.declared.book.Call.{Call}
-use Rattle.mq_talk.specs.declared.book.Entry.{Entry}
 use Rattle.mq_talk.specs.declared.note.End.{End}
 use Rattle.mq_talk.specs.declared.note.Note.{Note}
-use Rattle.mq_talk.specs.declared.note.Note.TheVariants.{Accepted, Took, Ported, Opened, Refused, Sent, Wrote, Closed, Ended}
+use Rattle.mq_talk.specs.declared.note.Note.TheVariants.{Accepted, Took, Wrote, Ended}
 use Rattle.mq_machine.specs.declared.act.Act.{Act}
-use Rattle.mq_machine.specs.State.{Conn, new_conn, Feed, Offer, Held, Worker, Shared, State}
-use Rattle.mq_machine.specs.ConnNext.{WantNext, WroteNext, TookNext, IsOver}
-use Rattle.mq_machine.specs.Next.{Takes, without_empty, entries_of, ReadNext, DueNext, WriteNext, HasConn, AcceptNext, EndNext, OfNext, HeldNext, Try, Want, Write, Read, order, Seat, Offers, Of, place, SeatNext, NoLater, IsIdle, WorkerTurn, Turn, Quiet}
+use Rattle.mq_machine.specs.State.{Conn, Offer, Held, Worker, Shared, State}
+use Rattle.mq_machine.specs.ConnNext.{TookNext, IsOver}
+use Rattle.mq_machine.specs.Next.{Takes, without_empty, entries_of, ReadNext, DueNext, WriteNext, HasConn, AcceptNext, EndNext, OfNext, HeldNext, Try, Want, Write, Read, order, Seat, Offers, Of, place, SeatNext, NoLater, WorkerTurn, Turn, Quiet}
 use Rattle.mq_plays.proofs.Requests.{Known}
 use Rattle.mq_plays.proofs.Asked.{one_asked}
 use Rattle.mq_plays.proofs.Bads.{same_behind}
@@ -255,7 +254,7 @@ one_try : (a b : Try) → (order a < order b → ⊥) → (order b < order a →
 one_try a b p q =
     elim (cases_lt (order a) (order b)) [
       | inl less ↦ absurd (p less)
-      | inr over ↦ elim (cases_lt (order b) (order a)) [ | inl less ↦ absurd (q less) | inr none ↦ try_of_order a b (omega arith) ]
+      | inr over ↦ elim (cases_lt (order b) (order a)) [ inl less ↦ absurd (q less) | inr none ↦ try_of_order a b (omega arith) ]
     ]
 
 pub one_worker_turn : Known → (w : Worker) (sh : Shared) (n m : Note) (u v : Worker) (a b : Shared) → Settled w → WorkerTurn w sh n u a → WorkerTurn w sh m v b → (n ≡ m) × (u ≡ v) × (a ≡ b)

@@ -3,8 +3,8 @@
 
 mod asking;
 mod lines;
-mod play;
 mod part;
+mod play;
 mod turn;
 
 pub use asking::asked_once;
