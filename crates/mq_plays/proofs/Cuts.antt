@@ -4,7 +4,7 @@ use Rattle.mq_text.specs.Cut.{Lacks, IsCutOnce}
 use Rattle.mq_machine.specs.Play.{text_of, AreLines, IsScript}
 
 -- the bytes behind the line and its newline
-line_text : (line : List ℕ) (lines : List (List ℕ)) (rest : List ℕ) → text_of (line ∷ lines) ++ rest ≡ line ++ 10 ∷ (text_of lines ++ rest)
+pub line_text : (line : List ℕ) (lines : List (List ℕ)) (rest : List ℕ) → text_of (line ∷ lines) ++ rest ≡ line ++ 10 ∷ (text_of lines ++ rest)
 line_text line lines rest = ap (λ (xs : List ℕ). xs ++ rest) (append_assoc line (10 ∷ []) (text_of lines)) ∙ append_assoc line (10 ∷ text_of lines) rest
 
 -- The longer lines go on behind the shorter ones: so do the bytes behind these.

@@ -6,7 +6,7 @@ use Rattle.mq_text.specs.Cut.{Lacks, IsCutOnce}
 use Rattle.mq_machine.specs.Line.{SaysOne}
 use Rattle.mq_machine.specs.State.{State, start}
 use Rattle.mq_machine.specs.Play.{Plays, HasFront, HasLine, HasBad, text_of, AreLines, with_tail, IsScript, IsPlayed, IsPlayedBad, line_limit, script_limit}
-use Rattle.mq_plays.proofs.Cuts.{compare, none_more}
+use Rattle.mq_plays.proofs.Cuts.{line_text, compare, none_more}
 use Rattle.mq_plays.proofs.Counts.{alike_self, plays_alike, parted}
 use Rattle.mq_plays.proofs.Bads.{not_bad_here, not_bad, empty_good}
 
@@ -24,9 +24,6 @@ script_more : (script : List ℕ) (before more : List (List ℕ)) (tail : List �
 script_more script before more tail is =
     is ∙ ap (λ (xs : List ℕ). xs ++ tail) (flat_map-append _ before more) ∙ append_assoc (text_of before) (text_of more) tail
 
-line_behind : (line : List ℕ) (lines : List (List ℕ)) (tail : List ℕ) → text_of (line ∷ lines) ++ tail ≡ line ++ 10 ∷ (text_of lines ++ tail)
-line_behind line lines tail = ap (λ (xs : List ℕ). xs ++ tail) (append_assoc line (10 ∷ []) (text_of lines)) ∙ append_assoc line (10 ∷ text_of lines) tail
-
 -- a line that others follow
 pub inner_line : (script : List ℕ) (before : List (List ℕ)) (line : List ℕ) (lines : List (List ℕ)) (tail : List ℕ) → script ≡ text_of (before ++ line ∷ lines) ++ tail
     → AreLines before → Lacks 10 line → length (text_of (before ++ line ∷ lines)) ≤ script_limit → length line ≤ line_limit → HasLine script before line
@@ -39,7 +36,7 @@ inner_line script before line lines tail is are lacks fits line_fits =
     record {
       has = record {
         more = 10 ∷ (text_of lines ++ tail);
-        is = script_more script before (line ∷ lines) tail is ∙ ap (λ (xs : List ℕ). text_of before ++ xs) (line_behind line lines tail);
+        is = script_more script before (line ∷ lines) tail is ∙ ap (λ (xs : List ℕ). text_of before ++ xs) (line_text line lines tail);
         before_are = are;
         fits = omega arith;
         front_is = lacks;

@@ -10,5 +10,6 @@ pub mod PartsBad
 pub mod Plays
 pub mod Requests
 pub mod Single
+pub mod Starving
 pub mod Turns
 pub mod Wanting

@@ -10,7 +10,7 @@ use Rattle.mq_machine.specs.State.{State, start}
 use Rattle.mq_machine.specs.Play.{Runs, LinePlays, Plays, text_of, AreLines, IsScript, with_tail, EndsLine, HasFront, HasBad, IsPlayed, IsPlayedPart, RunsPart, LinePart, StopsIn, IsFrontOf}
 use Rattle.mq_plays.specs.Parts.{AreShown, IsLineShown, IsAllShown}
 use Rattle.mq_plays.proofs.Requests.{Known}
-use Rattle.mq_plays.proofs.Cuts.{compare, none_more}
+use Rattle.mq_plays.proofs.Cuts.{line_text, compare, none_more}
 use Rattle.mq_plays.proofs.Counts.{parted}
 use Rattle.mq_plays.proofs.Bads.{front_within, whole_front}
 use Rattle.mq_plays.proofs.Ends.{tail_more, played_has_no_bad}
@@ -138,9 +138,6 @@ within once script before lines front tail s f =
           )
     ]
 
-pub line_behind : (line : List ℕ) (lines : List (List ℕ)) (tail : List ℕ) → text_of (line ∷ lines) ++ tail ≡ line ++ 10 ∷ (text_of lines ++ tail)
-line_behind line lines tail = ap (λ (xs : List ℕ). xs ++ tail) (append_assoc line (10 ∷ []) (text_of lines)) ∙ append_assoc line (10 ∷ text_of lines) tail
-
 empty_both : (xs ys : List ℕ) → xs ++ ys ≡ [] → xs ≡ []
 empty_both [] ys e = refl
 empty_both (x ∷ xs) ys e = absurd cc
@@ -158,10 +155,10 @@ next_line [] (c ∷ cs) front more are p q ends e =
     let same = same_whole front more (c ∷ cs) [] q p ends tt (e ∙ sym (append-nil (c ∷ cs))) in
     inr ([], ap (λ (line : List ℕ). line ∷ []) same)
 next_line (m ∷ ms) [] front more are p q ends e =
-    let same = same_whole front more m (10 ∷ (text_of ms ++ [])) q are.0 ends refl (e ∙ line_behind m ms []) in
+    let same = same_whole front more m (10 ∷ (text_of ms ++ [])) q are.0 ends refl (e ∙ line_text m ms []) in
     inr (ms, ap (λ (line : List ℕ). line ∷ ms) same)
 next_line (m ∷ ms) (c ∷ cs) front more are p q ends e =
-    let same = same_whole front more m (10 ∷ (text_of ms ++ c ∷ cs)) q are.0 ends refl (e ∙ line_behind m ms (c ∷ cs)) in
+    let same = same_whole front more m (10 ∷ (text_of ms ++ c ∷ cs)) q are.0 ends refl (e ∙ line_text m ms (c ∷ cs)) in
     inr (ms ++ (c ∷ cs) ∷ [], ap (λ (line : List ℕ). line ∷ (ms ++ (c ∷ cs) ∷ [])) same)
 
 -- an empty line prints nothing

@@ -10,12 +10,12 @@ use Rattle.mq_machine.specs.State.{State, start}
 use Rattle.mq_machine.specs.Play.{Plays, text_of, AreLines, HasFront, HasLine, HasBad, IsPlayed, IsPlayedSoFar, IsPlayedBad, IsPlayedPart, LinePart, StopsIn, IsFrontOf}
 use Rattle.mq_plays.specs.Parts.{IsLineShown, IsAllShown}
 use Rattle.mq_plays.proofs.Requests.{Known}
-use Rattle.mq_plays.proofs.Cuts.{compare}
+use Rattle.mq_plays.proofs.Cuts.{line_text, compare}
 use Rattle.mq_plays.proofs.Bads.{not_bad}
 use Rattle.mq_plays.proofs.Ends.{front_of_bad, same_before}
 use Rattle.mq_plays.proofs.Single.{plays_single, start_single}
 use Rattle.mq_plays.proofs.Plays.{one_lines, one_bad}
-use Rattle.mq_plays.proofs.Parts.{rest_of, cut_front, text_front, front_on, front_more, same_front, same_whole, line_behind, Stop, part_front}
+use Rattle.mq_plays.proofs.Parts.{rest_of, cut_front, text_front, front_on, front_more, same_front, same_whole, Stop, part_front}
 
 -- the lines before the bad one, and how the bytes behind these lines go on
 record Before (script : List ℕ) (before : List (List ℕ)) (front more : List ℕ) (lines : List (List ℕ)) : Type 0 where
@@ -64,7 +64,7 @@ stopped_front known says script out whole p q s none zero_too shown =
         text_front p.text p.part q.text (no_part says script p.before s.line s.said p.state p.part s.has s.says s.part bad) (same_front p.text q.text same.0)
     go (m ∷ ms) is rest bytes are =
         let P : List (List ℕ) → Type 0 = λ ls. Plays start ls q.refused q.text q.state in
-        let line_is = same_whole s.line s.has.has.more m (10 ∷ (text_of ms ++ rest)) s.has.has.front_is are.0 s.has.ends refl (bytes ∙ line_behind m ms rest) in
+        let line_is = same_whole s.line s.has.has.more m (10 ∷ (text_of ms ++ rest)) s.has.has.front_is are.0 s.has.ends refl (bytes ∙ line_text m ms rest) in
         let R : List ℕ → Type 0 = λ l. Plays start (p.before ++ l ∷ ms) q.refused q.text q.state in
         let behind = rest_of known says p.before (s.line ∷ ms) p.refused q.refused p.text q.text p.state q.state none zero_too p.plays (subst R line_is (subst P is q.plays)) in
         cut_front known says s.line ms s.said p.state p.text p.part q.text (plays_single known p.before start p.refused p.text p.state p.plays start_single) s.says s.part shown behind

@@ -11,7 +11,8 @@ use Rattle.mq_plays.proofs.Requests.{Known}
 use Rattle.mq_plays.proofs.Bads.{at_within}
 use Rattle.mq_plays.proofs.Cuts.{one_script}
 use Rattle.mq_plays.proofs.Ends.{one_before}
-use Rattle.mq_plays.proofs.Turns.{some_same, one_actor_turn, turn_not_quiet}
+use Rattle.mq_plays.proofs.Wanting.{some_same}
+use Rattle.mq_plays.proofs.Turns.{one_actor_turn, turn_not_quiet}
 use Rattle.mq_plays.proofs.Single.{IsSingle, get_only, get_one, settles, turn_single, line_single, start_single}
 
 -- ---- steps

@@ -11,7 +11,8 @@ use Rattle.mq_machine.specs.Play.{OffersLink, with_piece, Arrives, Runs, LinePla
 use Rattle.mq_plays.proofs.Requests.{Known}
 use Rattle.mq_plays.proofs.Counts.{set_length}
 use Rattle.mq_plays.proofs.Opening.{IsOne, new_one, want_one, wrote_one, took_one, starved_one, remove_length}
-use Rattle.mq_plays.proofs.Turns.{Settled, some_same, reads, writes, IsAccepted, accepts, IsEnded, ends_or_goes}
+use Rattle.mq_plays.proofs.Wanting.{some_same}
+use Rattle.mq_plays.proofs.Turns.{Settled, reads, writes, IsAccepted, accepts, IsEnded, ends_or_goes}
 
 -- each connection of these has one tunnel at most
 abbrev pub AreOne : List Held → Type 0

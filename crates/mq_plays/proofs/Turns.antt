@@ -12,16 +12,13 @@ use Rattle.mq_machine.specs.Next.{Takes, without_empty, entries_of, ReadNext, Du
 use Rattle.mq_plays.proofs.Requests.{Known}
 use Rattle.mq_plays.proofs.Asked.{one_asked}
 use Rattle.mq_plays.proofs.Bads.{same_behind}
-use Rattle.mq_plays.proofs.Wanting.{one_want, over_wants_none}
+use Rattle.mq_plays.proofs.Wanting.{some_same, one_want, over_wants_none}
 use Rattle.mq_plays.proofs.Opening.{IsOne, few_tunnels}
 
 -- a number names one connection, and each has one tunnel at most
 pub record Settled (w : Worker) : Type 0 where
   pub one : (c i j : ℕ) (h g : Held) → HasConn w c i h → HasConn w c j g → (i ≡ j) × (h ≡ g)
   pub conns : (i : ℕ) (h : Held) → slice_get w.conns i ≡ Some h → IsOne h.conn
-
-pub some_same : {A : Type 0} → (a b : A) → Some a ≡ Some b → a ≡ b
-some_same a b e = cc
 
 -- ---- what a connection tries
 

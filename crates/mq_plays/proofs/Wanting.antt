@@ -60,9 +60,9 @@ step_at : (conn entries : ℕ) (c : Conn) (acts : List Act) (tunnels : List Tunn
 step_at conn entries c acts tunnels step due live is =
     ap (λ (xs : List Act). wanted conn entries c xs c.tunnels) due ∙ ap (λ (ts : List Tunnel). wanted conn entries c acts ts) live ∙ is
 
-some_same : (note note' : Note) (new new' : Conn) (calls calls' : List Call) → note ≡ note' → new ≡ new' → calls ≡ calls'
+step_is : (note note' : Note) (new new' : Conn) (calls calls' : List Call) → note ≡ note' → new ≡ new' → calls ≡ calls'
     → ◌≡◌ {A = Step} (Some (note, new, calls)) (Some (note', new', calls'))
-some_same note note' new new' calls calls' p q r = cc
+step_is note note' new new' calls calls' p q r = cc
 
 -- what is next is what is wanted
 pub wants : (conn entries : ℕ) (old : Conn) (note : Note) (new : Conn) (calls : List Call) → length old.tunnels ≤ 1 → WantNext conn entries old note new calls
@@ -70,25 +70,25 @@ pub wants : (conn entries : ℕ) (old : Conn) (note : Note) (new : Conn) (calls 
 wants conn entries old (Ported c stream) new calls few h =
     let p = h.1 in
     step_at conn entries old (act.Bind stream p.goal ∷ p.rest) old.tunnels _ p.due refl
-    (some_same (Ported conn stream) (Ported c stream) _ new [] calls (ap (λ (n : ℕ). Ported n stream) (sym h.0)) (sym p.new_is) (sym h.2))
+    (step_is (Ported conn stream) (Ported c stream) _ new [] calls (ap (λ (n : ℕ). Ported n stream) (sym h.0)) (sym p.new_is) (sym h.2))
 wants conn entries old (Opened tunnel c stream kind) new calls few h =
     let p = h.4 in
     let conns = h.0 in
     let tunnels = h.1 in
     let kinds = h.3 in
     step_at conn entries old (act.Open stream h.2 ∷ p.rest) old.tunnels _ p.due refl
-    (some_same (Opened entries conn stream (goal_kind h.2)) (Opened tunnel c stream kind) _ new (call.Open conn stream h.2 ∷ []) calls (cc)
+    (step_is (Opened entries conn stream (goal_kind h.2)) (Opened tunnel c stream kind) _ new (call.Open conn stream h.2 ∷ []) calls (cc)
     (ap (λ (id : ℕ). record old { due = p.rest; out = old.out ++ success_text (goal_kind h.2); tunnels = old.tunnels ++ record { id = id; stream = stream; waiting = [] } ∷ [] }) (sym tunnels) ∙ sym p.new_is)
     (sym h.5))
 wants conn entries old (Refused c stream status rule) new calls few h =
     let p = h.1 in
     step_at conn entries old (act.Refuse stream status rule ∷ p.rest) old.tunnels _ p.due refl
-    (some_same (Refused conn stream status rule) (Refused c stream status rule) _ new [] calls (ap (λ (n : ℕ). Refused n stream status rule) (sym h.0)) (sym p.new_is) (sym h.2))
+    (step_is (Refused conn stream status rule) (Refused c stream status rule) _ new [] calls (ap (λ (n : ℕ). Refused n stream status rule) (sym h.0)) (sym p.new_is) (sym h.2))
 wants conn entries old (Sent from n packet) new calls few h =
     let p = h.0 in
     let one = only_tunnel old.tunnels p.i p.t few p.has.at in
     step_at conn entries old (act.Payload p.stream n packet ∷ p.rest) (p.t ∷ []) _ p.due one.0
-    (some_same (Sent (origin.Tunnel p.t.id) n packet) (Sent from n packet) _ new [] calls (ap (λ f. Sent f n packet) (sym p.from_is)) (sym p.new_is) (sym h.1))
+    (step_is (Sent (origin.Tunnel p.t.id) n packet) (Sent from n packet) _ new [] calls (ap (λ f. Sent f n packet) (sym p.from_is)) (sym p.new_is) (sym h.1))
 wants conn entries old (Closed tunnel why.Malformed left) new calls few h =
     let p = h.0 in
     let one = only_tunnel old.tunnels p.i p.t few p.has.at in
@@ -96,7 +96,7 @@ wants conn entries old (Closed tunnel why.Malformed left) new calls few h =
     let lefts = p.left_is in
     let book = h.1 in
     step_at conn entries old (act.Malformed p.stream ∷ p.rest) (p.t ∷ []) _ p.due one.0
-    (some_same (Closed p.t.id why.Malformed (length p.t.waiting)) (Closed tunnel why.Malformed left) _ new (call.Close p.t.id ∷ []) calls (cc)
+    (step_is (Closed p.t.id why.Malformed (length p.t.waiting)) (Closed tunnel why.Malformed left) _ new (call.Close p.t.id ∷ []) calls (cc)
     (ap (λ (i : ℕ). record old { due = without p.stream p.rest; tunnels = remove old.tunnels i; ending = Some end.Tunnel }) (sym one.1) ∙ sym p.new_is) (cc))
 wants conn entries old (Closed tunnel why.Conn left) new calls few h =
     let p = h.0 in
@@ -104,24 +104,24 @@ wants conn entries old (Closed tunnel why.Conn left) new calls few h =
     let lefts = p.left_is in
     let book = h.1 in
     step_at conn entries old [] (p.t ∷ p.rest) _ p.due p.tunnels
-    (some_same (Closed p.t.id why.Conn (length p.t.waiting)) (Closed tunnel why.Conn left) _ new (call.Close p.t.id ∷ []) calls (cc) (sym p.new_is) (cc))
+    (step_is (Closed p.t.id why.Conn (length p.t.waiting)) (Closed tunnel why.Conn left) _ new (call.Close p.t.id ∷ []) calls (cc) (sym p.new_is) (cc))
 wants conn entries old (Accepted c actor) new calls few h = absurd h
 wants conn entries old (Took c count) new calls few h = absurd h
 wants conn entries old (Wrote c bytes) new calls few h = absurd h
 wants conn entries old (Ended c reason) new calls few h = absurd h
 
-some_once : {A : Type 0} → (a b : A) → Some a ≡ Some b → a ≡ b
-some_once a b e = cc
+pub some_same : {A : Type 0} → (a b : A) → Some a ≡ Some b → a ≡ b
+some_same a b e = cc
 
-step_same : (n m : Note) (c d : Conn) (xs ys : List Call) → ◌≡◌ {A = Step} (Some (n, c, xs)) (Some (m, d, ys)) → (n ≡ m) × (c ≡ d) × (xs ≡ ys)
-step_same n m c d xs ys e =
-    let same = some_once {A = Note × Conn × List Call} (n, c, xs) (m, d, ys) e in
+parts_same : (n m : Note) (c d : Conn) (xs ys : List Call) → ◌≡◌ {A = Step} (Some (n, c, xs)) (Some (m, d, ys)) → (n ≡ m) × (c ≡ d) × (xs ≡ ys)
+parts_same n m c d xs ys e =
+    let same = some_same {A = Note × Conn × List Call} (n, c, xs) (m, d, ys) e in
     (ap (λ (s : Note × Conn × List Call). s.0) same, ap (λ (s : Note × Conn × List Call). s.1) same, ap (λ (s : Note × Conn × List Call). s.2) same)
 
 pub one_want : (conn entries : ℕ) (old : Conn) (n m : Note) (c d : Conn) (xs ys : List Call) → length old.tunnels ≤ 1 → WantNext conn entries old n c xs → WantNext conn entries old m d ys
     → (n ≡ m) × (c ≡ d) × (xs ≡ ys)
 one_want conn entries old n m c d xs ys few x y =
-    step_same n m c d xs ys (sym (wants conn entries old n c xs few x) ∙ wants conn entries old m d ys few y)
+    parts_same n m c d xs ys (sym (wants conn entries old n c xs few x) ∙ wants conn entries old m d ys few y)
 
 -- where nothing is left but its end, nothing is next
 pub over_wants_none : (conn entries : ℕ) (old : Conn) (reason : End) (note : Note) (new : Conn) (calls : List Call) → IsOver old reason → WantNext conn entries old note new calls → ⊥

@@ -1,5 +1,5 @@
 -- What is one for every script.
-use Rattle.std.specs.Prelude.{◌≡◌, ℕ, List, ◌++◌, length}
+use Rattle.std.specs.Prelude.{◌≡◌, ℕ, ◌≤◌, List, ◌++◌, length}
 use Rattle.mq_machine.specs.declared.act.Act.{Act}
 use Rattle.mq_machine.specs.Request.{Asks}
 use Rattle.mq_talk.specs.declared.note.Note.{Note}
@@ -32,6 +32,10 @@ IsGoodOrBad = (script a b : List ℕ) → IsPlayed script a → IsPlayedBad scri
 -- the first bad line of a script is one, whatever was refused memory
 abbrev pub HasOneBadLine : Type 0
 HasOneBadLine = (script a b : List ℕ) (p : IsPlayedBad script a) (q : IsPlayedBad script b) → length p.before ≡ length q.before
+
+-- There are no more steps that were refused memory than links.
+abbrev pub AreFewRefused : Type 0
+AreFewRefused = (lines : List (List ℕ)) (refused : ℕ) (text : List ℕ) (s : State) → Plays start lines refused text s → refused ≤ s.links
 
 -- A script of good lines prints one text, where no step was refused memory: such a step prints nothing, and may come at any
 -- time.
