@@ -1,0 +1,136 @@
+-- The reads of a connection ask for one list of acts.
+use Rattle.std.proofs.Common.{◌≡◌, ℕ, ◌+◌, List, [], ◌∷◌, ◌++◌, drop, refl, sym, ap, subst, ◌∙◌, inl, inr, append_assoc}
+use Rattle.std.specs.List.{concat}
+use Rattle.mq_head.specs.Reader.{IsBegun}
+use Rattle.mq_machine.specs.declared.act.Act.{Act}
+use Rattle.mq_machine.specs.declared.act.Act.TheVariants.{Bind, Open, Refuse, Payload, Malformed}
+use Rattle.mq_machine.specs.Capsule.{Reads}
+use Rattle.mq_machine.specs.Request.{AreBegun, Decides, AsksTunnel, AsksRefusal, Asks, IsRequest, IsRefusedRequest}
+use Rattle.mq_plays.proofs.Requests.{Known, one_request, request_or_refused, one_refusal, begun_or_request, begun_or_refusal}
+
+-- a data stream asks for one list of acts
+one_reading : (a b : List Act) (stream n : ℕ) (bytes left rest : List ℕ) → Reads stream n bytes a left → Reads stream n bytes b rest → a ≡ b
+one_reading [] [] stream n bytes left rest x y = refl
+one_reading [] (Payload on k payload ∷ ms) stream n bytes left rest x y = let e = x.0 in let f = y.3 in absurd cc
+one_reading [] (Malformed on ∷ ms) stream n bytes left rest x y = let e = x.0 in let f = y.1 in absurd cc
+one_reading [] (Bind on goal ∷ ms) stream n bytes left rest x y = absurd y
+one_reading [] (Open on goal ∷ ms) stream n bytes left rest x y = absurd y
+one_reading [] (Refuse on status rule ∷ ms) stream n bytes left rest x y = absurd y
+one_reading (Payload on k payload ∷ ls) [] stream n bytes left rest x y = let e = x.3 in let f = y.0 in absurd cc
+one_reading (Payload on k payload ∷ ls) (Payload on' k' payload' ∷ ms) stream n bytes left rest x y =
+    let e = x.3 in
+    let f = y.3 in
+    let payloads : payload ≡ payload' = cc in
+    let behind : y.2 ≡ x.2 = cc in
+    let ons = x.0 ∙ sym y.0 in
+    let ks = x.1 ∙ sym y.1 in
+    let P : List ℕ → Type 0 = λ xs. Reads stream (n + 1) xs ms rest in
+    let acts = one_reading ls ms stream (n + 1) x.2 left rest x.4 (subst P behind y.4) in
+    cc
+one_reading (Payload on k payload ∷ ls) (Malformed on' ∷ ms) stream n bytes left rest x y = let e = x.3 in let f = y.1 in absurd cc
+one_reading (Payload on k payload ∷ ls) (Bind on' goal ∷ ms) stream n bytes left rest x y = absurd y
+one_reading (Payload on k payload ∷ ls) (Open on' goal ∷ ms) stream n bytes left rest x y = absurd y
+one_reading (Payload on k payload ∷ ls) (Refuse on' status rule ∷ ms) stream n bytes left rest x y = absurd y
+one_reading (Malformed on ∷ ls) [] stream n bytes left rest x y = let e = x.1 in let f = y.0 in absurd cc
+one_reading (Malformed on ∷ ls) (Payload on' k payload ∷ ms) stream n bytes left rest x y = let e = x.1 in let f = y.3 in absurd cc
+one_reading (Malformed on ∷ ls) (Malformed on' ∷ ms) stream n bytes left rest x y =
+    let ons = x.0 ∙ sym y.0 in
+    let acts = x.2 ∙ sym y.2 in
+    cc
+one_reading (Malformed on ∷ ls) (Bind on' goal ∷ ms) stream n bytes left rest x y = absurd y
+one_reading (Malformed on ∷ ls) (Open on' goal ∷ ms) stream n bytes left rest x y = absurd y
+one_reading (Malformed on ∷ ls) (Refuse on' status rule ∷ ms) stream n bytes left rest x y = absurd y
+one_reading (Bind on goal ∷ ls) b stream n bytes left rest x y = absurd x
+one_reading (Open on goal ∷ ls) b stream n bytes left rest x y = absurd x
+one_reading (Refuse on status rule ∷ ls) b stream n bytes left rest x y = absurd x
+
+front_begun : (reads : List (List ℕ)) (front : List ℕ) → AreBegun front reads → IsBegun front
+front_begun [] front h = h
+front_begun (bytes ∷ reads) front h = h.0
+
+-- nothing was decided at any read
+begun_at : (before : List (List ℕ)) (last : List ℕ) (after : List (List ℕ)) (front : List ℕ) → AreBegun front (before ++ last ∷ after) → IsBegun (front ++ (concat before ++ last))
+begun_at [] last after front h = front_begun after (front ++ last) h.1
+begun_at (bytes ∷ before) last after front h =
+    subst IsBegun (append_assoc front bytes (concat before ++ last) ∙ ap (λ (xs : List ℕ). front ++ xs) (sym (append_assoc bytes (concat before) last))) (begun_at before last after (front ++ bytes) h.1)
+
+-- one read is the first that decides
+one_decision : (b c : List (List ℕ)) (k l : List ℕ) (x y : List (List ℕ)) (front : List ℕ) → b ++ k ∷ x ≡ c ++ l ∷ y → AreBegun front b → AreBegun front c
+    → (IsBegun (front ++ (concat b ++ k)) → ⊥) → (IsBegun (front ++ (concat c ++ l)) → ⊥) → (b ≡ c) × (k ≡ l) × (x ≡ y)
+one_decision [] [] k l x y front e p q f g = (refl, cc, cc)
+one_decision [] (m ∷ ms) k l x y front e p q f g =
+    let first : k ≡ m = cc in
+    absurd (f (subst (λ (xs : List ℕ). IsBegun (front ++ xs)) (sym first) (front_begun ms (front ++ m) q.1)))
+one_decision (m ∷ ms) [] k l x y front e p q f g =
+    let first : m ≡ l = cc in
+    absurd (g (subst (λ (xs : List ℕ). IsBegun (front ++ xs)) first (front_begun ms (front ++ m) p.1)))
+one_decision (m ∷ ms) (n ∷ ns) k l x y front e p q f g =
+    let first : m ≡ n = cc in
+    let tail : ms ++ k ∷ x ≡ ns ++ l ∷ y = cc in
+    let P : List ℕ → Type 0 = λ xs. AreBegun (front ++ xs) ns in
+    let Q : List ℕ → Type 0 = λ xs. IsBegun ((front ++ xs) ++ (concat ns ++ l)) → ⊥ in
+    let joins : (xs : List ℕ) (zs : List (List ℕ)) (o : List ℕ) → (front ++ xs) ++ (concat zs ++ o) ≡ front ++ (concat (xs ∷ zs) ++ o) =
+    λ xs zs o. append_assoc front xs (concat zs ++ o) ∙ ap (λ (ys : List ℕ). front ++ ys) (sym (append_assoc xs (concat zs) o)) in
+    let other : IsBegun ((front ++ n) ++ (concat ns ++ l)) → ⊥ = λ h. g (subst IsBegun (joins n ns l) h) in
+    let one : IsBegun ((front ++ m) ++ (concat ms ++ k)) → ⊥ = λ h. f (subst IsBegun (joins m ms k) h) in
+    let same = one_decision ms ns k l x y (front ++ m) tail p.1 (subst P (sym first) q.1) one (subst Q (sym first) other) in
+    let rest = same.0 in
+    (cc, same.1, same.2)
+
+-- the read that decides, and what it leaves undecided no more
+tunnel_decides : Known → (reads : List (List ℕ)) (acts : List Act) (t : AsksTunnel reads acts) → IsBegun (concat t.before ++ t.last) → ⊥
+tunnel_decides known reads acts t begun = begun_or_request known (concat t.before ++ t.last) t.addr t.port t.used begun t.request
+
+refusal_decides : Known → (reads : List (List ℕ)) (acts : List Act) (r : AsksRefusal reads acts) → IsBegun (concat r.before ++ r.last) → ⊥
+refusal_decides known reads acts r begun = begun_or_refusal known (concat r.before ++ r.last) r.status begun r.refused
+
+undecided : (reads before : List (List ℕ)) (last : List ℕ) (after : List (List ℕ)) → Decides reads before last after → AreBegun [] reads → IsBegun (concat before ++ last)
+undecided reads before last after d begun = begun_at before last after [] (subst (λ (rs : List (List ℕ)). AreBegun [] rs) d.is begun)
+
+one_tunnel : Known → (reads : List (List ℕ)) (a b : List Act) → AsksTunnel reads a → AsksTunnel reads b → a ≡ b
+one_tunnel known reads a b x y =
+    let same = one_decision x.before y.before x.last y.last x.after y.after [] (sym x.decides.is ∙ y.decides.is) x.decides.begun y.decides.begun (tunnel_decides known reads a x) (tunnel_decides known reads b y) in
+    let head : concat x.before ++ x.last ≡ concat y.before ++ y.last = ap (λ (rs : List (List ℕ)). concat rs ++ x.last) same.0 ∙ ap (λ (l : List ℕ). concat y.before ++ l) same.1 in
+    let goal = one_request known (concat x.before ++ x.last) x.addr y.addr x.port y.port x.used y.used x.request (subst (λ (bytes : List ℕ). IsRequest bytes y.addr y.port y.used) (sym head) y.request) in
+    let behind : drop x.used (concat x.before ++ x.last) ++ concat x.after ≡ drop y.used (concat y.before ++ y.last) ++ concat y.after =
+    ap (λ (n : ℕ). drop n (concat x.before ++ x.last) ++ concat x.after) goal.2 ∙ ap (λ (xs : List ℕ). drop y.used xs ++ concat x.after) head ∙ ap (λ (rs : List (List ℕ)). drop y.used (concat y.before ++ y.last) ++ concat rs) same.2 in
+    let P : List ℕ → Type 0 = λ xs. Reads 0 0 xs y.payloads y.left in
+    let payloads = one_reading x.payloads y.payloads 0 0 _ x.left y.left x.capsules (subst P (sym behind) y.capsules) in
+    let addr = goal.0 in
+    let port = goal.1 in
+    let is = x.acts_are in
+    let others = y.acts_are in
+    cc
+
+one_refused : Known → (reads : List (List ℕ)) (a b : List Act) → AsksRefusal reads a → AsksRefusal reads b → a ≡ b
+one_refused known reads a b x y =
+    let same = one_decision x.before y.before x.last y.last x.after y.after [] (sym x.decides.is ∙ y.decides.is) x.decides.begun y.decides.begun (refusal_decides known reads a x) (refusal_decides known reads b y) in
+    let head : concat x.before ++ x.last ≡ concat y.before ++ y.last = ap (λ (rs : List (List ℕ)). concat rs ++ x.last) same.0 ∙ ap (λ (l : List ℕ). concat y.before ++ l) same.1 in
+    let status = one_refusal known (concat x.before ++ x.last) x.status y.status x.refused (subst (λ (bytes : List ℕ). IsRefusedRequest bytes y.status) (sym head) y.refused) in
+    x.acts_are ∙ ap (λ (s : ℕ). Refuse 0 s 0 ∷ []) status ∙ sym y.acts_are
+
+tunnel_or_refused : Known → (reads : List (List ℕ)) (a b : List Act) → AsksTunnel reads a → AsksRefusal reads b → ⊥
+tunnel_or_refused known reads a b x y =
+    let same = one_decision x.before y.before x.last y.last x.after y.after [] (sym x.decides.is ∙ y.decides.is) x.decides.begun y.decides.begun (tunnel_decides known reads a x) (refusal_decides known reads b y) in
+    let head : concat x.before ++ x.last ≡ concat y.before ++ y.last = ap (λ (rs : List (List ℕ)). concat rs ++ x.last) same.0 ∙ ap (λ (l : List ℕ). concat y.before ++ l) same.1 in
+    request_or_refused known (concat x.before ++ x.last) x.addr x.port x.used y.status x.request (subst (λ (bytes : List ℕ). IsRefusedRequest bytes y.status) (sym head) y.refused)
+
+pub one_asked : Known → (reads : List (List ℕ)) (a b : List Act) → Asks reads a → Asks reads b → a ≡ b
+one_asked known reads a b x y =
+    elim x [
+      | inl t ↦ elim y [
+        | inl u ↦ one_tunnel known reads a b t u
+        | inr (inl r) ↦ absurd (tunnel_or_refused known reads a b t r)
+        | inr (inr n) ↦ absurd (tunnel_decides known reads a t (undecided reads t.before t.last t.after t.decides n.begun))
+      ]
+      | inr (inl r) ↦ elim y [
+        | inl u ↦ absurd (tunnel_or_refused known reads b a u r)
+        | inr (inl s) ↦ one_refused known reads a b r s
+        | inr (inr n) ↦ absurd (refusal_decides known reads a r (undecided reads r.before r.last r.after r.decides n.begun))
+      ]
+      | inr (inr n) ↦ elim y [
+        | inl u ↦ absurd (tunnel_decides known reads b u (undecided reads u.before u.last u.after u.decides n.begun))
+        | inr (inl s) ↦ absurd (refusal_decides known reads b s (undecided reads s.before s.last s.after s.decides n.begun))
+        | inr (inr m) ↦ n.acts_are ∙ sym m.acts_are
+      ]
+    ]

@@ -1,0 +1,15 @@
+pub mod Asked
+pub mod Bads
+pub mod Counts
+pub mod Cuts
+pub mod Ends
+pub mod Heads
+pub mod Opening
+pub mod Parts
+pub mod PartsBad
+pub mod Plays
+pub mod Requests
+pub mod Single
+pub mod Starving
+pub mod Turns
+pub mod Wanting

@@ -1,0 +1,5 @@
+use Rattle.mq_plays.proofs.PartsBad.{so_far_front}
+use Rattle.mq_plays.proofs.part.so_far_is_front.Goals as goal
+
+pub returns : goal.returns
+returns c = so_far_front (record { answer = c.one_answer.ensures; cut = c.cut_once.ensures; addr = c.one_addr.ensures }) c.says_one.ensures

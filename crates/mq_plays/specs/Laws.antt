@@ -1,0 +1,65 @@
+-- What is one for every script.
+use Rattle.std.specs.Prelude.{◌≡◌, ℕ, ◌≤◌, List, ◌++◌, length}
+use Rattle.mq_machine.specs.declared.act.Act.{Act}
+use Rattle.mq_machine.specs.Request.{Asks}
+use Rattle.mq_talk.specs.declared.note.Note.{Note}
+use Rattle.mq_machine.specs.State.{State, start}
+use Rattle.mq_machine.specs.Next.{Turn, Quiet}
+use Rattle.mq_machine.specs.Play.{Plays, IsScript, IsPlayed, IsPlayedSoFar, IsPlayedBad, IsPlayedPart, IsFrontOf}
+use Rattle.mq_plays.specs.Parts.{IsAllShown}
+
+-- the reads of a connection ask for one list of acts
+abbrev pub IsAskedOnce : Type 0
+IsAskedOnce = (reads : List (List ℕ)) (a b : List Act) → Asks reads a → Asks reads b → a ≡ b
+
+-- in a state that lines lead to, an actor's turn is one note, and leads to one state
+abbrev pub HasOneTurn : Type 0
+HasOneTurn = (lines : List (List ℕ)) (refused actor : ℕ) (text : List ℕ) (s t u : State) (n m : Note) → Plays start lines refused text s
+    → Turn s actor n t → Turn s actor m u → (n ≡ m) × (t ≡ u)
+
+-- an actor that has a turn isn't quiet
+abbrev pub IsTurnOrQuiet : Type 0
+IsTurnOrQuiet = (s t : State) (actor : ℕ) (n : Note) → Turn s actor n t → Quiet s actor → ⊥
+
+-- a script is cut into lines in one way
+abbrev pub IsCutInLines : Type 0
+IsCutInLines = (script : List ℕ) (a b : List (List ℕ)) (s t : List ℕ) → IsScript script a s → IsScript script b t → (a ≡ b) × (s ≡ t)
+
+-- no script is played to its end and has a bad line too, whatever was refused memory
+abbrev pub IsGoodOrBad : Type 0
+IsGoodOrBad = (script a b : List ℕ) → IsPlayed script a → IsPlayedBad script b → ⊥
+
+-- the first bad line of a script is one, whatever was refused memory
+abbrev pub HasOneBadLine : Type 0
+HasOneBadLine = (script a b : List ℕ) (p : IsPlayedBad script a) (q : IsPlayedBad script b) → length p.before ≡ length q.before
+
+-- There are no more steps that were refused memory than links.
+abbrev pub AreFewRefused : Type 0
+AreFewRefused = (lines : List (List ℕ)) (refused : ℕ) (text : List ℕ) (s : State) → Plays start lines refused text s → refused ≤ s.links
+
+-- A script of good lines prints one text, where no step was refused memory: such a step prints nothing, and may come at any
+-- time.
+abbrev pub HasOnePlay : Type 0
+HasOnePlay = (script a b : List ℕ) (p : IsPlayed script a) (q : IsPlayed script b) → p.refused ≡ 0 → q.refused ≡ 0 → a ≡ b
+
+-- so do the whole lines of what was read of a script
+abbrev pub HasOnePlaySoFar : Type 0
+HasOnePlaySoFar = (script a b : List ℕ) (p : IsPlayedSoFar script a) (q : IsPlayedSoFar script b) → p.refused ≡ 0 → q.refused ≡ 0 → a ≡ b
+
+-- so does a script with a bad line
+abbrev pub HasOneBadPlay : Type 0
+HasOneBadPlay = (script a b : List ℕ) (p : IsPlayedBad script a) (q : IsPlayedBad script b) → p.refused ≡ 0 → q.refused ≡ 0 → a ≡ b
+
+-- What was printed when a play stopped is a front of what the whole script prints, where no step was refused memory.
+abbrev pub IsPartFront : Type 0
+IsPartFront = (script out whole : List ℕ) (p : IsPlayedPart script out) (q : IsPlayed script whole) → IsAllShown script out p → q.refused ≡ 0 → IsFrontOf out whole
+
+abbrev pub IsPartFrontOfBad : Type 0
+IsPartFrontOfBad = (script out whole : List ℕ) (p : IsPlayedPart script out) (q : IsPlayedBad script whole) → IsAllShown script out p → q.refused ≡ 0 → IsFrontOf out whole
+
+-- So is what the whole lines of a script's front print, whatever follows it.
+abbrev pub IsSoFarFront : Type 0
+IsSoFarFront = (script more out whole : List ℕ) (p : IsPlayedSoFar script out) (q : IsPlayed (script ++ more) whole) → p.refused ≡ 0 → q.refused ≡ 0 → IsFrontOf out whole
+
+abbrev pub IsSoFarFrontOfBad : Type 0
+IsSoFarFrontOfBad = (script more out whole : List ℕ) (p : IsPlayedSoFar script out) (q : IsPlayedBad (script ++ more) whole) → p.refused ≡ 0 → q.refused ≡ 0 → IsFrontOf out whole

@@ -1,0 +1,20 @@
+//! An actor has one turn.
+ghost use Rattle.mq_plays.specs.Laws.{HasOneTurn, IsTurnOrQuiet};
+
+use mq_addr::one_addr;
+use mq_head::one_answer;
+use mq_text::cut_once;
+
+/// In a state that lines lead to, an actor's turn is one note, and leads to one state.
+pub fn one_turn()
+    ensures { HasOneTurn }
+{
+    cut_once();
+    one_addr();
+    one_answer();
+}
+
+/// An actor that has a turn is not quiet.
+pub fn turn_or_quiet()
+    ensures { IsTurnOrQuiet }
+{}
