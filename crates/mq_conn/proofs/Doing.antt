@@ -4,6 +4,7 @@ use Rattle.std.proofs.lemmas.List.{drop-append-le, length-append}
 use Rattle.std.specs.Option.{is_some}
 use Rattle.mq_talk.specs.declared.note.End.{End}
 use Rattle.mq_machine.specs.declared.act.Act.{Act}
+use Rattle.mq_machine.specs.declared.setup.Setup.{Setup}
 use Rattle.mq_machine.specs.declared.act.Act.TheVariants.{Bind, Open, Refuse, Payload, Malformed}
 use Rattle.mq_machine.specs.State.{Conn, Tunnel}
 use Rattle.mq_talk.specs.declared.goal.Goal.{Goal}
@@ -22,14 +23,14 @@ ends (Bind stream goal ∷ acts) why = ends acts why
 ends (Payload stream n payload ∷ acts) why = ends acts why
 
 -- the phase stays when the first act is done
-pub done : (phase : Phase) (reads : List (List ℕ)) (due : List Act) (first : Act) (rest after : List Act) (live lives : Bool) (ending later : Option End)
+pub done : (setup : Setup) (phase : Phase) (reads : List (List ℕ)) (due : List Act) (first : Act) (rest after : List Act) (live lives : Bool) (ending later : Option End)
     → due ≡ first ∷ rest → (WillEnd (first ∷ rest) ending → WillEnd after later) → (WillServe live (first ∷ rest) → WillServe lives after)
-    → IsPhase phase reads due live ending → IsPhase phase reads after lives later
-done (Head reader) reads due first rest after live lives ending later e f g p = let none = p.2 in absurd cc
-done (InCapsules pending n) reads due first rest after live lives ending later e f g p =
+    → IsPhase setup phase reads due live ending → IsPhase setup phase reads after lives later
+done setup (Head reader) reads due first rest after live lives ending later e f g p = let none = p.2 in absurd cc
+done setup (InCapsules pending n) reads due first rest after live lives ending later e f g p =
     let P : List Act → Type 0 = λ acts. WillServe live acts in
     (p.0, g (subst P e p.1))
-done Done reads due first rest after live lives ending later e f g p = let P : List Act → Type 0 = λ acts. WillEnd acts ending in f (subst P e p)
+done setup Done reads due first rest after live lives ending later e f g p = let P : List Act → Type 0 = λ acts. WillEnd acts ending in f (subst P e p)
 
 -- what is put behind is owed
 pub owed_more : (out text : List ℕ) (given : ℕ) → given ≤ length out → drop given (out ++ text) ≡ drop given out ++ text

@@ -2,5 +2,4 @@ pub mod Doing
 pub mod HeadsRead
 pub mod Integers
 pub mod Phases
-pub mod Segments
 pub mod Streams

@@ -9,6 +9,7 @@ use Rattle.mq_head.specs.declared.reader.State.TheVariants.{Fresh, Begun, Spent}
 use Rattle.mq_head.specs.Reader.{IsBegun, StandsFor, IsHeadOf}
 use Rattle.mq_talk.specs.declared.note.End.{End}
 use Rattle.mq_machine.specs.declared.act.Act.{Act}
+use Rattle.mq_machine.specs.declared.setup.Setup.{Setup}
 use Rattle.mq_machine.specs.declared.act.Act.TheVariants.{Bind, Open, Refuse, Payload, Malformed}
 use Rattle.mq_machine.specs.Capsule.{More, Broken, front_of, Reads}
 use Rattle.mq_machine.specs.Request.{AreBegun, Asks, AsksTunnel}
@@ -62,17 +63,17 @@ concat_more : (reads : List (List ℕ)) (bytes : List ℕ) → concat (reads ++ 
 concat_more reads bytes = concat-append reads (bytes ∷ []) ∙ ap (λ (xs : List ℕ). concat reads ++ xs) (append-nil bytes)
 
 -- the reads asked for the acts before, and with one more for these too
-pub record Fed (reads : List (List ℕ)) (bytes : List ℕ) (acts : List Act) (phase : Phase) (live : Bool) (ending : Option End) : Type 0 where
+pub record Fed (setup : Setup) (reads : List (List ℕ)) (bytes : List ℕ) (acts : List Act) (phase : Phase) (live : Bool) (ending : Option End) : Type 0 where
   pub before : List Act
-  pub asked : Asks reads before
-  pub asks : Asks (reads ++ bytes ∷ []) (before ++ acts)
-  pub phase_is : IsPhase phase (reads ++ bytes ∷ []) acts live ending
+  pub asked : Asks setup reads before
+  pub asks : Asks setup (reads ++ bytes ∷ []) (before ++ acts)
+  pub phase_is : IsPhase setup phase (reads ++ bytes ∷ []) acts live ending
   pub follows : Follows live acts
 
 -- a head that ends here asks for a tunnel
-asks_here : (reads : List (List ℕ)) (bytes : List ℕ) (acts : List Act) (phase : Phase) (left : List ℕ) → AreBegun [] reads
-    → (b : BeginsTunnel (concat reads) bytes acts phase) → Reads 0 0 (drop b.used bytes) b.payloads left → AsksTunnel (reads ++ bytes ∷ []) acts
-asks_here reads bytes acts phase left begun b r =
+asks_here : (setup : Setup) (reads : List (List ℕ)) (bytes : List ℕ) (acts : List Act) (phase : Phase) (left : List ℕ) → AreBegun [] reads
+    → (b : BeginsTunnel setup (concat reads) bytes acts phase) → Reads 0 0 (drop b.used bytes) b.payloads left → AsksTunnel setup (reads ++ bytes ∷ []) acts
+asks_here setup reads bytes acts phase left begun b r =
     let P : List ℕ → Type 0 = λ rest. Reads 0 0 rest b.payloads left in
     let same : drop (length (concat reads) + b.used) (concat reads ++ bytes) ++ [] ≡ drop b.used bytes =
     append-nil (drop (length (concat reads) + b.used) (concat reads ++ bytes)) ∙ drop-append-add (concat reads) bytes b.used in
@@ -80,8 +81,7 @@ asks_here reads bytes acts phase left begun b r =
       before = reads;
       last = bytes;
       after = [];
-      addr = b.addr;
-      port = b.port;
+      goal = b.goal;
       used = length (concat reads) + b.used;
       payloads = b.payloads;
       left = left;
@@ -91,12 +91,12 @@ asks_here reads bytes acts phase left begun b r =
       acts_are = b.acts_are;
     }
 
-begins_tunnel : (phase : Phase) (reads : List (List ℕ)) (bytes : List ℕ) (acts : List Act) (ending : Option End) → AreBegun [] reads
-    → BeginsTunnel (concat reads) bytes acts phase → Fed reads bytes acts phase false ending
+begins_tunnel : (setup : Setup) (phase : Phase) (reads : List (List ℕ)) (bytes : List ℕ) (acts : List Act) (ending : Option End) → AreBegun [] reads
+    → BeginsTunnel setup (concat reads) bytes acts phase → Fed setup reads bytes acts phase false ending
 unfolding asks_here
-begins_tunnel (Head reader) reads bytes acts ending begun b = absurd b.reaches
-begins_tunnel (InCapsules pending n) reads bytes acts ending begun b =
-    let asks = asks_here reads bytes acts (InCapsules pending n) pending.items begun b b.reaches.0 in
+begins_tunnel setup (Head reader) reads bytes acts ending begun b = absurd b.reaches
+begins_tunnel setup (InCapsules pending n) reads bytes acts ending begun b =
+    let asks = asks_here setup reads bytes acts (InCapsules pending n) pending.items begun b b.reaches.0 in
     let P : List Act → Type 0 = λ xs. WillServe false xs in
     let Q : List Act → Type 0 = λ xs. Follows false xs in
     let count = b.reaches.2 in
@@ -107,35 +107,35 @@ begins_tunnel (InCapsules pending n) reads bytes acts ending begun b =
       phase_is = (record { acts = acts; asks = asks; left_is = refl; partial = b.reaches.1; count = omega arith }, subst P (sym b.acts_are) (will_serve 0 0 (drop b.used bytes) b.payloads pending.items b.reaches.0 b.reaches.1));
       follows = subst Q (sym b.acts_are) (refl, refl, reads_follow 0 (drop b.used bytes) b.payloads pending.items b.reaches.0);
     }
-begins_tunnel Done reads bytes acts ending begun b =
+begins_tunnel setup Done reads bytes acts ending begun b =
     let left = b.reaches.0 in
     let P : List Act → Type 0 = λ xs. WillEnd xs ending in
     let Q : List Act → Type 0 = λ xs. Follows false xs in
     record {
       before = [];
       asked = inr (inr (record { begun = begun; acts_are = refl }));
-      asks = inl (asks_here reads bytes acts Done left begun b b.reaches.1);
+      asks = inl (asks_here setup reads bytes acts Done left begun b b.reaches.1);
       phase_is = subst P (sym b.acts_are) (will_end 0 0 (drop b.used bytes) b.payloads left ending b.reaches.1 b.reaches.2);
       follows = subst Q (sym b.acts_are) (refl, refl, reads_follow 0 (drop b.used bytes) b.payloads left b.reaches.1);
     }
 
-begins_none : (phase : Phase) (reads : List (List ℕ)) (bytes : List ℕ) (acts : List Act) (ending : Option End) → AreBegun [] reads
-    → BeginsNone (concat reads) bytes acts phase → Fed reads bytes acts phase false ending
-begins_none phase reads bytes acts ending begun b =
-    let P : Phase → Type 0 = λ p. IsPhase p (reads ++ bytes ∷ []) acts false ending in
+begins_none : (setup : Setup) (phase : Phase) (reads : List (List ℕ)) (bytes : List ℕ) (acts : List Act) (ending : Option End) → AreBegun [] reads
+    → BeginsNone setup (concat reads) bytes acts phase → Fed setup reads bytes acts phase false ending
+begins_none setup phase reads bytes acts ending begun b =
+    let P : Phase → Type 0 = λ p. IsPhase setup p (reads ++ bytes ∷ []) acts false ending in
     let Q : List Act → Type 0 = λ xs. WillEnd xs ending in
     let R : List Act → Type 0 = λ xs. Follows false xs in
     record {
       before = [];
       asked = inr (inr (record { begun = begun; acts_are = refl }));
-      asks = inr (inl (record { before = reads; last = bytes; after = []; status = b.status; decides = record { is = refl; begun = begun }; refused = b.refused; acts_are = b.acts_are }));
+      asks = inr (inl (record { before = reads; last = bytes; after = []; status = b.status; rule = b.rule; decides = record { is = refl; begun = begun }; refused = b.refused; acts_are = b.acts_are }));
       phase_is = subst P (sym b.phase_is) (subst Q (sym b.acts_are) tt);
       follows = subst R (sym b.acts_are) (refl, refl);
     }
 
-waits : (phase : Phase) (reads : List (List ℕ)) (bytes : List ℕ) (acts : List Act) (ending : Option End) → AreBegun [] reads
-    → Waits (concat reads) bytes acts phase → Fed reads bytes acts phase false ending
-waits (Head reader) reads bytes acts ending begun w =
+waits : (setup : Setup) (phase : Phase) (reads : List (List ℕ)) (bytes : List ℕ) (acts : List Act) (ending : Option End) → AreBegun [] reads
+    → Waits (concat reads) bytes acts phase → Fed setup reads bytes acts phase false ending
+waits setup (Head reader) reads bytes acts ending begun w =
     let more = begun_more [] reads bytes begun (state_begun reader.state (concat reads ++ bytes) w.0) in
     let P : List ℕ → Type 0 = λ all. IsHeadOf reader all in
     let R : List Act → Type 0 = λ xs. Follows false xs in
@@ -146,13 +146,13 @@ waits (Head reader) reads bytes acts ending begun w =
       phase_is = (subst P (sym (concat_more reads bytes)) w.0, more, w.1, refl);
       follows = subst R (sym w.1) tt;
     }
-waits (InCapsules pending n) reads bytes acts ending begun w = absurd w
-waits Done reads bytes acts ending begun w = absurd w
+waits setup (InCapsules pending n) reads bytes acts ending begun w = absurd w
+waits setup Done reads bytes acts ending begun w = absurd w
 
 -- one more read of a data stream
-asks_more : (reads : List (List ℕ)) (pending bytes : List ℕ) (n : ℕ) (acts : List Act) (left : List ℕ) (t : InTunnel reads pending n)
-    → Reads 0 n (pending ++ bytes) acts left → AsksTunnel (reads ++ bytes ∷ []) (t.acts ++ acts)
-asks_more reads pending bytes n acts left t r =
+asks_more : (setup : Setup) (reads : List (List ℕ)) (pending bytes : List ℕ) (n : ℕ) (acts : List Act) (left : List ℕ) (t : InTunnel setup reads pending n)
+    → Reads 0 n (pending ++ bytes) acts left → AsksTunnel setup (reads ++ bytes ∷ []) (t.acts ++ acts)
+asks_more setup reads pending bytes n acts left t r =
     let a = t.asks in
     let head = concat a.before ++ a.last in
     let first = drop a.used head ++ concat a.after in
@@ -170,8 +170,7 @@ asks_more reads pending bytes n acts left t r =
       before = a.before;
       last = a.last;
       after = a.after ++ bytes ∷ [];
-      addr = a.addr;
-      port = a.port;
+      goal = a.goal;
       used = a.used;
       payloads = a.payloads ++ acts;
       left = left;
@@ -184,12 +183,12 @@ asks_more reads pending bytes n acts left t r =
       acts_are = ap (λ (all : List Act). all ++ acts) a.acts_are;
     }
 
-later_phase : (phase : Phase) (reads : List (List ℕ)) (pending bytes : List ℕ) (n : ℕ) (acts : List Act) (ending : Option End)
-    → InTunnel reads pending n → Reaches n (pending ++ bytes) acts phase → Fed reads bytes acts phase true ending
+later_phase : (setup : Setup) (phase : Phase) (reads : List (List ℕ)) (pending bytes : List ℕ) (n : ℕ) (acts : List Act) (ending : Option End)
+    → InTunnel setup reads pending n → Reaches n (pending ++ bytes) acts phase → Fed setup reads bytes acts phase true ending
 unfolding asks_more
-later_phase (Head reader) reads pending bytes n acts ending t r = absurd r
-later_phase (InCapsules rest m) reads pending bytes n acts ending t r =
-    let asks = asks_more reads pending bytes n acts rest.items t r.0 in
+later_phase setup (Head reader) reads pending bytes n acts ending t r = absurd r
+later_phase setup (InCapsules rest m) reads pending bytes n acts ending t r =
+    let asks = asks_more setup reads pending bytes n acts rest.items t r.0 in
     let count = r.2 in
     let before = t.count in
     record {
@@ -199,24 +198,24 @@ later_phase (InCapsules rest m) reads pending bytes n acts ending t r =
       phase_is = (record { acts = t.acts ++ acts; asks = asks; left_is = refl; partial = r.1; count = omega (arith, length-append t.asks.payloads acts) }, will_serve 0 n (pending ++ bytes) acts rest.items r.0 r.1);
       follows = reads_follow n (pending ++ bytes) acts rest.items r.0;
     }
-later_phase Done reads pending bytes n acts ending t r =
+later_phase setup Done reads pending bytes n acts ending t r =
     record {
       before = t.acts;
       asked = inl t.asks;
-      asks = inl (asks_more reads pending bytes n acts r.0 t r.1);
+      asks = inl (asks_more setup reads pending bytes n acts r.0 t r.1);
       phase_is = will_end 0 n (pending ++ bytes) acts r.0 ending r.1 r.2;
       follows = reads_follow n (pending ++ bytes) acts r.0 r.1;
     }
 
-pub fed : (old new : Phase) (reads : List (List ℕ)) (bytes : List ℕ) (acts : List Act) (live : Bool) (ending : Option End)
-    → IsPhase old reads [] live ending → ending ≡ None → LeadsTo old bytes acts new → Fed reads bytes acts new live ending
-fed (Head reader) new reads bytes acts true ending p going leads = absurd cc
-fed (Head reader) new reads bytes acts false ending p going leads =
+pub fed : (setup : Setup) (old new : Phase) (reads : List (List ℕ)) (bytes : List ℕ) (acts : List Act) (live : Bool) (ending : Option End)
+    → IsPhase setup old reads [] live ending → ending ≡ None → LeadsTo setup old bytes acts new → Fed setup reads bytes acts new live ending
+fed setup (Head reader) new reads bytes acts true ending p going leads = absurd cc
+fed setup (Head reader) new reads bytes acts false ending p going leads =
     elim (leads (concat reads) p.0) [
-      | inl b ↦ begins_tunnel new reads bytes acts ending p.1 b
-      | inr (inl b) ↦ begins_none new reads bytes acts ending p.1 b
-      | inr (inr w) ↦ waits new reads bytes acts ending p.1 w
+      | inl b ↦ begins_tunnel setup new reads bytes acts ending p.1 b
+      | inr (inl b) ↦ begins_none setup new reads bytes acts ending p.1 b
+      | inr (inr w) ↦ waits setup new reads bytes acts ending p.1 w
     ]
-fed (InCapsules pending n) new reads bytes acts true ending p going leads = later_phase new reads pending.items bytes n acts ending p.0 leads
-fed (InCapsules pending n) new reads bytes acts false ending p going leads = absurd p.1
-fed Done new reads bytes acts live ending p going leads = absurd (p going)
+fed setup (InCapsules pending n) new reads bytes acts true ending p going leads = later_phase setup new reads pending.items bytes n acts ending p.0 leads
+fed setup (InCapsules pending n) new reads bytes acts false ending p going leads = absurd p.1
+fed setup Done new reads bytes acts live ending p going leads = absurd (p going)

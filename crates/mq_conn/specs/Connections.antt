@@ -2,15 +2,15 @@
 use Rattle.std.specs.Prelude.{◌≡◌, ◌≢◌, ℕ, ◌+◌, ◌≤◌, ◌⊎◌, Bool, true, false, List, [], ◌∷◌, ◌++◌, length, drop, Option, Some, None, Result, Ok, Err}
 use Rattle.std.specs.List.{concat}
 use Rattle.std.specs.Option.{is_some}
-use Rattle.mq_addr.specs.declared.addr.Addr.TheVariants.{V4}
 use Rattle.mq_head.specs.declared.reader.HeadReader.{HeadReader}
 use Rattle.mq_head.specs.Reader.{IsHeadOf}
 use Rattle.mq_wire.specs.declared.NoMemory as wire
 use Rattle.mq_talk.specs.declared.book.Call.{Call}
-use Rattle.mq_talk.specs.declared.goal.Goal.TheVariants as goal
+use Rattle.mq_talk.specs.declared.goal.Goal.{Goal}
 use Rattle.mq_talk.specs.declared.note.End.{End}
 use Rattle.mq_talk.specs.declared.note.Note.{Note}
 use Rattle.mq_machine.specs.declared.act.Act.{Act}
+use Rattle.mq_machine.specs.declared.setup.Setup.{Setup}
 use Rattle.mq_machine.specs.declared.act.Act.TheVariants as act
 use Rattle.mq_machine.specs.Capsule.{More, Broken, front_of, Reads}
 use Rattle.mq_machine.specs.Request.{IsRequest, IsRefusedRequest, AreBegun, AsksTunnel}
@@ -28,21 +28,21 @@ Reaches n bytes acts (InCapsules pending m) = Reads 0 n bytes acts pending.items
 Reaches n bytes acts Done = (left : List ℕ) × Reads 0 n bytes acts left × (front_of left ≡ Broken)
 
 -- behind a front in which nothing is decided, a piece ends a head that asks for a tunnel
-pub record BeginsTunnel (front bytes : List ℕ) (acts : List Act) (phase : Phase) : Type 0 where
-  pub addr : ℕ
-  pub port : ℕ
+pub record BeginsTunnel (setup : Setup) (front bytes : List ℕ) (acts : List Act) (phase : Phase) : Type 0 where
+  pub goal : Goal
   pub used : ℕ
   pub payloads : List Act
-  pub request : IsRequest (front ++ bytes) addr port (length front + used)
+  pub request : IsRequest setup (front ++ bytes) goal (length front + used)
   pub within : used ≤ length bytes
-  pub acts_are : acts ≡ act.Bind 0 (goal.Udp (V4 addr) port) ∷ payloads
+  pub acts_are : acts ≡ act.Bind 0 goal ∷ payloads
   pub reaches : Reaches 0 (drop used bytes) payloads phase
 
 -- it is refused
-pub record BeginsNone (front bytes : List ℕ) (acts : List Act) (phase : Phase) : Type 0 where
+pub record BeginsNone (setup : Setup) (front bytes : List ℕ) (acts : List Act) (phase : Phase) : Type 0 where
   pub status : ℕ
-  pub refused : IsRefusedRequest (front ++ bytes) status
-  pub acts_are : acts ≡ act.Refuse 0 status 0 ∷ []
+  pub rule : ℕ
+  pub refused : IsRefusedRequest setup (front ++ bytes) status rule
+  pub acts_are : acts ≡ act.Refuse 0 status rule ∷ []
   pub phase_is : phase ≡ Done
 
 -- nothing is decided yet
@@ -52,15 +52,15 @@ Waits front bytes acts (InCapsules pending m) = ⊥
 Waits front bytes acts Done = ⊥
 
 -- what a piece of a head leads to
-abbrev pub HeadLeadsTo : HeadReader → List ℕ → List Act → Phase → Type 0
-HeadLeadsTo reader bytes acts new = (front : List ℕ) → IsHeadOf reader front
-    → BeginsTunnel front bytes acts new ⊎ (BeginsNone front bytes acts new ⊎ Waits front bytes acts new)
+abbrev pub HeadLeadsTo : Setup → HeadReader → List ℕ → List Act → Phase → Type 0
+HeadLeadsTo setup reader bytes acts new = (front : List ℕ) → IsHeadOf reader front
+    → BeginsTunnel setup front bytes acts new ⊎ (BeginsNone setup front bytes acts new ⊎ Waits front bytes acts new)
 
 -- one more piece leads from phase to phase
-abbrev pub LeadsTo : Phase → List ℕ → List Act → Phase → Type 0
-LeadsTo (Head reader) bytes acts new = HeadLeadsTo reader bytes acts new
-LeadsTo (InCapsules pending n) bytes acts new = Reaches n (pending.items ++ bytes) acts new
-LeadsTo Done bytes acts new = (acts ≡ []) × (new ≡ Done)
+abbrev pub LeadsTo : Setup → Phase → List ℕ → List Act → Phase → Type 0
+LeadsTo setup (Head reader) bytes acts new = HeadLeadsTo setup reader bytes acts new
+LeadsTo setup (InCapsules pending n) bytes acts new = Reaches n (pending.items ++ bytes) acts new
+LeadsTo setup Done bytes acts new = (acts ≡ []) × (new ≡ Done)
 
 -- Acts come in this order: a request; behind it, while its tunnel is live, payloads; a refusal or a malformed capsule last.
 abbrev pub Follows : Bool → List Act → Type 0
@@ -94,49 +94,49 @@ WillServe live (act.Refuse stream status rule ∷ acts) = ⊥
 WillServe live (act.Malformed stream ∷ acts) = ⊥
 
 -- the reads lead into a tunnel, with these bytes of an unfinished capsule, behind n payloads
-pub record InTunnel (reads : List (List ℕ)) (pending : List ℕ) (n : ℕ) : Type 0 where
+pub record InTunnel (setup : Setup) (reads : List (List ℕ)) (pending : List ℕ) (n : ℕ) : Type 0 where
   pub acts : List Act
-  pub asks : AsksTunnel reads acts
+  pub asks : AsksTunnel setup reads acts
   pub left_is : asks.left ≡ pending
   pub partial : front_of pending ≡ More
   pub count : n ≡ length asks.payloads
 
 -- the phase after these reads, with what is due, whether a tunnel is live, and why the connection is ending
-abbrev pub IsPhase : Phase → List (List ℕ) → List Act → Bool → Option End → Type 0
-IsPhase (Head reader) reads due live ending = IsHeadOf reader (concat reads) × AreBegun [] reads × (due ≡ []) × (live ≡ false)
-IsPhase (InCapsules pending n) reads due live ending = InTunnel reads pending.items n × WillServe live due
-IsPhase Done reads due live ending = WillEnd due ending
+abbrev pub IsPhase : Setup → Phase → List (List ℕ) → List Act → Bool → Option End → Type 0
+IsPhase setup (Head reader) reads due live ending = IsHeadOf reader (concat reads) × AreBegun [] reads × (due ≡ []) × (live ≡ false)
+IsPhase setup (InCapsules pending n) reads due live ending = InTunnel setup reads pending.items n × WillServe live due
+IsPhase setup Done reads due live ending = WillEnd due ending
 
 -- the live tunnel
 abbrev pub tunnels_of : Option ℕ → List Tunnel
 tunnels_of None = []
 tunnels_of (Some id) = record { id = id; stream = 0; waiting = [] } ∷ []
 
--- the core stands for this state
-pub record IsConn (c : Connection) (s : spec.Conn) : Type 0 where
+-- the core of a proxy with this setup stands for this state
+pub record IsConn (setup : Setup) (c : Connection) (s : spec.Conn) : Type 0 where
   pub due : c.due.items ≡ s.due
   pub given : s.given ≤ length s.out
   pub owed : c.owed.items ≡ owed s
   pub ending : c.ending ≡ s.ending
   pub tunnels : s.tunnels ≡ tunnels_of c.tunnel
   pub follows : Follows (is_some c.tunnel) s.due
-  pub phase : IsPhase c.phase s.reads s.due (is_some c.tunnel) s.ending
+  pub phase : IsPhase setup c.phase s.reads s.due (is_some c.tunnel) s.ending
   -- nothing is due in an ending connection
   pub closed : s.ending ≢ None → s.due ≡ []
 
 -- what is next was done
-abbrev pub Wanted : ℕ → ℕ → spec.Conn → Note → Connection → Type 0
-Wanted conn entries s note c = (t : spec.Conn) × (calls : List Call) × next.WantNext conn entries s note t calls × IsConn c t
+abbrev pub Wanted : Setup → ℕ → ℕ → spec.Conn → Note → Connection → Type 0
+Wanted setup conn entries s note c = (t : spec.Conn) × (calls : List Call) × next.WantNext conn entries s note t calls × IsConn setup c t
 
 -- that, or nothing is next
-abbrev pub Wants : ℕ → ℕ → spec.Conn → Option Note → Connection → Type 0
-Wants conn entries s None c = (s.due ≡ []) × (s.ending ≢ None → s.tunnels ≡ []) × IsConn c s
-Wants conn entries s (Some note) c = Wanted conn entries s note c
+abbrev pub Wants : Setup → ℕ → ℕ → spec.Conn → Option Note → Connection → Type 0
+Wants setup conn entries s None c = (s.due ≡ []) × (s.ending ≢ None → s.tunnels ≡ []) × IsConn setup c s
+Wants setup conn entries s (Some note) c = Wanted setup conn entries s note c
 
 -- what is due was done, or nothing is
-abbrev pub DoesDue : ℕ → ℕ → spec.Conn → Option Note → Connection → Type 0
-DoesDue conn entries s None c = (s.due ≡ []) × IsConn c s
-DoesDue conn entries s (Some note) c = Wanted conn entries s note c
+abbrev pub DoesDue : Setup → ℕ → ℕ → spec.Conn → Option Note → Connection → Type 0
+DoesDue setup conn entries s None c = (s.due ≡ []) × IsConn setup c s
+DoesDue setup conn entries s (Some note) c = Wanted setup conn entries s note c
 
 -- what being refused memory leaves: what is owed, and the live tunnel
 pub record Keeps (c : Connection) (s : spec.Conn) : Type 0 where
@@ -150,19 +150,19 @@ pub record Starving (c : Connection) (s : spec.Conn) : Type 0 where
   pub alive : s.ending ≡ None
   pub keeps : Keeps c s
 
-abbrev pub TriesDue : ℕ → ℕ → spec.Conn → Result (Option Note) wire.NoMemory → Connection → Type 0
-TriesDue conn entries s (Ok note) c = DoesDue conn entries s note c
-TriesDue conn entries s (Err refused) c = Starving c s
+abbrev pub TriesDue : Setup → ℕ → ℕ → spec.Conn → Result (Option Note) wire.NoMemory → Connection → Type 0
+TriesDue setup conn entries s (Ok note) c = DoesDue setup conn entries s note c
+TriesDue setup conn entries s (Err refused) c = Starving c s
 
 -- what is next, or being refused memory for it
-abbrev pub Acts : ℕ → ℕ → spec.Conn → Result (Option Note) wire.NoMemory → Connection → Type 0
-Acts conn entries s (Ok note) c = Wants conn entries s note c
-Acts conn entries s (Err refused) c = (s.due ≢ []) × (s.ending ≡ None) × IsConn c (next.starved s)
+abbrev pub Acts : Setup → ℕ → ℕ → spec.Conn → Result (Option Note) wire.NoMemory → Connection → Type 0
+Acts setup conn entries s (Ok note) c = Wants setup conn entries s note c
+Acts setup conn entries s (Err refused) c = (s.due ≢ []) × (s.ending ≡ None) × IsConn setup c (next.starved s)
 
 -- one more read, or being refused memory for it
-abbrev pub Feeds : spec.Conn → List ℕ → Result (Unit {0}) wire.NoMemory → Connection → Type 0
-Feeds s bytes (Ok done) c = (t : spec.Conn) × next.TookNext s bytes t × IsConn c t
-Feeds s bytes (Err refused) c = IsConn c (next.starved s)
+abbrev pub Feeds : Setup → spec.Conn → List ℕ → Result (Unit {0}) wire.NoMemory → Connection → Type 0
+Feeds setup s bytes (Ok done) c = (t : spec.Conn) × next.TookNext setup s bytes t × IsConn setup c t
+Feeds setup s bytes (Err refused) c = IsConn setup c (next.starved s)
 
 -- why it is over, where it is
 abbrev pub IsOver : spec.Conn → Option End → Type 0

@@ -1,4 +1,4 @@
 pub mod Fronts
 pub mod Lefts
 pub mod Connections
-pub mod Paths
+pub mod Verdicts

@@ -4,12 +4,13 @@ ghost use Rattle.mq_machine.specs.State.{Conn, new_conn, owed};
 ghost use Rattle.mq_machine.specs.ConnNext.{WroteNext, CanRead, goal_kind, starved};
 ghost use Rattle.mq_conn.specs.Connections.{IsConn, Acts, TriesDue, Wants, Keeps, Feeds, IsOver, LeadsTo, HeadLeadsTo, Reaches};
 ghost use Rattle.mq_machine.specs.declared.act.Act.{Act};
+ghost use Rattle.mq_machine.specs.declared.setup.Setup.{Setup};
 ghost use Rattle.mq_conn.specs.declared.connection.Phase.{Phase};
 
 use crate::capsule::read_acts;
-use crate::path::goal_of;
+use crate::verdict::{Verdict, judge};
 use mq_head::{HeadReader, HeadStep, Kind, refusal, success};
-use mq_machine::Act;
+use mq_machine::{Act, Setup};
 use mq_talk::{End, From, Goal, Note, Why};
 use mq_wire::{Bytes, NoMemory};
 use std::alloc::Global;
@@ -51,7 +52,7 @@ fn kind_of(goal: Goal) -> Kind
 impl Connection {
     /// A connection of which nothing was read.
     pub fn new(alloc: Global) -> Connection
-        ensures { IsConn result new_conn }
+        ensures { (setup : Setup) → IsConn setup result new_conn }
     {
         Connection {
             phase: Phase::Head(HeadReader::new()),
@@ -67,7 +68,7 @@ impl Connection {
     ///
     /// A connection that is refused memory is ending: what was due is given up.
     pub fn act(&mut self, conn: u32, entries: u32) -> Result<Option<Note>, NoMemory>
-        ensures { (s : Conn) → IsConn self.old s → Acts conn entries s result self.new }
+        ensures { (setup : Setup) (s : Conn) → IsConn setup self.old s → Acts setup conn entries s result self.new }
     {
         match self.act_due(conn, entries) {
             Ok(None) => Ok(self.abandon()),
@@ -81,7 +82,7 @@ impl Connection {
 
     /// It was refused memory: what was due is given up, nothing more is read, and it is ending.
     fn starve(&mut self)
-        ensures { (s : Conn) → Keeps self.old s → IsConn self.new (starved s) }
+        ensures { (setup : Setup) (s : Conn) → Keeps self.old s → IsConn setup self.new (starved s) }
     {
         self.phase = Phase::Done;
         self.due.clear();
@@ -90,7 +91,7 @@ impl Connection {
 
     /// Closes the live tunnel of an ending connection in which nothing is due.
     fn abandon(&mut self) -> Option<Note>
-        ensures { (conn entries : ℕ) (s : Conn) → IsConn self.old s → s.due ≡ [] → Wants conn entries s result self.new }
+        ensures { (setup : Setup) (conn entries : ℕ) (s : Conn) → IsConn setup self.old s → s.due ≡ [] → Wants setup conn entries s result self.new }
     {
         if self.ending.is_none() {
             return None;
@@ -106,7 +107,7 @@ impl Connection {
 
     /// Does what is due, where something is.
     fn act_due(&mut self, conn: u32, entries: u32) -> Result<Option<Note>, NoMemory>
-        ensures { (s : Conn) → IsConn self.old s → TriesDue conn entries s result self.new }
+        ensures { (setup : Setup) (s : Conn) → IsConn setup self.old s → TriesDue setup conn entries s result self.new }
     {
         match self.due.pop_front() {
             None => Ok(None),
@@ -161,14 +162,14 @@ impl Connection {
 
     /// Whether bytes are owed to the link.
     pub fn owes(&self) -> bool
-        ensures { (s : Conn) → IsConn self.now s → IsTrue result ↔ (owed s ≢ []) }
+        ensures { (setup : Setup) (s : Conn) → IsConn setup self.now s → IsTrue result ↔ (owed s ≢ []) }
     {
         !self.owed.is_empty()
     }
 
     /// Gives all owed bytes to the link.
     pub fn write(&mut self, alloc: Global) -> Bytes
-        ensures { (s : Conn) → IsConn self.old s → owed s ≢ [] → (t : Conn) × WroteNext s result t × IsConn self.new t }
+        ensures { (setup : Setup) (s : Conn) → IsConn setup self.old s → owed s ≢ [] → (t : Conn) × WroteNext s result t × IsConn setup self.new t }
     {
         Bytes::from_vec(mem::replace(&mut self.owed, Vec::new(alloc)))
     }
@@ -176,7 +177,7 @@ impl Connection {
     /// Why it is over, where it is ending, nothing is due, its tunnel is closed, and nothing is owed. Where it was refused
     /// memory, what is still owed is given up.
     pub fn over(&self) -> Option<End>
-        ensures { (s : Conn) → IsConn self.now s → IsOver s result }
+        ensures { (setup : Setup) (s : Conn) → IsConn setup self.now s → IsOver s result }
     {
         if !self.due.is_empty() || self.tunnel.is_some() {
             return None;
@@ -188,12 +189,13 @@ impl Connection {
         }
     }
 
-    /// Takes the bytes of one read. A connection that is refused memory is ending.
-    pub fn feed(&mut self, alloc: Global, bytes: &[u8]) -> Result<(), NoMemory>
-        ensures { (s : Conn) → IsConn self.old s → CanRead s → Feeds s bytes.now result self.new }
+    /// Takes the bytes of one read, and judges its request by the setup of the proxy, which is the same at each read. A
+    /// connection that is refused memory is ending.
+    pub fn feed(&mut self, alloc: Global, setup: &Setup, bytes: &[u8]) -> Result<(), NoMemory>
+        ensures { (s : Conn) → IsConn setup.now self.old s → CanRead s → Feeds setup.now s bytes.now result self.new }
     {
         let phase = mem::replace(&mut self.phase, Phase::Done);
-        match next_phase(alloc, phase, bytes, &mut self.due) {
+        match next_phase(alloc, setup, phase, bytes, &mut self.due) {
             Ok(phase) => {
                 self.phase = phase;
                 Ok(())
@@ -209,14 +211,15 @@ impl Connection {
 /// Reads one more piece, puts what it asks for at the back of `due`, and answers the phase after it.
 fn next_phase(
     alloc: Global,
+    setup: &Setup,
     phase: Phase,
     bytes: &[u8],
     due: &mut VecDeque<Act>,
 ) -> Result<Phase, NoMemory>
-    ensures { IfOk result (λ new. (acts : List Act) × (due.new.items ≡ due.old.items ++ acts) × LeadsTo phase bytes.now acts new) }
+    ensures { IfOk result (λ new. (acts : List Act) × (due.new.items ≡ due.old.items ++ acts) × LeadsTo setup.now phase bytes.now acts new) }
 {
     match phase {
-        Phase::Head(reader) => read_head(alloc, reader, bytes, due),
+        Phase::Head(reader) => read_head(alloc, setup, reader, bytes, due),
         Phase::Tunnel { pending, n } => read_more(alloc, n, pending, bytes, due),
         Phase::Done => Ok(Phase::Done),
     }
@@ -225,23 +228,24 @@ fn next_phase(
 /// Reads a piece of the head, and the capsules behind it where it ends there.
 fn read_head(
     alloc: Global,
+    setup: &Setup,
     mut reader: HeadReader,
     bytes: &[u8],
     due: &mut VecDeque<Act>,
 ) -> Result<Phase, NoMemory>
-    ensures { IfOk result (λ new. (acts : List Act) × (due.new.items ≡ due.old.items ++ acts) × HeadLeadsTo reader bytes.now acts new) }
+    ensures { IfOk result (λ new. (acts : List Act) × (due.new.items ≡ due.old.items ++ acts) × HeadLeadsTo setup.now reader bytes.now acts new) }
 {
     match reader.feed(alloc, bytes)? {
         HeadStep::More => Ok(Phase::Head(reader)),
-        HeadStep::Refuse { status } => refuse(status, due),
-        HeadStep::Upgrade { kind: Kind::Ip, .. } => refuse(501, due),
+        HeadStep::Refuse { status } => refuse(status, 0, due),
+        HeadStep::Upgrade { kind: Kind::Ip, .. } => refuse(501, 0, due),
         HeadStep::Upgrade {
             kind: Kind::Udp,
             path,
             used,
-        } => match goal_of(path.as_slice()) {
-            None => refuse(400, due),
-            Some(goal) => {
+        } => match judge(alloc, setup, path.as_slice())? {
+            Verdict::Refused { status, rule } => refuse(status, rule, due),
+            Verdict::Go(goal) => {
                 due.push_back(Act::Bind { stream: 0, goal })?;
                 let (_, rest) = bytes.split_at((used as usize).min(bytes.len()));
                 read_capsules(alloc, 0, rest, due)
@@ -251,13 +255,13 @@ fn read_head(
 }
 
 /// The request is refused, and nothing more is read.
-fn refuse(status: u16, due: &mut VecDeque<Act>) -> Result<Phase, NoMemory>
-    ensures { IfOk result (λ new. (due.new.items ≡ due.old.items ++ Act.Refuse 0 status 0 ∷ []) × (new ≡ Phase.Done)) }
+fn refuse(status: u16, rule: u32, due: &mut VecDeque<Act>) -> Result<Phase, NoMemory>
+    ensures { IfOk result (λ new. (due.new.items ≡ due.old.items ++ Act.Refuse 0 status rule ∷ []) × (new ≡ Phase.Done)) }
 {
     due.push_back(Act::Refuse {
         stream: 0,
         status,
-        rule: 0,
+        rule,
     })?;
     Ok(Phase::Done)
 }

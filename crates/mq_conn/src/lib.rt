@@ -3,6 +3,6 @@
 
 mod capsule;
 mod connection;
-mod path;
+mod verdict;
 
 pub use connection::Connection;

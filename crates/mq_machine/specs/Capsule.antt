@@ -1,7 +1,7 @@
 -- Capsules (RFC 9297, section 3.2), within the limits of a first server: only DATAGRAM (type 0), at most 1,024 bytes of
 -- value, and Context ID 0 (RFC 9298, section 5). What is past these limits is malformed with the last byte of the integer
 -- that says so.
-use Rattle.std.specs.Prelude.{◌≡◌, ℕ, ◌+◌, ◌<◌, List, [], ◌∷◌, length, take, drop, Option, Some, None, if◌then◌else◌, nat_lt}
+use Rattle.std.specs.Prelude.{◌≡◌, ℕ, ◌+◌, List, [], ◌∷◌, length, take, drop, Option, Some, None, if◌then◌else◌, nat_lt}
 use Rattle.mq_wire.specs.Integer.{int_of}
 use Rattle.mq_machine.specs.declared.act.Act.{Act}
 use Rattle.mq_machine.specs.declared.act.Act.TheVariants as act

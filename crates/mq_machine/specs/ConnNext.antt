@@ -14,10 +14,10 @@ use Rattle.mq_talk.specs.declared.note.From.{From}
 use Rattle.mq_talk.specs.declared.note.From.TheVariants as origin
 use Rattle.mq_talk.specs.declared.note.Note.{Note}
 use Rattle.mq_talk.specs.declared.note.Note.TheVariants.{Accepted, Took, Ported, Opened, Refused, Sent, Wrote, Closed, Ended}
-use Rattle.mq_talk.specs.declared.note.Why.{Why}
 use Rattle.mq_talk.specs.declared.note.Why.TheVariants as why
 use Rattle.mq_machine.specs.declared.act.Act.{Act}
 use Rattle.mq_machine.specs.declared.act.Act.TheVariants as act
+use Rattle.mq_machine.specs.declared.setup.Setup.{Setup}
 use Rattle.mq_machine.specs.Request.{Asks}
 use Rattle.mq_machine.specs.State.{Conn, Tunnel, owed}
 
@@ -130,11 +130,11 @@ pub record CanRead (c : Conn) : Type 0 where
   pub ending : c.ending ≡ None
 
 -- The bytes of one more read are taken, and what they ask for beyond the earlier ones is due.
-pub record TookNext (old : Conn) (bytes : List ℕ) (new : Conn) : Type 0 where
+pub record TookNext (setup : Setup) (old : Conn) (bytes : List ℕ) (new : Conn) : Type 0 where
   pub before : List Act
   pub can : CanRead old
-  pub asked : Asks old.reads before
-  pub asks : Asks (old.reads ++ bytes ∷ []) (before ++ new.due)
+  pub asked : Asks setup old.reads before
+  pub asks : Asks setup (old.reads ++ bytes ∷ []) (before ++ new.due)
   pub new_is : new ≡ record old { reads = old.reads ++ bytes ∷ []; due = new.due }
 
 -- it was refused memory: what was due is given up, and it is ending

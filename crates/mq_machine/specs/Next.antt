@@ -4,8 +4,9 @@ use Rattle.mq_talk.specs.declared.book.Call.{Call}
 use Rattle.mq_talk.specs.declared.book.Entry.{Entry}
 use Rattle.mq_talk.specs.declared.note.End.{End}
 use Rattle.mq_talk.specs.declared.note.Note.{Note}
-use Rattle.mq_talk.specs.declared.note.Note.TheVariants.{Accepted, Took, Ported, Opened, Refused, Sent, Wrote, Closed, Ended}
+use Rattle.mq_talk.specs.declared.note.Note.TheVariants.{Accepted, Took, Wrote, Ended}
 use Rattle.mq_machine.specs.ConnNext.{WantNext, WroteNext, TookNext, CanRead, starved, IsOver}
+use Rattle.mq_machine.specs.declared.setup.Setup.{Setup}
 use Rattle.mq_machine.specs.State.{Conn, new_conn, Feed, Offer, Held, Worker, Shared, State}
 
 -- an actor writes these calls into the book
@@ -26,14 +27,14 @@ pub record Takes (old : List (List ℕ)) (bytes : List ℕ) (new : List (List �
   pub left : new ≡ without_empty (drop 16384 first) others
 
 -- a connection reads its link
-pub record ReadNext (old : Held) (conn count : ℕ) (new : Held) : Type 0 where
+pub record ReadNext (setup : Setup) (old : Held) (conn count : ℕ) (new : Held) : Type 0 where
   pub bytes : List ℕ
   pub pieces : List (List ℕ)
   pub after : Conn
   pub conn_is : conn ≡ old.number
   pub takes : Takes old.link.pieces bytes pieces
   pub count_is : count ≡ length bytes
-  pub took : TookNext old.conn bytes after
+  pub took : TookNext setup old.conn bytes after
   pub new_is : new ≡ record old { link = record old.link { pieces = pieces }; conn = after }
 
 -- a connection does what is next, and may write into the book
@@ -62,7 +63,7 @@ order Read = 2
 
 -- what a try of a connection of this actor does
 abbrev pub HeldNext : ℕ → Held → Shared → Try → Note → Held → Shared → Type 0
-HeldNext actor old sh Read (Took conn count) new after = ReadNext old conn count new × (after ≡ sh)
+HeldNext actor old sh Read (Took conn count) new after = ReadNext sh.setup old conn count new × (after ≡ sh)
 HeldNext actor old sh Read note new after = ⊥
 HeldNext actor old sh Write (Wrote conn bytes) new after = WriteNext old conn bytes new × (after ≡ sh)
 HeldNext actor old sh Write note new after = ⊥

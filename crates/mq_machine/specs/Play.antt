@@ -1,5 +1,5 @@
 -- What a script prints.
-use Rattle.std.specs.Prelude.{◌≡◌, ◌≢◌, ℕ, ◌+◌, ◌<◌, ◌≤◌, ◌^◌, ◌⊎◌, zero, suc, min, List, [], ◌∷◌, ◌++◌, length, slice_get, slice_set, Some, All}
+use Rattle.std.specs.Prelude.{◌≡◌, ◌≢◌, ℕ, ◌+◌, ◌<◌, ◌≤◌, ◌⊎◌, zero, suc, min, List, [], ◌∷◌, ◌++◌, length, slice_get, slice_set, Some, All}
 use Rattle.std.specs.List.{flat_map}
 use Rattle.mq_talk.specs.declared.note.Note.{Note}
 use Rattle.mq_text.specs.Cut.{Lacks}

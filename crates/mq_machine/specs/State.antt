@@ -3,6 +3,8 @@ use Rattle.std.specs.Prelude.{ℕ, List, [], ◌∷◌, drop, Option, None}
 use Rattle.mq_talk.specs.declared.book.Entry.{Entry}
 use Rattle.mq_talk.specs.declared.note.End.{End}
 use Rattle.mq_machine.specs.declared.act.Act.{Act}
+use Rattle.mq_machine.specs.declared.setup.Setup.{Setup}
+use Rattle.mq_machine.specs.Setup.{plain_setup}
 
 -- a live tunnel of a connection
 pub record Tunnel : Type 0 where
@@ -57,6 +59,7 @@ pub record Worker : Type 0 where
 
 -- what the actors share
 pub record Shared : Type 0 where
+  pub setup : Setup
   pub book : List Entry
 
 pub record State : Type 0 where
@@ -66,9 +69,13 @@ pub record State : Type 0 where
   pub shared : Shared
 
 -- one worker, and nothing yet
-abbrev pub start : State
-start = record {
+abbrev pub start_with : Setup → State
+start_with setup = record {
   links = 0;
   workers = record { id = 0; offered = []; conns = []; next_seat = 0 } ∷ [];
-  shared = record { book = [] };
+  shared = record { setup = setup; book = [] };
 }
+
+-- of a proxy of which nothing was said
+abbrev pub start : State
+start = start_with plain_setup

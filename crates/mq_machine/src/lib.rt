@@ -1,9 +1,13 @@
-//! The machine that a replay is a run of: the acts that bytes ask for, the lines of a script, and in specs/ the states,
+//! The machine that a replay is a run of: the acts that bytes ask for, the lines of a script, the setup of a proxy, and in specs/ the states,
 //! what each note requires and changes, whose turn it is, and the play of a script.
 #![tactic(auto)]
 
 mod act;
 mod line;
+mod setting;
+mod setup;
 
 pub use act::Act;
 pub use line::Line;
+pub use setting::SettingLine;
+pub use setup::Setup;

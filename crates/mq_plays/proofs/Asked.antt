@@ -4,8 +4,10 @@ use Rattle.std.specs.List.{concat}
 use Rattle.mq_head.specs.Reader.{IsBegun}
 use Rattle.mq_machine.specs.declared.act.Act.{Act}
 use Rattle.mq_machine.specs.declared.act.Act.TheVariants.{Bind, Open, Refuse, Payload, Malformed}
+use Rattle.mq_machine.specs.declared.setup.Setup.{Setup}
 use Rattle.mq_machine.specs.Capsule.{Reads}
 use Rattle.mq_machine.specs.Request.{AreBegun, Decides, AsksTunnel, AsksRefusal, Asks, IsRequest, IsRefusedRequest}
+use Rattle.mq_plays.specs.Setups.{IsTold}
 use Rattle.mq_plays.proofs.Requests.{Known, one_request, request_or_refused, one_refusal, begun_or_request, begun_or_refusal}
 
 -- a data stream asks for one list of acts
@@ -78,59 +80,58 @@ one_decision (m ∷ ms) (n ∷ ns) k l x y front e p q f g =
     (cc, same.1, same.2)
 
 -- the read that decides, and what it leaves undecided no more
-tunnel_decides : Known → (reads : List (List ℕ)) (acts : List Act) (t : AsksTunnel reads acts) → IsBegun (concat t.before ++ t.last) → ⊥
-tunnel_decides known reads acts t begun = begun_or_request known (concat t.before ++ t.last) t.addr t.port t.used begun t.request
+tunnel_decides : Known → (setup : Setup) (reads : List (List ℕ)) (acts : List Act) (t : AsksTunnel setup reads acts) → IsBegun (concat t.before ++ t.last) → ⊥
+tunnel_decides known setup reads acts t begun = begun_or_request known setup (concat t.before ++ t.last) t.goal t.used begun t.request
 
-refusal_decides : Known → (reads : List (List ℕ)) (acts : List Act) (r : AsksRefusal reads acts) → IsBegun (concat r.before ++ r.last) → ⊥
-refusal_decides known reads acts r begun = begun_or_refusal known (concat r.before ++ r.last) r.status begun r.refused
+refusal_decides : Known → (setup : Setup) (reads : List (List ℕ)) (acts : List Act) (r : AsksRefusal setup reads acts) → IsBegun (concat r.before ++ r.last) → ⊥
+refusal_decides known setup reads acts r begun = begun_or_refusal known setup (concat r.before ++ r.last) r.status r.rule begun r.refused
 
 undecided : (reads before : List (List ℕ)) (last : List ℕ) (after : List (List ℕ)) → Decides reads before last after → AreBegun [] reads → IsBegun (concat before ++ last)
 undecided reads before last after d begun = begun_at before last after [] (subst (λ (rs : List (List ℕ)). AreBegun [] rs) d.is begun)
 
-one_tunnel : Known → (reads : List (List ℕ)) (a b : List Act) → AsksTunnel reads a → AsksTunnel reads b → a ≡ b
-one_tunnel known reads a b x y =
-    let same = one_decision x.before y.before x.last y.last x.after y.after [] (sym x.decides.is ∙ y.decides.is) x.decides.begun y.decides.begun (tunnel_decides known reads a x) (tunnel_decides known reads b y) in
+one_tunnel : Known → (setup : Setup) → IsTold setup → (reads : List (List ℕ)) (a b : List Act) → AsksTunnel setup reads a → AsksTunnel setup reads b → a ≡ b
+one_tunnel known setup told reads a b x y =
+    let same = one_decision x.before y.before x.last y.last x.after y.after [] (sym x.decides.is ∙ y.decides.is) x.decides.begun y.decides.begun (tunnel_decides known setup reads a x) (tunnel_decides known setup reads b y) in
     let head : concat x.before ++ x.last ≡ concat y.before ++ y.last = ap (λ (rs : List (List ℕ)). concat rs ++ x.last) same.0 ∙ ap (λ (l : List ℕ). concat y.before ++ l) same.1 in
-    let goal = one_request known (concat x.before ++ x.last) x.addr y.addr x.port y.port x.used y.used x.request (subst (λ (bytes : List ℕ). IsRequest bytes y.addr y.port y.used) (sym head) y.request) in
+    let goal = one_request known setup told (concat x.before ++ x.last) x.goal y.goal x.used y.used x.request (subst (λ (bytes : List ℕ). IsRequest setup bytes y.goal y.used) (sym head) y.request) in
     let behind : drop x.used (concat x.before ++ x.last) ++ concat x.after ≡ drop y.used (concat y.before ++ y.last) ++ concat y.after =
-    ap (λ (n : ℕ). drop n (concat x.before ++ x.last) ++ concat x.after) goal.2 ∙ ap (λ (xs : List ℕ). drop y.used xs ++ concat x.after) head ∙ ap (λ (rs : List (List ℕ)). drop y.used (concat y.before ++ y.last) ++ concat rs) same.2 in
+    ap (λ (n : ℕ). drop n (concat x.before ++ x.last) ++ concat x.after) goal.1 ∙ ap (λ (xs : List ℕ). drop y.used xs ++ concat x.after) head ∙ ap (λ (rs : List (List ℕ)). drop y.used (concat y.before ++ y.last) ++ concat rs) same.2 in
     let P : List ℕ → Type 0 = λ xs. Reads 0 0 xs y.payloads y.left in
     let payloads = one_reading x.payloads y.payloads 0 0 _ x.left y.left x.capsules (subst P (sym behind) y.capsules) in
-    let addr = goal.0 in
-    let port = goal.1 in
+    let place = goal.0 in
     let is = x.acts_are in
     let others = y.acts_are in
     cc
 
-one_refused : Known → (reads : List (List ℕ)) (a b : List Act) → AsksRefusal reads a → AsksRefusal reads b → a ≡ b
-one_refused known reads a b x y =
-    let same = one_decision x.before y.before x.last y.last x.after y.after [] (sym x.decides.is ∙ y.decides.is) x.decides.begun y.decides.begun (refusal_decides known reads a x) (refusal_decides known reads b y) in
+one_refused : Known → (setup : Setup) → IsTold setup → (reads : List (List ℕ)) (a b : List Act) → AsksRefusal setup reads a → AsksRefusal setup reads b → a ≡ b
+one_refused known setup told reads a b x y =
+    let same = one_decision x.before y.before x.last y.last x.after y.after [] (sym x.decides.is ∙ y.decides.is) x.decides.begun y.decides.begun (refusal_decides known setup reads a x) (refusal_decides known setup reads b y) in
     let head : concat x.before ++ x.last ≡ concat y.before ++ y.last = ap (λ (rs : List (List ℕ)). concat rs ++ x.last) same.0 ∙ ap (λ (l : List ℕ). concat y.before ++ l) same.1 in
-    let status = one_refusal known (concat x.before ++ x.last) x.status y.status x.refused (subst (λ (bytes : List ℕ). IsRefusedRequest bytes y.status) (sym head) y.refused) in
-    x.acts_are ∙ ap (λ (s : ℕ). Refuse 0 s 0 ∷ []) status ∙ sym y.acts_are
+    let one = one_refusal known setup told (concat x.before ++ x.last) x.status x.rule y.status y.rule x.refused (subst (λ (bytes : List ℕ). IsRefusedRequest setup bytes y.status y.rule) (sym head) y.refused) in
+    x.acts_are ∙ ap (λ (s : ℕ). Refuse 0 s x.rule ∷ []) one.0 ∙ ap (λ (r : ℕ). Refuse 0 y.status r ∷ []) one.1 ∙ sym y.acts_are
 
-tunnel_or_refused : Known → (reads : List (List ℕ)) (a b : List Act) → AsksTunnel reads a → AsksRefusal reads b → ⊥
-tunnel_or_refused known reads a b x y =
-    let same = one_decision x.before y.before x.last y.last x.after y.after [] (sym x.decides.is ∙ y.decides.is) x.decides.begun y.decides.begun (tunnel_decides known reads a x) (refusal_decides known reads b y) in
+tunnel_or_refused : Known → (setup : Setup) → IsTold setup → (reads : List (List ℕ)) (a b : List Act) → AsksTunnel setup reads a → AsksRefusal setup reads b → ⊥
+tunnel_or_refused known setup told reads a b x y =
+    let same = one_decision x.before y.before x.last y.last x.after y.after [] (sym x.decides.is ∙ y.decides.is) x.decides.begun y.decides.begun (tunnel_decides known setup reads a x) (refusal_decides known setup reads b y) in
     let head : concat x.before ++ x.last ≡ concat y.before ++ y.last = ap (λ (rs : List (List ℕ)). concat rs ++ x.last) same.0 ∙ ap (λ (l : List ℕ). concat y.before ++ l) same.1 in
-    request_or_refused known (concat x.before ++ x.last) x.addr x.port x.used y.status x.request (subst (λ (bytes : List ℕ). IsRefusedRequest bytes y.status) (sym head) y.refused)
+    request_or_refused known setup told (concat x.before ++ x.last) x.goal x.used y.status y.rule x.request (subst (λ (bytes : List ℕ). IsRefusedRequest setup bytes y.status y.rule) (sym head) y.refused)
 
-pub one_asked : Known → (reads : List (List ℕ)) (a b : List Act) → Asks reads a → Asks reads b → a ≡ b
-one_asked known reads a b x y =
+pub one_asked : Known → (setup : Setup) → IsTold setup → (reads : List (List ℕ)) (a b : List Act) → Asks setup reads a → Asks setup reads b → a ≡ b
+one_asked known setup told reads a b x y =
     elim x [
       | inl t ↦ elim y [
-        | inl u ↦ one_tunnel known reads a b t u
-        | inr (inl r) ↦ absurd (tunnel_or_refused known reads a b t r)
-        | inr (inr n) ↦ absurd (tunnel_decides known reads a t (undecided reads t.before t.last t.after t.decides n.begun))
+        | inl u ↦ one_tunnel known setup told reads a b t u
+        | inr (inl r) ↦ absurd (tunnel_or_refused known setup told reads a b t r)
+        | inr (inr n) ↦ absurd (tunnel_decides known setup reads a t (undecided reads t.before t.last t.after t.decides n.begun))
       ]
       | inr (inl r) ↦ elim y [
-        | inl u ↦ absurd (tunnel_or_refused known reads b a u r)
-        | inr (inl s) ↦ one_refused known reads a b r s
-        | inr (inr n) ↦ absurd (refusal_decides known reads a r (undecided reads r.before r.last r.after r.decides n.begun))
+        | inl u ↦ absurd (tunnel_or_refused known setup told reads b a u r)
+        | inr (inl s) ↦ one_refused known setup told reads a b r s
+        | inr (inr n) ↦ absurd (refusal_decides known setup reads a r (undecided reads r.before r.last r.after r.decides n.begun))
       ]
       | inr (inr n) ↦ elim y [
-        | inl u ↦ absurd (tunnel_decides known reads b u (undecided reads u.before u.last u.after u.decides n.begun))
-        | inr (inl s) ↦ absurd (refusal_decides known reads b s (undecided reads s.before s.last s.after s.decides n.begun))
+        | inl u ↦ absurd (tunnel_decides known setup reads b u (undecided reads u.before u.last u.after u.decides n.begun))
+        | inr (inl s) ↦ absurd (refusal_decides known setup reads b s (undecided reads s.before s.last s.after s.decides n.begun))
         | inr (inr m) ↦ n.acts_are ∙ sym m.acts_are
       ]
     ]

@@ -9,6 +9,7 @@ pub mod Parts
 pub mod PartsBad
 pub mod Plays
 pub mod Requests
+pub mod Setups
 pub mod Single
 pub mod Starving
 pub mod Turns

@@ -9,10 +9,12 @@ use Rattle.mq_talk.specs.declared.note.Note.TheVariants.{Accepted, Took, Ported,
 use Rattle.mq_talk.specs.declared.note.Why.TheVariants as why
 use Rattle.mq_machine.specs.declared.act.Act.{Act}
 use Rattle.mq_machine.specs.declared.act.Act.TheVariants as act
+use Rattle.mq_machine.specs.declared.setup.Setup.{Setup}
 use Rattle.mq_machine.specs.Capsule.{Reads}
 use Rattle.mq_machine.specs.Request.{Asks}
 use Rattle.mq_machine.specs.State.{Conn, Tunnel, new_conn}
 use Rattle.mq_machine.specs.ConnNext.{is_on, without, WantNext, WroteNext, TookNext, starved}
+use Rattle.mq_plays.specs.Setups.{IsTold}
 use Rattle.mq_plays.proofs.Requests.{Known}
 use Rattle.mq_plays.proofs.Asked.{one_asked}
 
@@ -26,21 +28,21 @@ opens (act.Payload stream n payload ∷ acts) = opens acts
 opens (act.Malformed stream ∷ acts) = opens acts
 
 -- It has one tunnel at most, or will open one; and none where its bytes ask for nothing yet.
-pub record IsOne (c : Conn) : Type 0 where
+pub record IsOne (setup : Setup) (c : Conn) : Type 0 where
   pub room : opens c.due + length c.tunnels ≤ 1
-  pub fresh : Asks c.reads [] → opens c.due + length c.tunnels ≡ 0
+  pub fresh : Asks setup c.reads [] → opens c.due + length c.tunnels ≡ 0
 
-pub new_one : IsOne new_conn
-new_one = record { room = omega arith; fresh = λ asks. omega arith }
+pub new_one : (setup : Setup) → IsOne setup new_conn
+new_one setup = record { room = omega arith; fresh = λ asks. omega arith }
 
-pub few_tunnels : (c : Conn) → IsOne c → length c.tunnels ≤ 1
-few_tunnels c one = let room = one.room in omega arith
+pub few_tunnels : (setup : Setup) (c : Conn) → IsOne setup c → length c.tunnels ≤ 1
+few_tunnels setup c one = let room = one.room in omega arith
 
 -- it stays so where nothing more will be open
-pub no_more : (old new : Conn) → new.reads ≡ old.reads → opens new.due + length new.tunnels ≤ opens old.due + length old.tunnels → IsOne old → IsOne new
-no_more old new reads less one =
+pub no_more : (setup : Setup) (old new : Conn) → new.reads ≡ old.reads → opens new.due + length new.tunnels ≤ opens old.due + length old.tunnels → IsOne setup old → IsOne setup new
+no_more setup old new reads less one =
     let room = one.room in
-    let P : List (List ℕ) → Type 0 = λ rs. Asks rs [] in
+    let P : List (List ℕ) → Type 0 = λ rs. Asks setup rs [] in
     record {
       room = omega arith;
       fresh = λ asks. let none = one.fresh (subst P reads asks) in omega arith;
@@ -79,54 +81,54 @@ pub remove_length : {A : Type 0} → (xs : List A) (i : ℕ) → length (remove 
 remove_length xs i = omega (arith, length-append (take i xs) (drop (suc i) xs), length-take i xs, length-drop (suc i) xs)
 
 -- what a connection does next opens no more
-pub want_one : (conn entries : ℕ) (old : Conn) (note : Note) (new : Conn) (calls : List Call) → WantNext conn entries old note new calls → IsOne old → IsOne new
-want_one conn entries old (Ported c stream) new calls h one =
+pub want_one : (setup : Setup) (conn entries : ℕ) (old : Conn) (note : Note) (new : Conn) (calls : List Call) → WantNext conn entries old note new calls → IsOne setup old → IsOne setup new
+want_one setup conn entries old (Ported c stream) new calls h one =
     let p = h.1 in
     let was = ap opens p.due in
     let next : Conn = record old { due = act.Open stream p.goal ∷ p.rest } in
-    subst IsOne (sym p.new_is) (no_more old next refl (omega arith) one)
-want_one conn entries old (Opened tunnel c stream kind) new calls h one =
+    subst (IsOne setup) (sym p.new_is) (no_more setup old next refl (omega arith) one)
+want_one setup conn entries old (Opened tunnel c stream kind) new calls h one =
     let p = h.4 in
     let was = ap opens p.due in
     let t : Tunnel = record { id = tunnel; stream = stream; waiting = [] } in
     let next : Conn = record old { due = p.rest; out = new.out; tunnels = old.tunnels ++ t ∷ [] } in
     let is : next ≡ new = ap (λ (out : List ℕ). record old { due = p.rest; out = out; tunnels = old.tunnels ++ t ∷ [] }) (ap (λ (k : Conn). k.out) p.new_is) ∙ sym p.new_is in
     let more = length-append old.tunnels (t ∷ []) in
-    subst IsOne is (no_more old next refl (omega arith) one)
-want_one conn entries old (Refused c stream status rule) new calls h one =
+    subst (IsOne setup) is (no_more setup old next refl (omega arith) one)
+want_one setup conn entries old (Refused c stream status rule) new calls h one =
     let p = h.1 in
     let was = ap opens p.due in
     let next : Conn = record old { due = p.rest; out = old.out ++ refusal_text status; ending = Some end.Refused } in
-    subst IsOne (sym p.new_is) (no_more old next refl (omega arith) one)
-want_one conn entries old (Sent from n packet) new calls h one =
+    subst (IsOne setup) (sym p.new_is) (no_more setup old next refl (omega arith) one)
+want_one setup conn entries old (Sent from n packet) new calls h one =
     let p = h.0 in
     let was = ap opens p.due in
     let next : Conn = record old { due = p.rest } in
-    subst IsOne (sym p.new_is) (no_more old next refl (omega arith) one)
-want_one conn entries old (Closed tunnel why.Malformed left) new calls h one =
+    subst (IsOne setup) (sym p.new_is) (no_more setup old next refl (omega arith) one)
+want_one setup conn entries old (Closed tunnel why.Malformed left) new calls h one =
     let p = h.0 in
     let was = ap opens p.due in
     let fewer = without_opens p.stream p.rest in
     let less = remove_length old.tunnels p.i in
     let next : Conn = record old { due = without p.stream p.rest; tunnels = remove old.tunnels p.i; ending = Some end.Tunnel } in
-    subst IsOne (sym p.new_is) (no_more old next refl (omega arith) one)
-want_one conn entries old (Closed tunnel why.Conn left) new calls h one =
+    subst (IsOne setup) (sym p.new_is) (no_more setup old next refl (omega arith) one)
+want_one setup conn entries old (Closed tunnel why.Conn left) new calls h one =
     let p = h.0 in
     let were = ap (λ (ts : List Tunnel). length ts) p.tunnels in
     let next : Conn = record old { tunnels = p.rest } in
-    subst IsOne (sym p.new_is) (no_more old next refl (omega arith) one)
-want_one conn entries old (Accepted c actor) new calls h one = absurd h
-want_one conn entries old (Took c count) new calls h one = absurd h
-want_one conn entries old (Wrote c bytes) new calls h one = absurd h
-want_one conn entries old (Ended c reason) new calls h one = absurd h
+    subst (IsOne setup) (sym p.new_is) (no_more setup old next refl (omega arith) one)
+want_one setup conn entries old (Accepted c actor) new calls h one = absurd h
+want_one setup conn entries old (Took c count) new calls h one = absurd h
+want_one setup conn entries old (Wrote c bytes) new calls h one = absurd h
+want_one setup conn entries old (Ended c reason) new calls h one = absurd h
 
-pub wrote_one : (old : Conn) (bytes : List ℕ) (new : Conn) → WroteNext old bytes new → IsOne old → IsOne new
-wrote_one old bytes new w one =
+pub wrote_one : (setup : Setup) (old : Conn) (bytes : List ℕ) (new : Conn) → WroteNext old bytes new → IsOne setup old → IsOne setup new
+wrote_one setup old bytes new w one =
     let next : Conn = record old { given = length old.out } in
-    subst IsOne (sym w.new_is) (no_more old next refl (omega arith) one)
+    subst (IsOne setup) (sym w.new_is) (no_more setup old next refl (omega arith) one)
 
-pub starved_one : (c : Conn) → IsOne c → IsOne (starved c)
-starved_one c one = no_more c (starved c) refl (omega arith) one
+pub starved_one : (setup : Setup) (c : Conn) → IsOne setup c → IsOne setup (starved c)
+starved_one setup c one = no_more setup c (starved c) refl (omega arith) one
 
 -- capsules open nothing
 capsules_open : (acts : List Act) (stream n : ℕ) (bytes left : List ℕ) → Reads stream n bytes acts left → opens acts ≡ 0
@@ -138,8 +140,8 @@ capsules_open (act.Open on goal ∷ acts) stream n bytes left r = absurd r
 capsules_open (act.Refuse on status rule ∷ acts) stream n bytes left r = absurd r
 
 -- what is asked for opens a tunnel first, or none
-tail_opens : (reads : List (List ℕ)) (a : Act) (acts : List Act) → Asks reads (a ∷ acts) → opens acts ≡ 0
-tail_opens reads a acts x =
+tail_opens : (setup : Setup) (reads : List (List ℕ)) (a : Act) (acts : List Act) → Asks setup reads (a ∷ acts) → opens acts ≡ 0
+tail_opens setup reads a acts x =
     elim x [
       | inl t ↦ (
           let is = t.acts_are in
@@ -150,9 +152,9 @@ tail_opens reads a acts x =
       | inr (inr n) ↦ (let is = n.acts_are in absurd cc)
     ]
 
-asked_opens : (reads : List (List ℕ)) (acts : List Act) → Asks reads acts → opens acts ≤ 1
-asked_opens reads [] x = omega arith
-asked_opens reads (a ∷ acts) x = let none = tail_opens reads a acts x in let one = more_by_one a acts in omega arith
+asked_opens : (setup : Setup) (reads : List (List ℕ)) (acts : List Act) → Asks setup reads acts → opens acts ≤ 1
+asked_opens setup reads [] x = omega arith
+asked_opens setup reads (a ∷ acts) x = let none = tail_opens setup reads a acts x in let one = more_by_one a acts in omega arith
 
 later_opens : (xs ys : List Act) → opens ys ≤ opens (xs ++ ys)
 later_opens [] ys = omega arith
@@ -163,23 +165,23 @@ none_here [] ys e = (refl, e)
 none_here (x ∷ xs) ys e = absurd cc
 
 -- what is read opens at most one
-took_room : (old : Conn) (reads : List (List ℕ)) (before due : List Act) → IsOne old → Asks old.reads before → Asks reads (before ++ due) → opens due + length old.tunnels ≤ 1
-took_room old reads [] due one asked asks = let none = one.fresh asked in let few = asked_opens reads due asks in omega arith
-took_room old reads (a ∷ before) due one asked asks =
-    let none = tail_opens reads a (before ++ due) asks in
+took_room : (setup : Setup) (old : Conn) (reads : List (List ℕ)) (before due : List Act) → IsOne setup old → Asks setup old.reads before → Asks setup reads (before ++ due) → opens due + length old.tunnels ≤ 1
+took_room setup old reads [] due one asked asks = let none = one.fresh asked in let few = asked_opens setup reads due asks in omega arith
+took_room setup old reads (a ∷ before) due one asked asks =
+    let none = tail_opens setup reads a (before ++ due) asks in
     let less = later_opens before due in
     let room = one.room in
     omega arith
 
-pub took_one : Known → (old : Conn) (bytes : List ℕ) (new : Conn) → TookNext old bytes new → IsOne old → IsOne new
-took_one known old bytes new t one =
+pub took_one : Known → (setup : Setup) → IsTold setup → (old : Conn) (bytes : List ℕ) (new : Conn) → TookNext setup old bytes new → IsOne setup old → IsOne setup new
+took_one known setup told old bytes new t one =
     let reads = old.reads ++ bytes ∷ [] in
     let next : Conn = record old { reads = reads; due = new.due } in
-    let room = took_room old reads t.before new.due one t.asked t.asks in
-    let fresh : Asks reads [] → opens new.due + length old.tunnels ≡ 0 = λ asks.
-    let none = none_here t.before new.due (one_asked known reads (t.before ++ new.due) [] t.asks asks) in
-    let P : List Act → Type 0 = λ acts. Asks old.reads acts in
+    let room = took_room setup old reads t.before new.due one t.asked t.asks in
+    let fresh : Asks setup reads [] → opens new.due + length old.tunnels ≡ 0 = λ asks.
+    let none = none_here t.before new.due (one_asked known setup told reads (t.before ++ new.due) [] t.asks asks) in
+    let P : List Act → Type 0 = λ acts. Asks setup old.reads acts in
     let few = one.fresh (subst P none.0 t.asked) in
     let due = ap opens none.1 in
     omega arith in
-    subst IsOne (sym t.new_is) (record { room = room; fresh = fresh })
+    subst (IsOne setup) (sym t.new_is) (record { room = room; fresh = fresh })

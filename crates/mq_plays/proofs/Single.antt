@@ -1,34 +1,38 @@
--- The states that lines lead to: one worker, one link at most, and one tunnel at most.
+-- The states that lines lead to: one worker, one link at most, one tunnel at most, and a template that a text tells.
 use Rattle.std.proofs.Common.{◌≡◌, ℕ, zero, suc, ◌+◌, ◌≤◌, List, [], ◌∷◌, ◌++◌, length, slice_get, slice_set, remove, Some, refl, sym, ap, subst, ◌∙◌, arith, ◌⊎◌, inl, inr}
 use Rattle.std.proofs.lemmas.List.{length-append}
 use Rattle.mq_talk.specs.declared.note.Note.{Note}
 use Rattle.mq_machine.specs.declared.line.Line.{Line}
 use Rattle.mq_machine.specs.declared.line.Line.TheVariants as line
+use Rattle.mq_machine.specs.declared.setup.Setup.{Setup}
 use Rattle.mq_machine.specs.State.{new_conn, Offer, Held, Worker, Shared, State, start}
 use Rattle.mq_machine.specs.ConnNext.{starved}
 use Rattle.mq_machine.specs.Next.{HeldNext, OfNext, Try, Want, Write, Read, Seat, Offers, Of, SeatNext, WorkerStarves, Turn, SilentTurn}
 use Rattle.mq_machine.specs.Play.{OffersLink, with_piece, Arrives, Runs, LinePlays, Plays}
+use Rattle.mq_plays.specs.Setups.{IsTold}
 use Rattle.mq_plays.proofs.Requests.{Known}
+use Rattle.mq_plays.proofs.Setups.{plain_told, same_told, turn_keeps}
 use Rattle.mq_plays.proofs.Counts.{set_length}
 use Rattle.mq_plays.proofs.Opening.{IsOne, new_one, want_one, wrote_one, took_one, starved_one, remove_length}
 use Rattle.mq_plays.proofs.Wanting.{some_same}
 use Rattle.mq_plays.proofs.Turns.{Settled, reads, writes, IsAccepted, accepts, IsEnded, ends_or_goes}
 
 -- each connection of these has one tunnel at most
-abbrev pub AreOne : List Held → Type 0
-AreOne conns = (i : ℕ) (h : Held) → slice_get conns i ≡ Some h → IsOne h.conn
+abbrev pub AreOne : Setup → List Held → Type 0
+AreOne setup conns = (i : ℕ) (h : Held) → slice_get conns i ≡ Some h → IsOne setup h.conn
 
 -- it has so many links at most, offered or taken
-pub record Holds (w : Worker) (links : ℕ) : Type 0 where
+pub record Holds (setup : Setup) (w : Worker) (links : ℕ) : Type 0 where
   pub few : length w.offered + length w.conns ≤ links
-  pub conns : AreOne w.conns
+  pub conns : AreOne setup w.conns
 
--- there is one worker, and one link at most
+-- there is one worker, one link at most, and a template that a text tells
 pub record IsSingle (s : State) : Type 0 where
+  pub told : IsTold s.shared.setup
   pub w : Worker
   pub workers : s.workers ≡ w ∷ []
   pub links : s.links ≤ 1
-  pub holds : Holds w s.links
+  pub holds : Holds s.shared.setup w s.links
 
 -- ---- lists
 
@@ -70,111 +74,114 @@ get_one (z ∷ u ∷ us) i j x y few e f = absurd (omega arith)
 
 -- ---- a worker
 
-pub settled : (w : Worker) (links : ℕ) → links ≤ 1 → Holds w links → Settled w
-settled w links one holds =
+pub settled : (setup : Setup) (w : Worker) (links : ℕ) → IsTold setup → links ≤ 1 → Holds setup w links → Settled setup w
+settled setup w links told one holds =
     let few = holds.few in
-    record { one = λ c i j h g x y. get_one w.conns i j h g (omega arith) x.at y.at; conns = holds.conns }
+    record { told = told; one = λ c i j h g x y. get_one w.conns i j h g (omega arith) x.at y.at; conns = holds.conns }
 
-held_one : Known → (actor : ℕ) (old : Held) (sh : Shared) (try : Try) (note : Note) (new : Held) (after : Shared) → HeldNext actor old sh try note new after → IsOne old.conn → IsOne new.conn
-held_one known actor old sh Want note new after h one =
-    let P : Held → Type 0 = λ g. IsOne g.conn in
-    subst P (sym h.new_is) (want_one old.number (length sh.book) old.conn note h.conn h.calls h.next one)
-held_one known actor old sh Write note new after h one =
+held_one : Known → (actor : ℕ) (old : Held) (sh : Shared) → IsTold sh.setup → (try : Try) (note : Note) (new : Held) (after : Shared) → HeldNext actor old sh try note new after → IsOne sh.setup old.conn → IsOne sh.setup new.conn
+held_one known actor old sh told Want note new after h one =
+    let P : Held → Type 0 = λ g. IsOne sh.setup g.conn in
+    subst P (sym h.new_is) (want_one sh.setup old.number (length sh.book) old.conn note h.conn h.calls h.next one)
+held_one known actor old sh told Write note new after h one =
     let w = writes actor old sh note new after h in
-    let P : Held → Type 0 = λ g. IsOne g.conn in
-    subst P (sym w.next.new_is) (wrote_one old.conn w.bytes w.next.after w.next.wrote one)
-held_one known actor old sh Read note new after h one =
+    let P : Held → Type 0 = λ g. IsOne sh.setup g.conn in
+    subst P (sym w.next.new_is) (wrote_one sh.setup old.conn w.bytes w.next.after w.next.wrote one)
+held_one known actor old sh told Read note new after h one =
     let r = reads actor old sh note new after h in
-    let P : Held → Type 0 = λ g. IsOne g.conn in
-    subst P (sym r.next.new_is) (took_one known old.conn r.next.bytes r.next.after r.next.took one)
+    let P : Held → Type 0 = λ g. IsOne sh.setup g.conn in
+    subst P (sym r.next.new_is) (took_one known sh.setup told old.conn r.next.bytes r.next.after r.next.took one)
 
-set_one : (conns : List Held) (i : ℕ) (g : Held) → AreOne conns → IsOne g.conn → AreOne (slice_set conns i g)
-set_one conns i g are one j h at =
+set_one : (setup : Setup) (conns : List Held) (i : ℕ) (g : Held) → AreOne setup conns → IsOne setup g.conn → AreOne setup (slice_set conns i g)
+set_one setup conns i g are one j h at =
     elim (get_set conns i g j h at) [
       | inl there ↦ are j h there
-      | inr is ↦ (let P : Held → Type 0 = λ k. IsOne k.conn in subst P (sym is) one)
+      | inr is ↦ (let P : Held → Type 0 = λ k. IsOne setup k.conn in subst P (sym is) one)
     ]
 
-accept_holds : (w : Worker) (sh : Shared) (links : ℕ) (note : Note) (new : Worker) (after : Shared) → IsAccepted w sh note new after → Holds w links → Holds new links
+accept_holds : (w : Worker) (sh : Shared) (links : ℕ) (note : Note) (new : Worker) (after : Shared) → IsAccepted w sh note new after → Holds sh.setup w links → Holds sh.setup new links
 accept_holds w sh links note new after x holds =
     let a = x.next in
     let h : Held = record { number = x.conn; link = a.link; conn = new_conn } in
     let were = ap (λ (os : List Offer). length os) a.offered in
     let more = length-append w.conns (h ∷ []) in
     let few = holds.few in
-    let P : Worker → Type 0 = λ v. Holds v links in
-    let Q : Held → Type 0 = λ k. IsOne k.conn in
+    let P : Worker → Type 0 = λ v. Holds sh.setup v links in
+    let Q : Held → Type 0 = λ k. IsOne sh.setup k.conn in
     subst P (sym a.new_is) (record {
       few = omega arith;
       conns = λ i k at. elim (get_last w.conns h i k at) [
         | inl there ↦ holds.conns i k there
-        | inr is ↦ subst Q (sym is) new_one
+        | inr is ↦ subst Q (sym is) (new_one sh.setup)
       ];
     })
 
-end_holds : (w : Worker) (sh : Shared) (links c : ℕ) (note : Note) (new : Worker) (after : Shared) → IsEnded w sh c note new after → Holds w links → Holds new links
+end_holds : (w : Worker) (sh : Shared) (links c : ℕ) (note : Note) (new : Worker) (after : Shared) → IsEnded w sh c note new after → Holds sh.setup w links → Holds sh.setup new links
 end_holds w sh links c note new after x holds =
     let e = x.next in
     let less = remove_length w.conns e.i in
     let few = holds.few in
-    let P : Worker → Type 0 = λ v. Holds v links in
+    let P : Worker → Type 0 = λ v. Holds sh.setup v links in
     subst P (sym e.new_is) (record {
       few = omega arith;
       conns = λ i k at. let there = get_left w.conns e.i i k at in holds.conns there.0 k there.1;
     })
 
-of_holds : Known → (w : Worker) (sh : Shared) (links c : ℕ) (try : Try) (note : Note) (new : Worker) (after : Shared) → OfNext w sh c try note new after → Holds w links → Holds new links
-of_holds known w sh links c try note new after x holds =
+of_holds : Known → (w : Worker) (sh : Shared) → IsTold sh.setup → (links c : ℕ) (try : Try) (note : Note) (new : Worker) (after : Shared) → OfNext w sh c try note new after → Holds sh.setup w links → Holds sh.setup new links
+of_holds known w sh told links c try note new after x holds =
     let same = set_length w.conns x.i x.g in
     let few = holds.few in
-    let P : Worker → Type 0 = λ v. Holds v links in
+    let P : Worker → Type 0 = λ v. Holds sh.setup v links in
     subst P (sym x.new_is) (record {
       few = omega arith;
-      conns = set_one w.conns x.i x.g holds.conns (held_one known w.id x.h sh try note x.g after x.next (holds.conns x.i x.h x.has.at));
+      conns = set_one sh.setup w.conns x.i x.g holds.conns (held_one known w.id x.h sh told try note x.g after x.next (holds.conns x.i x.h x.has.at));
     })
 
-seat_holds : Known → (w : Worker) (sh : Shared) (links : ℕ) (seat : Seat) (try : Try) (note : Note) (new : Worker) (after : Shared) → SeatNext w sh seat try note new after → Holds w links → Holds new links
-seat_holds known w sh links Offers try note new after x holds = accept_holds w sh links note new after (accepts w sh try note new after x) holds
-seat_holds known w sh links (Of c) Want note new after x holds =
+seat_holds : Known → (w : Worker) (sh : Shared) → IsTold sh.setup → (links : ℕ) (seat : Seat) (try : Try) (note : Note) (new : Worker) (after : Shared) → SeatNext w sh seat try note new after → Holds sh.setup w links → Holds sh.setup new links
+seat_holds known w sh told links Offers try note new after x holds = accept_holds w sh links note new after (accepts w sh try note new after x) holds
+seat_holds known w sh told links (Of c) Want note new after x holds =
     elim (ends_or_goes w sh c note new after x) [
       | inl e ↦ end_holds w sh links c note new after e holds
-      | inr g ↦ of_holds known w sh links c Want note new after g holds
+      | inr g ↦ of_holds known w sh told links c Want note new after g holds
     ]
-seat_holds known w sh links (Of c) Write note new after x holds = of_holds known w sh links c Write note new after x holds
-seat_holds known w sh links (Of c) Read note new after x holds = of_holds known w sh links c Read note new after x holds
+seat_holds known w sh told links (Of c) Write note new after x holds = of_holds known w sh told links c Write note new after x holds
+seat_holds known w sh told links (Of c) Read note new after x holds = of_holds known w sh told links c Read note new after x holds
 
-starves_holds : (w : Worker) (sh : Shared) (links : ℕ) (new : Worker) → WorkerStarves w sh new → Holds w links → Holds new links
+starves_holds : (w : Worker) (sh : Shared) (links : ℕ) (new : Worker) → WorkerStarves w sh new → Holds sh.setup w links → Holds sh.setup new links
 starves_holds w sh links new x holds =
     let g : Held = record x.h { conn = starved x.h.conn } in
     let same = set_length w.conns x.i g in
     let few = holds.few in
-    let P : Worker → Type 0 = λ v. Holds v links in
+    let P : Worker → Type 0 = λ v. Holds sh.setup v links in
     subst P (sym x.new_is) (record {
       few = omega arith;
-      conns = set_one w.conns x.i g holds.conns (starved_one x.h.conn (holds.conns x.i x.h x.has.at));
+      conns = set_one sh.setup w.conns x.i g holds.conns (starved_one sh.setup x.h.conn (holds.conns x.i x.h x.has.at));
     })
 
 -- ---- the world
 
 -- the one worker is now this
-pub single_set : (s t : State) (i : ℕ) (v w : Worker) → IsSingle s → slice_get s.workers i ≡ Some v → t.links ≡ s.links → t.workers ≡ slice_set s.workers i w → (Holds v s.links → Holds w s.links) → IsSingle t
-single_set s t i v w one at links workers keeps =
+pub single_set : (s t : State) (i : ℕ) (v w : Worker) → IsSingle s → slice_get s.workers i ≡ Some v → t.links ≡ s.links → t.shared.setup ≡ s.shared.setup → t.workers ≡ slice_set s.workers i w
+    → (Holds s.shared.setup v s.links → Holds s.shared.setup w s.links) → IsSingle t
+single_set s t i v w one at links setup workers keeps =
     let P : List Worker → Type 0 = λ ws. slice_get ws i ≡ Some v in
     let only = get_only one.w i v (subst P one.workers at) in
     let all : t.workers ≡ w ∷ [] = workers ∙ ap (λ (ws : List Worker). slice_set ws i w) one.workers ∙ ap (λ (j : ℕ). slice_set (one.w ∷ []) j w) only.0 in
-    let Q : Worker → Type 0 = λ u. Holds u s.links in
-    let R : ℕ → Type 0 = λ n. Holds w n in
+    let Q : Worker → Type 0 = λ u. Holds s.shared.setup u s.links in
+    let R : ℕ → Type 0 = λ n. Holds s.shared.setup w n in
+    let S : Setup → Type 0 = λ u. Holds u w t.links in
     let few = one.links in
-    record { w = w; workers = all; links = omega arith; holds = subst R (sym links) (keeps (subst Q (sym only.1) one.holds)) }
+    let holds = subst R (sym links) (keeps (subst Q (sym only.1) one.holds)) in
+    record { told = same_told s.shared.setup t.shared.setup setup one.told; w = w; workers = all; links = omega arith; holds = subst S (sym setup) holds }
 
 pub turn_single : Known → (s t : State) (actor : ℕ) (note : Note) → Turn s actor note t → IsSingle s → IsSingle t
 turn_single known s t actor note x one =
-    single_set s t actor x.worker x.after one x.at (ap (λ (u : State). u.links) x.new_is) (ap (λ (u : State). u.workers) x.new_is)
-    (λ holds. seat_holds known x.worker s.shared s.links x.turn.seat x.turn.try note x.after x.shared x.turn.allowed holds)
+    single_set s t actor x.worker x.after one x.at (ap (λ (u : State). u.links) x.new_is) (turn_keeps s t actor note x) (ap (λ (u : State). u.workers) x.new_is)
+    (λ holds. seat_holds known x.worker s.shared one.told s.links x.turn.seat x.turn.try note x.after x.shared x.turn.allowed holds)
 
 silent_single : (s t : State) (actor : ℕ) → SilentTurn s actor t → IsSingle s → IsSingle t
 silent_single s t actor x one =
-    single_set s t actor x.worker x.after one x.at (ap (λ (u : State). u.links) x.new_is) (ap (λ (u : State). u.workers) x.new_is)
+    single_set s t actor x.worker x.after one x.at (ap (λ (u : State). u.links) x.new_is) (ap (λ (u : State). u.shared.setup) x.new_is) (ap (λ (u : State). u.workers) x.new_is)
     (λ holds. starves_holds x.worker s.shared s.links x.after x.starves holds)
 
 same_single : (s t : State) → t ≡ s → IsSingle s → IsSingle t
@@ -197,11 +204,19 @@ offers_single s t worker none x one =
     let v : Worker = record x.w { offered = x.w.offered ++ o ∷ [] } in
     let workers = ap (λ (u : State). u.workers) x.new_is ∙ ap (λ (ws : List Worker). slice_set ws worker v) one.workers ∙ ap (λ (j : ℕ). slice_set (one.w ∷ []) j v) only.0 in
     let links : t.links ≡ s.links + 1 = ap (λ (u : State). u.links) x.new_is in
-    let Q : Worker → Type 0 = λ u. Holds u s.links in
+    let setup : t.shared.setup ≡ s.shared.setup = ap (λ (u : State). u.shared.setup) x.new_is in
+    let Q : Worker → Type 0 = λ u. Holds s.shared.setup u s.links in
+    let R : Setup → Type 0 = λ u. AreOne u v.conns in
     let holds = subst Q (sym only.1) one.holds in
     let few = holds.few in
     let more = length-append x.w.offered (o ∷ []) in
-    record { w = v; workers = workers; links = omega arith; holds = record { few = omega arith; conns = holds.conns } }
+    record {
+      told = same_told s.shared.setup t.shared.setup setup one.told;
+      w = v;
+      workers = workers;
+      links = omega arith;
+      holds = record { few = omega arith; conns = subst R (sym setup) holds.conns };
+    }
 
 arrives_single : (s t : State) (number : ℕ) (bytes : List ℕ) → Arrives s number bytes t → IsSingle s → IsSingle t
 arrives_single s t number bytes x one =
@@ -209,14 +224,14 @@ arrives_single s t number bytes x one =
       | inl o ↦ (
           let p : Offer = record o.o { link = with_piece o.o.link bytes } in
           let same = set_length o.w.offered o.i p in
-          single_set s t o.a o.w (record o.w { offered = slice_set o.w.offered o.i p }) one o.at (ap (λ (u : State). u.links) o.new_is) (ap (λ (u : State). u.workers) o.new_is)
+          single_set s t o.a o.w (record o.w { offered = slice_set o.w.offered o.i p }) one o.at (ap (λ (u : State). u.links) o.new_is) (ap (λ (u : State). u.shared.setup) o.new_is) (ap (λ (u : State). u.workers) o.new_is)
           (λ holds. let few = holds.few in record { few = omega arith; conns = holds.conns })
           )
       | inr (inl h) ↦ (
           let g : Held = record h.h { link = with_piece h.h.link bytes } in
           let same = set_length h.w.conns h.i g in
-          single_set s t h.a h.w (record h.w { conns = slice_set h.w.conns h.i g }) one h.at (ap (λ (u : State). u.links) h.new_is) (ap (λ (u : State). u.workers) h.new_is)
-          (λ holds. let few = holds.few in record { few = omega arith; conns = set_one h.w.conns h.i g holds.conns (holds.conns h.i h.h h.here) })
+          single_set s t h.a h.w (record h.w { conns = slice_set h.w.conns h.i g }) one h.at (ap (λ (u : State). u.links) h.new_is) (ap (λ (u : State). u.shared.setup) h.new_is) (ap (λ (u : State). u.workers) h.new_is)
+          (λ holds. let few = holds.few in record { few = omega arith; conns = set_one s.shared.setup h.w.conns h.i g holds.conns (holds.conns h.i h.h h.here) })
           )
       | inr (inr l) ↦ same_single s t l.new_is one
     ]
@@ -234,6 +249,7 @@ plays_single known (first ∷ lines) s refused text t (fits, said, says, mid, he
 
 pub start_single : IsSingle start
 start_single = record {
+  told = plain_told;
   w = record { id = 0; offered = []; conns = []; next_seat = 0 };
   workers = refl;
   links = omega arith;
@@ -241,8 +257,8 @@ start_single = record {
 }
 
 -- its one worker is settled
-pub settles : (s : State) (actor : ℕ) (w : Worker) → IsSingle s → slice_get s.workers actor ≡ Some w → Settled w
+pub settles : (s : State) (actor : ℕ) (w : Worker) → IsSingle s → slice_get s.workers actor ≡ Some w → Settled s.shared.setup w
 settles s actor w one at =
     let P : List Worker → Type 0 = λ ws. slice_get ws actor ≡ Some w in
     let only = get_only one.w actor w (subst P one.workers at) in
-    subst Settled (sym only.1) (settled one.w s.links one.links one.holds)
+    subst (Settled s.shared.setup) (sym only.1) (settled s.shared.setup one.w s.links one.told one.links one.holds)

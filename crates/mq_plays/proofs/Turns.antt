@@ -6,35 +6,38 @@ use Rattle.mq_talk.specs.declared.note.End.{End}
 use Rattle.mq_talk.specs.declared.note.Note.{Note}
 use Rattle.mq_talk.specs.declared.note.Note.TheVariants.{Accepted, Took, Wrote, Ended}
 use Rattle.mq_machine.specs.declared.act.Act.{Act}
+use Rattle.mq_machine.specs.declared.setup.Setup.{Setup}
 use Rattle.mq_machine.specs.State.{Conn, Offer, Held, Worker, Shared, State}
 use Rattle.mq_machine.specs.ConnNext.{TookNext, IsOver}
 use Rattle.mq_machine.specs.Next.{Takes, without_empty, entries_of, ReadNext, DueNext, WriteNext, HasConn, AcceptNext, EndNext, OfNext, HeldNext, Try, Want, Write, Read, order, Seat, Offers, Of, place, SeatNext, NoLater, WorkerTurn, Turn, Quiet}
+use Rattle.mq_plays.specs.Setups.{IsTold}
 use Rattle.mq_plays.proofs.Requests.{Known}
 use Rattle.mq_plays.proofs.Asked.{one_asked}
 use Rattle.mq_plays.proofs.Bads.{same_behind}
 use Rattle.mq_plays.proofs.Wanting.{some_same, one_want, over_wants_none}
 use Rattle.mq_plays.proofs.Opening.{IsOne, few_tunnels}
 
--- a number names one connection, and each has one tunnel at most
-pub record Settled (w : Worker) : Type 0 where
+-- a text tells the template, a number names one connection, and each has one tunnel at most
+pub record Settled (setup : Setup) (w : Worker) : Type 0 where
+  pub told : IsTold setup
   pub one : (c i j : ℕ) (h g : Held) → HasConn w c i h → HasConn w c j g → (i ≡ j) × (h ≡ g)
-  pub conns : (i : ℕ) (h : Held) → slice_get w.conns i ≡ Some h → IsOne h.conn
+  pub conns : (i : ℕ) (h : Held) → slice_get w.conns i ≡ Some h → IsOne setup h.conn
 
 -- ---- what a connection tries
 
-one_due : (actor : ℕ) (old : Held) (sh : Shared) (n m : Note) (g h : Held) (a b : Shared) → IsOne old.conn → DueNext actor old sh n g a → DueNext actor old sh m h b → (n ≡ m) × (g ≡ h) × (a ≡ b)
+one_due : (actor : ℕ) (old : Held) (sh : Shared) (n m : Note) (g h : Held) (a b : Shared) → IsOne sh.setup old.conn → DueNext actor old sh n g a → DueNext actor old sh m h b → (n ≡ m) × (g ≡ h) × (a ≡ b)
 one_due actor old sh n m g h a b one x y =
-    let same = one_want old.number (length sh.book) old.conn n m x.conn y.conn x.calls y.calls (few_tunnels old.conn one) x.next y.next in (
+    let same = one_want old.number (length sh.book) old.conn n m x.conn y.conn x.calls y.calls (few_tunnels sh.setup old.conn one) x.next y.next in (
       same.0,
       x.new_is ∙ ap (λ (c : Conn). record old { conn = c }) same.1 ∙ sym y.new_is,
       x.after_is ∙ ap (λ (calls : List Call). record sh { book = sh.book ++ entries_of actor calls }) same.2 ∙ sym y.after_is,
     )
 
-one_took : Known → (old : Conn) (bytes : List ℕ) (a b : Conn) → TookNext old bytes a → TookNext old bytes b → a ≡ b
-one_took known old bytes a b x y =
+one_took : Known → (setup : Setup) → IsTold setup → (old : Conn) (bytes : List ℕ) (a b : Conn) → TookNext setup old bytes a → TookNext setup old bytes b → a ≡ b
+one_took known setup told old bytes a b x y =
     let reads = old.reads ++ bytes ∷ [] in
-    let before = one_asked known old.reads x.before y.before x.asked y.asked in
-    let both = one_asked known reads (x.before ++ a.due) (y.before ++ b.due) x.asks y.asks in
+    let before = one_asked known setup told old.reads x.before y.before x.asked y.asked in
+    let both = one_asked known setup told reads (x.before ++ a.due) (y.before ++ b.due) x.asks y.asks in
     let due = same_behind {A = Act} x.before a.due b.due (both ∙ ap (λ (acts : List Act). acts ++ b.due) (sym before)) in
     x.new_is ∙ ap (λ (acts : List Act). record old { reads = reads; due = acts }) due ∙ sym y.new_is
 
@@ -47,11 +50,11 @@ one_take old a b c d x y =
       x.left ∙ ap (λ (bytes : List ℕ). without_empty (drop 16384 bytes) x.others) first ∙ ap (λ (ps : List (List ℕ)). without_empty (drop 16384 y.first) ps) others ∙ sym y.left,
     )
 
-one_read : Known → (old : Held) (c d k l : ℕ) (g h : Held) → ReadNext old c k g → ReadNext old d l h → (c ≡ d) × (k ≡ l) × (g ≡ h)
-one_read known old c d k l g h x y =
+one_read : Known → (setup : Setup) → IsTold setup → (old : Held) (c d k l : ℕ) (g h : Held) → ReadNext setup old c k g → ReadNext setup old d l h → (c ≡ d) × (k ≡ l) × (g ≡ h)
+one_read known setup told old c d k l g h x y =
     let takes = one_take old.link.pieces x.bytes y.bytes x.pieces y.pieces x.takes y.takes in
-    let P : List ℕ → Type 0 = λ bytes. TookNext old.conn bytes y.after in
-    let after = one_took known old.conn x.bytes x.after y.after x.took (subst P (sym takes.0) y.took) in (
+    let P : List ℕ → Type 0 = λ bytes. TookNext setup old.conn bytes y.after in
+    let after = one_took known setup told old.conn x.bytes x.after y.after x.took (subst P (sym takes.0) y.took) in (
       x.conn_is ∙ sym y.conn_is,
       x.count_is ∙ ap (λ (bytes : List ℕ). length bytes) takes.0 ∙ sym y.count_is,
       x.new_is ∙ ap (λ (c : Conn). record old { link = record old.link { pieces = x.pieces }; conn = c }) after
@@ -70,7 +73,7 @@ pub record IsRead (old : Held) (sh : Shared) (note : Note) (new : Held) (after :
   pub conn : ℕ
   pub count : ℕ
   pub note_is : note ≡ Took conn count
-  pub next : ReadNext old conn count new
+  pub next : ReadNext sh.setup old conn count new
   pub after_is : after ≡ sh
 
 pub reads : (actor : ℕ) (old : Held) (sh : Shared) (note : Note) (new : Held) (after : Shared) → HeldNext actor old sh Read note new after → IsRead old sh note new after
@@ -89,9 +92,9 @@ pub writes : (actor : ℕ) (old : Held) (sh : Shared) (note : Note) (new : Held)
 writes actor old sh (Wrote conn bytes) new after h = record { conn = conn; bytes = bytes; note_is = refl; next = h.0; after_is = h.1 }
 writes actor old sh note new after h = absurd h
 
-one_held : Known → (actor : ℕ) (old : Held) (sh : Shared) (try : Try) (n m : Note) (g h : Held) (a b : Shared) → IsOne old.conn → HeldNext actor old sh try n g a → HeldNext actor old sh try m h b → (n ≡ m) × (g ≡ h) × (a ≡ b)
-one_held known actor old sh Want n m g h a b one x y = one_due actor old sh n m g h a b one x y
-one_held known actor old sh Write n m g h a b one x y =
+one_held : Known → (actor : ℕ) (old : Held) (sh : Shared) → IsTold sh.setup → (try : Try) (n m : Note) (g h : Held) (a b : Shared) → IsOne sh.setup old.conn → HeldNext actor old sh try n g a → HeldNext actor old sh try m h b → (n ≡ m) × (g ≡ h) × (a ≡ b)
+one_held known actor old sh told Want n m g h a b one x y = one_due actor old sh n m g h a b one x y
+one_held known actor old sh told Write n m g h a b one x y =
     let p = writes actor old sh n g a x in
     let q = writes actor old sh m h b y in
     let same = one_write old p.conn q.conn p.bytes q.bytes g h p.next q.next in
@@ -99,10 +102,10 @@ one_held known actor old sh Write n m g h a b one x y =
     let bytes = same.1 in
     let notes : Wrote p.conn p.bytes ≡ Wrote q.conn q.bytes = cc in
     (p.note_is ∙ notes ∙ sym q.note_is, same.2, p.after_is ∙ sym q.after_is)
-one_held known actor old sh Read n m g h a b one x y =
+one_held known actor old sh told Read n m g h a b one x y =
     let p = reads actor old sh n g a x in
     let q = reads actor old sh m h b y in
-    let same = one_read known old p.conn q.conn p.count q.count g h p.next q.next in
+    let same = one_read known sh.setup told old p.conn q.conn p.count q.count g h p.next q.next in
     let conns = same.0 in
     let counts = same.1 in
     let notes : Took p.conn p.count ≡ Took q.conn q.count = cc in
@@ -151,18 +154,18 @@ one_accept w sh n m u v a b x y =
     let other = q.new_is in
     (x.note_is ∙ notes ∙ sym y.note_is, cc, x.after_is ∙ sym y.after_is)
 
-one_of : Known → (w : Worker) (sh : Shared) (c : ℕ) (try : Try) (n m : Note) (u v : Worker) (a b : Shared) → Settled w → OfNext w sh c try n u a → OfNext w sh c try m v b → (n ≡ m) × (u ≡ v) × (a ≡ b)
+one_of : Known → (w : Worker) (sh : Shared) (c : ℕ) (try : Try) (n m : Note) (u v : Worker) (a b : Shared) → Settled sh.setup w → OfNext w sh c try n u a → OfNext w sh c try m v b → (n ≡ m) × (u ≡ v) × (a ≡ b)
 one_of known w sh c try n m u v a b s x y =
     let same = s.one c x.i y.i x.h y.h x.has y.has in
     let P : Held → Type 0 = λ h. HeldNext w.id h sh try m y.g b in
-    let held = one_held known w.id x.h sh try n m x.g y.g a b (s.conns x.i x.h x.has.at) x.next (subst P (sym same.1) y.next) in (
+    let held = one_held known w.id x.h sh s.told try n m x.g y.g a b (s.conns x.i x.h x.has.at) x.next (subst P (sym same.1) y.next) in (
       held.0,
       x.new_is ∙ ap (λ (i : ℕ). record w { conns = slice_set w.conns i x.g; next_seat = place (Of c) + 1 }) same.0
           ∙ ap (λ (g : Held). record w { conns = slice_set w.conns y.i g; next_seat = place (Of c) + 1 }) held.1 ∙ sym y.new_is,
       held.2,
     )
 
-one_end : (w : Worker) (sh : Shared) (c : ℕ) (n m : Note) (u v : Worker) (a b : Shared) → Settled w → IsEnded w sh c n u a → IsEnded w sh c m v b → (n ≡ m) × (u ≡ v) × (a ≡ b)
+one_end : (w : Worker) (sh : Shared) (c : ℕ) (n m : Note) (u v : Worker) (a b : Shared) → Settled sh.setup w → IsEnded w sh c n u a → IsEnded w sh c m v b → (n ≡ m) × (u ≡ v) × (a ≡ b)
 one_end w sh c n m u v a b s x y =
     let p = x.next in
     let q = y.next in
@@ -175,14 +178,14 @@ one_end w sh c n m u v a b s x y =
       x.after_is ∙ sym y.after_is,
     )
 
-ends_or_wants : (w : Worker) (sh : Shared) (c : ℕ) (n m : Note) (u v : Worker) (a b : Shared) → Settled w → IsEnded w sh c n u a → OfNext w sh c Want m v b → ⊥
+ends_or_wants : (w : Worker) (sh : Shared) (c : ℕ) (n m : Note) (u v : Worker) (a b : Shared) → Settled sh.setup w → IsEnded w sh c n u a → OfNext w sh c Want m v b → ⊥
 ends_or_wants w sh c n m u v a b s x y =
     let p = x.next in
     let same = s.one c p.i y.i p.h y.h p.has y.has in
     let P : Held → Type 0 = λ h. IsOver h.conn x.reason in
     over_wants_none y.h.number (length sh.book) y.h.conn x.reason m y.next.conn y.next.calls (subst P same.1 p.over) y.next.next
 
-pub one_seat : Known → (w : Worker) (sh : Shared) (seat : Seat) (try : Try) (n m : Note) (u v : Worker) (a b : Shared) → Settled w → SeatNext w sh seat try n u a → SeatNext w sh seat try m v b → (n ≡ m) × (u ≡ v) × (a ≡ b)
+pub one_seat : Known → (w : Worker) (sh : Shared) (seat : Seat) (try : Try) (n m : Note) (u v : Worker) (a b : Shared) → Settled sh.setup w → SeatNext w sh seat try n u a → SeatNext w sh seat try m v b → (n ≡ m) × (u ≡ v) × (a ≡ b)
 one_seat known w sh Offers try n m u v a b s x y = one_accept w sh n m u v a b (accepts w sh try n u a x) (accepts w sh try m v b y)
 one_seat known w sh (Of c) Want n m u v a b s x y =
     elim (ends_or_goes w sh c n u a x) [
@@ -254,7 +257,7 @@ one_try a b p q =
       | inr over ↦ elim (cases_lt (order b) (order a)) [ inl less ↦ absurd (q less) | inr none ↦ try_of_order a b (omega arith) ]
     ]
 
-pub one_worker_turn : Known → (w : Worker) (sh : Shared) (n m : Note) (u v : Worker) (a b : Shared) → Settled w → WorkerTurn w sh n u a → WorkerTurn w sh m v b → (n ≡ m) × (u ≡ v) × (a ≡ b)
+pub one_worker_turn : Known → (w : Worker) (sh : Shared) (n m : Note) (u v : Worker) (a b : Shared) → Settled sh.setup w → WorkerTurn w sh n u a → WorkerTurn w sh m v b → (n ≡ m) × (u ≡ v) × (a ≡ b)
 one_worker_turn known w sh n m u v a b s x y =
     let seats = seat_of_place x.seat y.seat (one_place w.next_seat (place x.seat) (place y.seat)
     (λ later. x.first y.seat later y.try m v b y.allowed) (λ later. y.first x.seat later x.try n u a x.allowed)) in
@@ -266,7 +269,7 @@ one_worker_turn known w sh n m u v a b s x y =
     one_seat known w sh x.seat x.try n m u v a b s x.allowed (subst R (sym tries) there)
 
 -- an actor has one turn
-pub one_actor_turn : Known → (s : State) (actor : ℕ) (n m : Note) (t u : State) → ((w : Worker) → slice_get s.workers actor ≡ Some w → Settled w) → Turn s actor n t → Turn s actor m u → (n ≡ m) × (t ≡ u)
+pub one_actor_turn : Known → (s : State) (actor : ℕ) (n m : Note) (t u : State) → ((w : Worker) → slice_get s.workers actor ≡ Some w → Settled s.shared.setup w) → Turn s actor n t → Turn s actor m u → (n ≡ m) × (t ≡ u)
 one_actor_turn known s actor n m t u settled x y =
     let same = some_same x.worker y.worker (sym x.at ∙ y.at) in
     let P : Worker → Type 0 = λ w. WorkerTurn w s.shared m y.after y.shared in

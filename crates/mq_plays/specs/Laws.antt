@@ -1,16 +1,22 @@
 -- What is one for every script.
 use Rattle.std.specs.Prelude.{◌≡◌, ℕ, ◌≤◌, List, ◌++◌, length}
 use Rattle.mq_machine.specs.declared.act.Act.{Act}
+use Rattle.mq_machine.specs.declared.setup.Setup.{Setup}
 use Rattle.mq_machine.specs.Request.{Asks}
 use Rattle.mq_talk.specs.declared.note.Note.{Note}
 use Rattle.mq_machine.specs.State.{State, start}
 use Rattle.mq_machine.specs.Next.{Turn, Quiet}
 use Rattle.mq_machine.specs.Play.{Plays, IsScript, IsPlayed, IsPlayedSoFar, IsPlayedBad, IsPlayedPart, IsFrontOf}
+use Rattle.mq_plays.specs.Setups.{IsTold}
 use Rattle.mq_plays.specs.Parts.{IsAllShown}
 
--- the reads of a connection ask for one list of acts
+-- the reads of a connection ask for one list of acts, where the setup's template is one that a text tells
 abbrev pub IsAskedOnce : Type 0
-IsAskedOnce = (reads : List (List ℕ)) (a b : List Act) → Asks reads a → Asks reads b → a ≡ b
+IsAskedOnce = (setup : Setup) (reads : List (List ℕ)) (a b : List Act) → IsTold setup → Asks setup reads a → Asks setup reads b → a ≡ b
+
+-- in a state that lines lead to, it is: so there they ask for one list
+abbrev pub IsAlwaysTold : Type 0
+IsAlwaysTold = (lines : List (List ℕ)) (refused : ℕ) (text : List ℕ) (s : State) → Plays start lines refused text s → IsTold s.shared.setup
 
 -- in a state that lines lead to, an actor's turn is one note, and leads to one state
 abbrev pub HasOneTurn : Type 0

@@ -1,9 +1,10 @@
 //! What was printed so far is a front of what the whole script prints, where no step was refused memory.
 ghost use Rattle.mq_plays.specs.Laws.{IsPartFront, IsPartFrontOfBad, IsSoFarFront, IsSoFarFrontOfBad};
 
-use mq_addr::one_addr;
 use mq_head::one_answer;
+use mq_policy::one_decision;
 use mq_script::says_one;
+use mq_target::one_reading;
 use mq_text::cut_once;
 
 /// A play that stopped printed a front of what its script prints.
@@ -11,8 +12,9 @@ pub fn part_is_front()
     ensures { IsPartFront }
 {
     cut_once();
-    one_addr();
     one_answer();
+    one_reading();
+    one_decision();
     says_one();
 }
 
@@ -21,8 +23,9 @@ pub fn part_is_front_of_bad()
     ensures { IsPartFrontOfBad }
 {
     cut_once();
-    one_addr();
     one_answer();
+    one_reading();
+    one_decision();
     says_one();
 }
 
@@ -31,8 +34,9 @@ pub fn so_far_is_front()
     ensures { IsSoFarFront }
 {
     cut_once();
-    one_addr();
     one_answer();
+    one_reading();
+    one_decision();
     says_one();
 }
 
@@ -41,7 +45,8 @@ pub fn so_far_is_front_of_bad()
     ensures { IsSoFarFrontOfBad }
 {
     cut_once();
-    one_addr();
     one_answer();
+    one_reading();
+    one_decision();
     says_one();
 }

@@ -1,9 +1,10 @@
 //! What a script prints, where no step of its play is refused memory, is one text.
 ghost use Rattle.mq_plays.specs.Laws.{HasOnePlay, HasOnePlaySoFar, HasOneBadPlay};
 
-use mq_addr::one_addr;
 use mq_head::one_answer;
+use mq_policy::one_decision;
 use mq_script::says_one;
+use mq_target::one_reading;
 use mq_text::cut_once;
 
 /// A script of good lines prints one text.
@@ -11,8 +12,9 @@ pub fn one_play()
     ensures { HasOnePlay }
 {
     cut_once();
-    one_addr();
     one_answer();
+    one_reading();
+    one_decision();
     says_one();
 }
 
@@ -21,8 +23,9 @@ pub fn one_play_so_far()
     ensures { HasOnePlaySoFar }
 {
     cut_once();
-    one_addr();
     one_answer();
+    one_reading();
+    one_decision();
     says_one();
 }
 
@@ -31,7 +34,8 @@ pub fn one_bad_play()
     ensures { HasOneBadPlay }
 {
     cut_once();
-    one_addr();
     one_answer();
+    one_reading();
+    one_decision();
     says_one();
 }

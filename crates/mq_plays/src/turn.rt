@@ -1,8 +1,9 @@
 //! An actor has one turn.
 ghost use Rattle.mq_plays.specs.Laws.{HasOneTurn, IsTurnOrQuiet};
 
-use mq_addr::one_addr;
 use mq_head::one_answer;
+use mq_policy::one_decision;
+use mq_target::one_reading;
 use mq_text::cut_once;
 
 /// In a state that lines lead to, an actor's turn is one note, and leads to one state.
@@ -10,8 +11,9 @@ pub fn one_turn()
     ensures { HasOneTurn }
 {
     cut_once();
-    one_addr();
     one_answer();
+    one_reading();
+    one_decision();
 }
 
 /// An actor that has a turn is not quiet.

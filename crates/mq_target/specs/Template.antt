@@ -71,6 +71,15 @@ pub record IsPair (text : List ℕ) (shape : Shape) : Type 0 where
 abbrev pub IsTemplate : List ℕ → Shape → Type 0
 IsTemplate text shape = IsPlain text shape ⊎ IsPair text shape
 
+-- the template of a kind where none is set: `/.well-known/masque/udp/{target_host}/{target_port}/` (RFC 9298, section 3.4) and
+-- `/.well-known/masque/ip/{target}/{ipproto}/` (RFC 9484, section 3)
+abbrev pub before_well_known : Kind → List ℕ
+before_well_known Udp = codes "/.well-known/masque/udp/"
+before_well_known Ip = codes "/.well-known/masque/ip/"
+
+abbrev pub well_known : Kind → Shape
+well_known kind = record { kind = kind; order = TargetFirst; before = before_well_known kind; between = codes "/"; after = codes "/" }
+
 -- no template of this kind is the text
 abbrev pub NoTemplate : Kind → List ℕ → Type 0
 NoTemplate kind text = (order : Order) (before between after : List ℕ)

@@ -5,7 +5,7 @@ ghost use Rattle.mq_target.specs.Form.{question};
 ghost use Rattle.mq_target.specs.Matching.{Matches};
 ghost use Rattle.mq_target.specs.Parsed.{ParsesTemplate};
 ghost use Rattle.mq_target.specs.Outlines.{IsOutline};
-ghost use Rattle.mq_target.specs.Template.{IsTemplate};
+ghost use Rattle.mq_target.specs.Template.{IsTemplate, before_well_known, well_known};
 
 use crate::expansion::{put_first, put_second};
 use crate::form::has_form;
@@ -64,6 +64,21 @@ impl Template {
         }
     }
 
+    /// The template of a kind where none is set: `/.well-known/masque/udp/{target_host}/{target_port}/` (RFC 9298,
+    /// section 3.4) or `/.well-known/masque/ip/{target}/{ipproto}/` (RFC 9484, section 3).
+    #[tactic(auto, unfolding(crate::specs::Classes::is_delimiter))]
+    pub fn well_known(alloc: Global, kind: Kind) -> Result<Template, NoMemory>
+        ensures { IfOk result (λ t. t ≡ well_known kind) }
+    {
+        Ok(Template {
+            kind,
+            order: Order::TargetFirst,
+            before: Vec::from_slice(alloc, before_well_known(kind))?,
+            between: Vec::from_slice(alloc, b"/".as_slice())?,
+            after: Vec::from_slice(alloc, b"/".as_slice())?,
+        })
+    }
+
     /// What a path, with its query, is to the template. Only an escape and a name take memory.
     pub fn matches(&self, alloc: Global, path: &[u8]) -> Result<Matched, NoMemory>
         ensures { IfOk result (λ found. Matches self.now path.now found) }
@@ -109,6 +124,16 @@ impl Template {
             between: Vec::from_slice(alloc, self.between.as_slice())?,
             after: Vec::from_slice(alloc, self.after.as_slice())?,
         })
+    }
+}
+
+/// What stands before the first value.
+fn before_well_known(kind: Kind) -> &'static [u8]
+    ensures { result.now ≡ before_well_known kind }
+{
+    match kind {
+        Kind::Udp => b"/.well-known/masque/udp/",
+        Kind::Ip => b"/.well-known/masque/ip/",
     }
 }
 

@@ -36,6 +36,21 @@ unsaid whole text why number s = let P : List ℕ → Type 0 = λ out. IsPlayedP
   part WriteFault s = s
   part NoMemory s = s
 
+-- that the line is bad was said
+pub bad_said : (whole text : List ℕ) (why : Stop) (number : ℕ) → why ≡ BadLine → StopsAt whole text why number → IsPlayedBad whole (text ++ bad_line (number + 1))
+bad_said whole text why number is stopped =
+    let P : Stop → Type 0 = λ w. StopsAt whole text w number in
+    let b = subst P is stopped in
+    record {
+      before = b.before;
+      state = b.state;
+      text = text;
+      refused = b.refused;
+      plays = b.plays;
+      bad = b.bad;
+      out_is = ap (λ (n : ℕ). text ++ bad_line (n + 1)) b.number_is;
+    }
+
 -- what was said whole was said in part
 bad_part : (whole out : List ℕ) → IsPlayedBad whole out → IsPlayedPart whole out
 bad_part whole out b = record {

@@ -236,6 +236,10 @@ regrouped_last script front rest whole text answer x e r =
     let P : List ℕ → Type 0 = λ all. ReadsTo all text answer x in
     subst P (append_assoc script front rest ∙ ap (λ (xs : List ℕ). script ++ xs) (sym e)) r
 
+pub no_bytes : (xs : List ℕ) → length xs ≡ 0 → xs ≡ []
+no_bytes [] h = refl
+no_bytes (x ∷ xs) h = absurd (omega (arith, h))
+
 -- a script without a begun line is played
 pub ends_empty : (x : Session) (script : List ℕ) (lines : List (List ℕ)) (text : List ℕ) → x.begun.items ≡ [] → IsRead x script lines text → IsPlayed script text × IsPlayedPart script text
 ends_empty x script lines text none r =

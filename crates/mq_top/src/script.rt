@@ -21,12 +21,12 @@ fn say(why: Stop, number: u64, owed: &mut Vec<u8>) -> Status
         × ((whole : List ℕ) (text : List ℕ) → StopsAt whole text why number → SaysTo whole (text ++ shown) result) }
     ensures said { IsSaid result }
 {
-    if why != Stop::BadLine || number == u64::MAX {
-        return Status::NoMemory;
-    }
-    match print_bad_line(owed, number + 1) {
-        Ok(()) => Status::BadScript,
-        Err(_) => Status::NoMemory,
+    match why {
+        Stop::BadLine if number < u64::MAX => match print_bad_line(owed, number + 1) {
+            Ok(()) => Status::BadScript,
+            Err(_) => Status::NoMemory,
+        },
+        _ => Status::NoMemory,
     }
 }
 
@@ -133,7 +133,9 @@ pub fn replay<S: Source, K: Sink>(alloc: Global, source: &mut S, sink: &mut K) -
     };
     let buffer = room.as_mut_slice();
     let mut owed = Vec::new(alloc);
-    let mut session = Session::new(alloc);
+    let Ok(mut session) = Session::new(alloc) else {
+        return Status::NoMemory;
+    };
     for _turn in 0..u64::MAX {
         if let Some(status) = read_more(alloc, &mut session, buffer, source, &mut owed, sink) {
             return status;

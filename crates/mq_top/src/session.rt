@@ -1,5 +1,5 @@
 //! The bytes of a script are cut into lines, and each line is played as soon as it is whole.
-ghost use Rattle.std.specs.Prelude.{◌≡◌, ◌≢◌, ℕ, ◌+◌, ◌<◌, ◌≤◌, List, [], ◌∷◌, ◌++◌, length, Ok, Err};
+ghost use Rattle.std.specs.Prelude.{◌≡◌, ◌≢◌, ℕ, ◌+◌, ◌<◌, ◌≤◌, List, [], ◌∷◌, ◌++◌, length, Ok, Err, IfOk};
 ghost use Rattle.mq_machine.specs.State.{State};
 ghost use Rattle.mq_world.specs.Worlds.{IsWorld};
 ghost use Rattle.mq_text.specs.Cut.{Lacks};
@@ -9,8 +9,10 @@ ghost use Rattle.mq_top.specs.Reading.{IsRead, RoomTo, ReadsTo, EndsTo};
 
 use crate::play::play_line;
 use crate::status::Stop;
+use mq_machine::Setup;
 use mq_outside::Sink;
 use mq_text::cut;
+use mq_wire::NoMemory;
 use mq_world::World;
 use std::alloc::Global;
 
@@ -33,15 +35,17 @@ pub struct Session {
 }
 
 impl Session {
-    pub fn new(alloc: Global) -> Session
-        ensures { IsRead result [] [] [] }
+    /// Nothing was read, and the proxy has a plain setup.
+    pub fn new(alloc: Global) -> Result<Session, NoMemory>
+        ensures { IfOk result (λ session. IsRead session [] [] []) }
     {
-        Session {
-            world: World::new(),
+        let setup = Setup::new(alloc)?;
+        Ok(Session {
+            world: World::new(setup),
             begun: Vec::new(alloc),
             number: 0,
             count: 0,
-        }
+        })
     }
 
     /// How many bytes will have been read with so many more of the begun line, and its newline where that was read too.

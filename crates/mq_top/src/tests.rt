@@ -4,7 +4,9 @@ mod rows;
 
 use crate::{MemSink, MemSource, Status, replay, run};
 use mq_wire::{Bytes, NoMemory, Seq};
-use rows::{BAD, BAD_PRINTS, FIRST, FIRST_PRINTS, REFUSED, REFUSED_PRINTS};
+use rows::{
+    BAD, BAD_PRINTS, FIRST, FIRST_PRINTS, NOT_FOUND, NOT_FOUND_PRINTS, REFUSED, REFUSED_PRINTS,
+};
 use std::alloc::{AllocError, Global};
 use std::test::Fail;
 
@@ -43,6 +45,7 @@ fn rows_print_what_they_should(rt: HostRuntime) -> Result<(), Fail> {
         (nothing, Status::Done, nothing),
         (FIRST, Status::Done, FIRST_PRINTS),
         (REFUSED, Status::Done, REFUSED_PRINTS),
+        (NOT_FOUND, Status::Done, NOT_FOUND_PRINTS),
         (BAD, Status::BadScript, BAD_PRINTS),
         (b"# said\n\nstep 1\n", Status::BadScript, b"bad line 3\n"),
         (b"conn 0\nconn 0\n", Status::BadScript, b"bad line 2\n"),
@@ -60,6 +63,75 @@ fn rows_print_what_they_should(rt: HostRuntime) -> Result<(), Fail> {
         let (status, out) = replayed(rt.alloc(), script, &PLAIN)?;
         assert_eq!(rt; out.as_slice(), text);
         assert_eq!(rt; status, want);
+    }
+    Ok(())
+}
+
+/// A request for a UDP tunnel at this path, and three steps.
+fn request_at(alloc: Global, path: &[u8]) -> Result<Vec<u8>, AllocError> {
+    let mut script = Vec::from_slice(alloc, b"conn 0\ntext 0 GET ".as_slice())?;
+    script.extend_from_slice(path)?;
+    script.extend_from_slice(
+        b" HTTP/1.1\\r\\nHost: p\\r\\nConnection: Upgrade\\r\\nUpgrade: connect-udp\\r\\n\\r\\n\nstep 0 3\n".as_slice(),
+    )?;
+    Ok(script)
+}
+
+// By the well-known template of RFC 9298, section 3.4: what isn't a path of it is not found, a value that isn't
+// well-formed is a bad request, and a name that isn't known is a bad gateway.
+#[test]
+fn paths_are_judged(rt: HostRuntime) -> Result<(), Fail> {
+    let cases: [(&[u8], &[u8]); 14] = [
+        (b"/.well-known/masque/udp/192.0.2.6/443/", b"\nported 0 0\n"),
+        (
+            b"/.well-known/masque/udp/192.0.2.6/00443/",
+            b"\nported 0 0\n",
+        ),
+        (
+            b"/.well-known/masque/udp/2001%3Adb8%3A%3A42/443/",
+            b"\nported 0 0\n",
+        ),
+        (
+            b"/.well-known/masque/udp/2001:db8::42/443/",
+            b"\nported 0 0\n",
+        ),
+        (b"/x", b"\nrefused 0 0 404\n"),
+        (
+            b"/.well-known/masque/udp/192.0.2.6/443",
+            b"\nrefused 0 0 404\n",
+        ),
+        (b"/.well-known/masque/udp//443/", b"\nrefused 0 0 404\n"),
+        (
+            b"/.well-known/masque/udp/192.0.2.6/443/?a=b",
+            b"\nrefused 0 0 404\n",
+        ),
+        (
+            b"/.well-known/masque/udp/192.0.2.6/0/",
+            b"\nrefused 0 0 400\n",
+        ),
+        (
+            b"/.well-known/masque/udp/192.0.2.6/65536/",
+            b"\nrefused 0 0 400\n",
+        ),
+        (
+            b"/.well-known/masque/udp/192.0.2.6/000443/",
+            b"\nrefused 0 0 400\n",
+        ),
+        (b"/.well-known/masque/udp/a%2/443/", b"\nrefused 0 0 400\n"),
+        (
+            b"/.well-known/masque/udp/a.example/443/",
+            b"\nrefused 0 0 502\n",
+        ),
+        (
+            b"/.well-known/masque/udp/192.0.2.256/443/",
+            b"\nrefused 0 0 502\n",
+        ),
+    ];
+    for (path, want) in cases {
+        let script = request_at(rt.alloc(), path)?;
+        let (status, out) = replayed(rt.alloc(), script.as_slice(), &PLAIN)?;
+        assert_eq!(rt; status, Status::Done);
+        assert_eq!(rt; out.as_slice().ends_with(want), true);
     }
     Ok(())
 }

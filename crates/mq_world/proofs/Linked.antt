@@ -10,7 +10,8 @@ use Rattle.mq_talk.specs.declared.note.Note.TheVariants.{Accepted, Took, Ported,
 use Rattle.mq_talk.specs.declared.note.Why.TheVariants as why
 use Rattle.mq_machine.specs.State as spec
 use Rattle.mq_machine.specs.State.{State}
-use Rattle.mq_machine.specs.ConnNext.{WantNext, starved, IsOver}
+use Rattle.mq_machine.specs.ConnNext.{WantNext, TookNext, starved, IsOver}
+use Rattle.mq_machine.specs.declared.setup.Setup.{Setup}
 use Rattle.mq_machine.specs.Next.{entries_of}
 use Rattle.mq_conn.specs.declared.connection.Connection.{Connection}
 use Rattle.mq_conn.specs.Connections.{IsConn}
@@ -37,119 +38,122 @@ abbrev pub held_of : List (List ℕ) → spec.Conn → spec.Held
 held_of pieces conn = record { number = 0; link = record { pieces = pieces }; conn = conn }
 
 -- a link whose connection is held stands for the state
-pub record IsHeld (s : State) (entries : ℕ) (pieces : List (List ℕ)) (conn : spec.Conn) : Type 0 where
+pub record IsHeld (setup : Setup) (s : State) (entries : ℕ) (pieces : List (List ℕ)) (conn : spec.Conn) : Type 0 where
   pub worker : spec.Worker
   pub links : s.links ≡ 1
   pub workers : s.workers ≡ worker ∷ []
   pub id : worker.id ≡ 0
+  pub setup_is : s.shared.setup ≡ setup
   pub book : length s.shared.book ≡ entries
   pub offered : worker.offered ≡ []
   pub conns : worker.conns ≡ held_of pieces conn ∷ []
 
-pub held_is : (s : State) (entries : ℕ) (pieces : List (List ℕ)) (c : Connection) (l : IsLinked (record { pieces = pieces; seat = Held c }) s entries)
-    → (conn : spec.Conn) × IsHeld s entries pieces conn × IsConn c conn
-held_is s entries pieces c l =
-    (l.seat.1, record { worker = l.worker; links = l.links; workers = l.workers; id = l.id; book = l.book; offered = l.seat.0; conns = l.seat.2 }, l.seat.3)
+pub held_is : (setup : Setup) (s : State) (entries : ℕ) (pieces : List (List ℕ)) (c : Connection) (l : IsLinked setup (record { pieces = pieces; seat = Held c }) s entries)
+    → (conn : spec.Conn) × IsHeld setup s entries pieces conn × IsConn setup c conn
+held_is setup s entries pieces c l =
+    (l.seat.1, record { worker = l.worker; links = l.links; workers = l.workers; id = l.id; setup_is = l.setup_is; book = l.book; offered = l.seat.0; conns = l.seat.2 }, l.seat.3)
 
 -- the link after an act
-linked_after : (s : State) (entries more : ℕ) (pieces left : List (List ℕ)) (conn t : spec.Conn) (c : Connection) (sh : spec.Shared) (h : IsHeld s entries pieces conn)
-    → length sh.book ≡ entries + more → IsConn c t
-    → IsLinked (record { pieces = left; seat = Held c }) (turned s (after_act h.worker (held_of pieces conn) (held_of left t)) sh) (entries + more)
-linked_after s entries more pieces left conn t c sh h book is = record {
+linked_after : (setup : Setup) (s : State) (entries more : ℕ) (pieces left : List (List ℕ)) (conn t : spec.Conn) (c : Connection) (sh : spec.Shared) (h : IsHeld setup s entries pieces conn)
+    → sh.setup ≡ setup → length sh.book ≡ entries + more → IsConn setup c t
+    → IsLinked setup (record { pieces = left; seat = Held c }) (turned s (after_act h.worker (held_of pieces conn) (held_of left t)) sh) (entries + more)
+linked_after setup s entries more pieces left conn t c sh h same book is = record {
   worker = after_act h.worker (held_of pieces conn) (held_of left t);
   links = h.links;
   workers = refl;
   id = h.id;
+  setup_is = same;
   book = book;
   seat = (h.offered, t, refl, is);
 }
 
-did_want : (s : State) (entries : ℕ) (pieces left : List (List ℕ)) (conn : spec.Conn) (c : Connection) (note : Note) → IsHeld s entries pieces conn
-    → DidWant 0 entries pieces conn note left c → LinkSteps s entries (Ok (Some note)) (record { pieces = left; seat = Held c })
-did_want s entries pieces left conn c note h did =
+did_want : (setup : Setup) (s : State) (entries : ℕ) (pieces left : List (List ℕ)) (conn : spec.Conn) (c : Connection) (note : Note) → IsHeld setup s entries pieces conn
+    → DidWant setup 0 entries pieces conn note left c → LinkSteps setup s entries (Ok (Some note)) (record { pieces = left; seat = Held c })
+did_want setup s entries pieces left conn c note h did =
     let sh : spec.Shared = record s.shared { book = s.shared.book ++ entries_of h.worker.id did.calls } in
     let P : ℕ → Type 0 = λ n. WantNext 0 n conn note did.t did.calls in
-    let Q : List (List ℕ) → Type 0 = λ all. LinkSteps s entries (Ok (Some note)) (record { pieces = all; seat = Held c }) in
+    let Q : List (List ℕ) → Type 0 = λ all. LinkSteps setup s entries (Ok (Some note)) (record { pieces = all; seat = Held c }) in
     let written = calls_written 0 entries conn did.t note did.calls did.next in
     let book = h.book in
     subst Q (sym did.left_is) (
       _,
       want_turn s h.worker (held_of pieces conn) (held_of pieces did.t) note sh h.workers h.offered h.conns
           (record { conn = did.t; calls = did.calls; next = subst P (sym h.book) did.next; new_is = refl; after_is = refl }),
-      linked_after s entries _ pieces pieces conn did.t c sh h
+      linked_after setup s entries _ pieces pieces conn did.t c sh h h.setup_is
           (omega (arith, length-append s.shared.book (entries_of h.worker.id did.calls), length-map {B = Entry} did.calls (λ (k : Call). record { actor = h.worker.id; call = k }))) did.is,
     )
 
-did_write : (s : State) (entries : ℕ) (pieces left : List (List ℕ)) (conn : spec.Conn) (c : Connection) (note : Note) → IsHeld s entries pieces conn
-    → DidWrite 0 pieces conn note left c → LinkSteps s entries (Ok (Some note)) (record { pieces = left; seat = Held c })
-did_write s entries pieces left conn c note h did =
-    let P : Note → Type 0 = λ n. LinkSteps s entries (Ok (Some n)) (record { pieces = left; seat = Held c }) in
-    let Q : List (List ℕ) → Type 0 = λ all. LinkSteps s entries (Ok (Some (Wrote 0 did.bytes))) (record { pieces = all; seat = Held c }) in
+did_write : (setup : Setup) (s : State) (entries : ℕ) (pieces left : List (List ℕ)) (conn : spec.Conn) (c : Connection) (note : Note) → IsHeld setup s entries pieces conn
+    → DidWrite setup 0 pieces conn note left c → LinkSteps setup s entries (Ok (Some note)) (record { pieces = left; seat = Held c })
+did_write setup s entries pieces left conn c note h did =
+    let P : Note → Type 0 = λ n. LinkSteps setup s entries (Ok (Some n)) (record { pieces = left; seat = Held c }) in
+    let Q : List (List ℕ) → Type 0 = λ all. LinkSteps setup s entries (Ok (Some (Wrote 0 did.bytes))) (record { pieces = all; seat = Held c }) in
     let book = h.book in
     subst P (sym did.note_is) (subst Q (sym did.left_is) (
       _,
       write_turn s h.worker (held_of pieces conn) did.bytes did.t h.workers h.offered h.conns (did.due, did.live) did.over did.wrote,
-      linked_after s entries 0 pieces pieces conn did.t c s.shared h (omega arith) did.is,
+      linked_after setup s entries 0 pieces pieces conn did.t c s.shared h h.setup_is (omega arith) did.is,
     ))
 
-did_read : (s : State) (entries : ℕ) (pieces left : List (List ℕ)) (conn : spec.Conn) (c : Connection) (note : Note) → IsHeld s entries pieces conn
-    → ReadLast 0 pieces conn note left c → LinkSteps s entries (Ok (Some note)) (record { pieces = left; seat = Held c })
-did_read s entries pieces left conn c note h last =
+did_read : (setup : Setup) (s : State) (entries : ℕ) (pieces left : List (List ℕ)) (conn : spec.Conn) (c : Connection) (note : Note) → IsHeld setup s entries pieces conn
+    → ReadLast setup 0 pieces conn note left c → LinkSteps setup s entries (Ok (Some note)) (record { pieces = left; seat = Held c })
+did_read setup s entries pieces left conn c note h last =
     let did = last.did in
-    let P : Note → Type 0 = λ n. LinkSteps s entries (Ok (Some n)) (record { pieces = left; seat = Held c }) in
+    let R : Setup → Type 0 = λ x. TookNext x conn did.bytes did.t in
+    let P : Note → Type 0 = λ n. LinkSteps setup s entries (Ok (Some n)) (record { pieces = left; seat = Held c }) in
     let book = h.book in
     subst P (sym did.note_is) (
       _,
-      read_turn s h.worker (held_of pieces conn) did.bytes left did.t h.workers h.offered h.conns last.owed did.takes did.took,
-      linked_after s entries 0 pieces left conn did.t c s.shared h (omega arith) did.is,
+      read_turn s h.worker (held_of pieces conn) did.bytes left did.t h.workers h.offered h.conns last.owed did.takes (subst R (sym h.setup_is) did.took),
+      linked_after setup s entries 0 pieces left conn did.t c s.shared h h.setup_is (omega arith) did.is,
     )
 
-did_nothing : (s : State) (entries : ℕ) (pieces left : List (List ℕ)) (conn : spec.Conn) (c : Connection) → IsHeld s entries pieces conn
-    → DidNothing pieces conn left c → LinkSteps s entries (Ok None) (record { pieces = left; seat = Held c })
-did_nothing s entries pieces left conn c h did =
-    let Q : List (List ℕ) → Type 0 = λ all. LinkSteps s entries (Ok None) (record { pieces = all; seat = Held c }) in
+did_nothing : (setup : Setup) (s : State) (entries : ℕ) (pieces left : List (List ℕ)) (conn : spec.Conn) (c : Connection) → IsHeld setup s entries pieces conn
+    → DidNothing setup pieces conn left c → LinkSteps setup s entries (Ok None) (record { pieces = left; seat = Held c })
+did_nothing setup s entries pieces left conn c h did =
+    let Q : List (List ℕ) → Type 0 = λ all. LinkSteps setup s entries (Ok None) (record { pieces = all; seat = Held c }) in
     subst Q (did.none ∙ sym did.left_is) (
       quiet_with s h.worker (held_of pieces conn) h.workers h.offered h.conns did.due did.owed did.ending did.none,
-      record { worker = h.worker; links = h.links; workers = h.workers; id = h.id; book = h.book; seat = (h.offered, conn, h.conns, did.is) },
+      record { worker = h.worker; links = h.links; workers = h.workers; id = h.id; setup_is = h.setup_is; book = h.book; seat = (h.offered, conn, h.conns, did.is) },
     )
 
-did_starve : (s : State) (entries : ℕ) (pieces left : List (List ℕ)) (conn : spec.Conn) (c : Connection) (refused : NoMemory) → IsHeld s entries pieces conn
-    → Starves pieces conn left c → LinkSteps s entries (Err refused) (record { pieces = left; seat = Held c })
-did_starve s entries pieces left conn c refused h did =
+did_starve : (setup : Setup) (s : State) (entries : ℕ) (pieces left : List (List ℕ)) (conn : spec.Conn) (c : Connection) (refused : NoMemory) → IsHeld setup s entries pieces conn
+    → Starves setup pieces conn left c → LinkSteps setup s entries (Err refused) (record { pieces = left; seat = Held c })
+did_starve setup s entries pieces left conn c refused h did =
     let h2 = held_of pieces (starved conn) in
     let v : spec.Worker = record h.worker { conns = h2 ∷ [] } in
-    let Q : List (List ℕ) → Type 0 = λ all. LinkSteps s entries (Err refused) (record { pieces = all; seat = Held c }) in
+    let Q : List (List ℕ) → Type 0 = λ all. LinkSteps setup s entries (Err refused) (record { pieces = all; seat = Held c }) in
     let book = h.book in
     subst Q (sym did.left_is) (
       turned s v s.shared,
       silent_turn s h.worker (held_of pieces conn) h.workers h.offered h.conns did.alive did.busy,
-      record { worker = v; links = h.links; workers = refl; id = h.id; book = book; seat = (h.offered, starved conn, refl, did.is) },
+      record { worker = v; links = h.links; workers = refl; id = h.id; setup_is = h.setup_is; book = book; seat = (h.offered, starved conn, refl, did.is) },
     )
 
 -- a connection's step is the link's
-pub held_step : (s : State) (entries : ℕ) (pieces left : List (List ℕ)) (c : Connection) (conn : spec.Conn) (result : Result (Option Note) NoMemory)
-    → IsHeld s entries pieces conn → Tries 0 entries pieces conn result left c
-    → LinkSteps s entries result (record { pieces = left; seat = Held c })
-held_step s entries pieces left c conn (Ok None) h did = did_nothing s entries pieces left conn c h did
-held_step s entries pieces left c conn (Ok (Some note)) h (inl did) = did_want s entries pieces left conn c note h did
-held_step s entries pieces left c conn (Ok (Some note)) h (inr (inl did)) = did_write s entries pieces left conn c note h did
-held_step s entries pieces left c conn (Ok (Some note)) h (inr (inr did)) = did_read s entries pieces left conn c note h did
-held_step s entries pieces left c conn (Err refused) h did = did_starve s entries pieces left conn c refused h did
+pub held_step : (setup : Setup) (s : State) (entries : ℕ) (pieces left : List (List ℕ)) (c : Connection) (conn : spec.Conn) (result : Result (Option Note) NoMemory)
+    → IsHeld setup s entries pieces conn → Tries setup 0 entries pieces conn result left c
+    → LinkSteps setup s entries result (record { pieces = left; seat = Held c })
+held_step setup s entries pieces left c conn (Ok None) h did = did_nothing setup s entries pieces left conn c h did
+held_step setup s entries pieces left c conn (Ok (Some note)) h (inl did) = did_want setup s entries pieces left conn c note h did
+held_step setup s entries pieces left c conn (Ok (Some note)) h (inr (inl did)) = did_write setup s entries pieces left conn c note h did
+held_step setup s entries pieces left c conn (Ok (Some note)) h (inr (inr did)) = did_read setup s entries pieces left conn c note h did
+held_step setup s entries pieces left c conn (Err refused) h did = did_starve setup s entries pieces left conn c refused h did
 
 -- the end of the connection
-pub ended_step : (s : State) (entries : ℕ) (pieces : List (List ℕ)) (conn : spec.Conn) (why : End) → IsHeld s entries pieces conn → IsOver conn why
-    → LinkSteps s entries (Ok (Some (Ended 0 why))) (record { pieces = pieces; seat = Gone })
-ended_step s entries pieces conn why h over =
+pub ended_step : (setup : Setup) (s : State) (entries : ℕ) (pieces : List (List ℕ)) (conn : spec.Conn) (why : End) → IsHeld setup s entries pieces conn → IsOver conn why
+    → LinkSteps setup s entries (Ok (Some (Ended 0 why))) (record { pieces = pieces; seat = Gone })
+ended_step setup s entries pieces conn why h over =
     let book = h.book in (
       _,
       end_turn s h.worker (held_of pieces conn) why h.workers h.offered h.conns over,
-      record { worker = record h.worker { conns = []; next_seat = 2 }; links = h.links; workers = refl; id = h.id; book = omega arith; seat = (h.offered, refl) },
+      record { worker = record h.worker { conns = []; next_seat = 2 }; links = h.links; workers = refl; id = h.id; setup_is = h.setup_is; book = omega arith; seat = (h.offered, refl) },
     )
 
 -- the connection is accepted
-pub accepted_step : (s : State) (entries : ℕ) (pieces : List (List ℕ)) (c : Connection) → IsLinked (record { pieces = pieces; seat = Offered }) s entries → IsConn c spec.new_conn
-    → LinkSteps s entries (Ok (Some (Accepted 0 0))) (record { pieces = pieces; seat = Held c })
-accepted_step s entries pieces c l is =
+pub accepted_step : (setup : Setup) (s : State) (entries : ℕ) (pieces : List (List ℕ)) (c : Connection) → IsLinked setup (record { pieces = pieces; seat = Offered }) s entries → IsConn setup c spec.new_conn
+    → LinkSteps setup s entries (Ok (Some (Accepted 0 0))) (record { pieces = pieces; seat = Held c })
+accepted_step setup s entries pieces c l is =
     let book = l.book in
     let o : spec.Offer = record { number = 0; link = record { pieces = pieces } } in (
       _,
@@ -159,12 +163,13 @@ accepted_step s entries pieces c l is =
         links = l.links;
         workers = refl;
         id = l.id;
+        setup_is = l.setup_is;
         book = omega arith;
         seat = (refl, spec.new_conn, refl, is);
       },
     )
 
 -- nothing is left of the link
-pub gone_step : (s : State) (entries : ℕ) (pieces : List (List ℕ)) → IsLinked (record { pieces = pieces; seat = Gone }) s entries
-    → LinkSteps s entries (Ok None) (record { pieces = pieces; seat = Gone })
-gone_step s entries pieces l = (quiet_without s l.worker l.workers l.seat.0 l.seat.1, l)
+pub gone_step : (setup : Setup) (s : State) (entries : ℕ) (pieces : List (List ℕ)) → IsLinked setup (record { pieces = pieces; seat = Gone }) s entries
+    → LinkSteps setup s entries (Ok None) (record { pieces = pieces; seat = Gone })
+gone_step setup s entries pieces l = (quiet_without s l.worker l.workers l.seat.0 l.seat.1, l)

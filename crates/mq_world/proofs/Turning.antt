@@ -224,7 +224,7 @@ before_read w sh seat Write idle none h = none
 before_read w sh seat Read idle none h = absurd (omega arith)
 
 pub read_turn : (s : State) (w : Worker) (h : Held) (bytes : List ℕ) (left : List (List ℕ)) (t : Conn) → s.workers ≡ w ∷ [] → w.offered ≡ [] → w.conns ≡ h ∷ []
-    → owed h.conn ≡ [] → Takes h.link.pieces bytes left → TookNext h.conn bytes t
+    → owed h.conn ≡ [] → Takes h.link.pieces bytes left → TookNext s.shared.setup h.conn bytes t
     → Turn s 0 (Took h.number (length bytes)) (turned s (after_act w h (record h { link = record h.link { pieces = left }; conn = t })) s.shared)
 read_turn s w h bytes left t is none conns owes takes took =
     let g = record h { link = record h.link { pieces = left }; conn = t } in

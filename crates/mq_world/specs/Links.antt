@@ -8,6 +8,7 @@ use Rattle.mq_talk.specs.declared.note.Note.TheVariants.{Accepted, Took, Ported,
 use Rattle.mq_machine.specs.ConnNext.{WantNext, WroteNext, TookNext, CanRead, starved, IsOver}
 use Rattle.mq_machine.specs.Next.{Takes}
 use Rattle.mq_machine.specs.State.{Conn, owed}
+use Rattle.mq_machine.specs.declared.setup.Setup.{Setup}
 use Rattle.mq_conn.specs.declared.connection.Connection.{Connection}
 use Rattle.mq_conn.specs.Connections.{IsConn}
 
@@ -27,38 +28,38 @@ abbrev pub NotOver : Conn → Type 0
 NotOver s = (why : End) → IsOver s why → ⊥
 
 -- a read
-pub record DidRead (conn : ℕ) (pieces : List (List ℕ)) (s : Conn) (note : Note) (left : List (List ℕ)) (c : Connection) : Type 0 where
+pub record DidRead (setup : Setup) (conn : ℕ) (pieces : List (List ℕ)) (s : Conn) (note : Note) (left : List (List ℕ)) (c : Connection) : Type 0 where
   pub t : Conn
   pub bytes : List ℕ
   pub takes : Takes pieces bytes left
   pub note_is : note ≡ Took conn (length bytes)
-  pub took : TookNext s bytes t
-  pub is : IsConn c t
+  pub took : TookNext setup s bytes t
+  pub is : IsConn setup c t
 
-abbrev pub Reads : ℕ → List (List ℕ) → Conn → Option Note → List (List ℕ) → Connection → Type 0
-Reads conn pieces s None left c = (pieces ≡ []) × (left ≡ []) × IsConn c s
-Reads conn pieces s (Some note) left c = DidRead conn pieces s note left c
+abbrev pub Reads : Setup → ℕ → List (List ℕ) → Conn → Option Note → List (List ℕ) → Connection → Type 0
+Reads setup conn pieces s None left c = (pieces ≡ []) × (left ≡ []) × IsConn setup c s
+Reads setup conn pieces s (Some note) left c = DidRead setup conn pieces s note left c
 
 -- a read was refused memory
-pub record StarvedReading (pieces : List (List ℕ)) (s : Conn) (left : List (List ℕ)) (c : Connection) : Type 0 where
+pub record StarvedReading (setup : Setup) (pieces : List (List ℕ)) (s : Conn) (left : List (List ℕ)) (c : Connection) : Type 0 where
   pub some : pieces ≢ []
   pub left_is : left ≡ pieces
-  pub is : IsConn c (starved s)
+  pub is : IsConn setup c (starved s)
 
-abbrev pub TriesRead : ℕ → List (List ℕ) → Conn → Result (Option Note) NoMemory → List (List ℕ) → Connection → Type 0
-TriesRead conn pieces s (Ok note) left c = Reads conn pieces s note left c
-TriesRead conn pieces s (Err refused) left c = StarvedReading pieces s left c
+abbrev pub TriesRead : Setup → ℕ → List (List ℕ) → Conn → Result (Option Note) NoMemory → List (List ℕ) → Connection → Type 0
+TriesRead setup conn pieces s (Ok note) left c = Reads setup conn pieces s note left c
+TriesRead setup conn pieces s (Err refused) left c = StarvedReading setup pieces s left c
 
 -- what is next
-pub record DidWant (conn entries : ℕ) (pieces : List (List ℕ)) (s : Conn) (note : Note) (left : List (List ℕ)) (c : Connection) : Type 0 where
+pub record DidWant (setup : Setup) (conn entries : ℕ) (pieces : List (List ℕ)) (s : Conn) (note : Note) (left : List (List ℕ)) (c : Connection) : Type 0 where
   pub t : Conn
   pub calls : List Call
   pub next : WantNext conn entries s note t calls
   pub left_is : left ≡ pieces
-  pub is : IsConn c t
+  pub is : IsConn setup c t
 
 -- a write
-pub record DidWrite (conn : ℕ) (pieces : List (List ℕ)) (s : Conn) (note : Note) (left : List (List ℕ)) (c : Connection) : Type 0 where
+pub record DidWrite (setup : Setup) (conn : ℕ) (pieces : List (List ℕ)) (s : Conn) (note : Note) (left : List (List ℕ)) (c : Connection) : Type 0 where
   pub t : Conn
   pub bytes : List ℕ
   pub note_is : note ≡ Wrote conn bytes
@@ -67,34 +68,34 @@ pub record DidWrite (conn : ℕ) (pieces : List (List ℕ)) (s : Conn) (note : N
   pub over : NotOver s
   pub wrote : WroteNext s bytes t
   pub left_is : left ≡ pieces
-  pub is : IsConn c t
+  pub is : IsConn setup c t
 
 -- a read where nothing is owed
-pub record ReadLast (conn : ℕ) (pieces : List (List ℕ)) (s : Conn) (note : Note) (left : List (List ℕ)) (c : Connection) : Type 0 where
+pub record ReadLast (setup : Setup) (conn : ℕ) (pieces : List (List ℕ)) (s : Conn) (note : Note) (left : List (List ℕ)) (c : Connection) : Type 0 where
   pub owed : owed s ≡ []
-  pub did : DidRead conn pieces s note left c
+  pub did : DidRead setup conn pieces s note left c
 
 -- nothing is left to do
-pub record DidNothing (pieces : List (List ℕ)) (s : Conn) (left : List (List ℕ)) (c : Connection) : Type 0 where
+pub record DidNothing (setup : Setup) (pieces : List (List ℕ)) (s : Conn) (left : List (List ℕ)) (c : Connection) : Type 0 where
   pub due : s.due ≡ []
   pub owed : owed s ≡ []
   pub ending : s.ending ≡ None
   pub none : pieces ≡ []
   pub left_is : left ≡ []
-  pub is : IsConn c s
+  pub is : IsConn setup c s
 
-abbrev pub Does : ℕ → ℕ → List (List ℕ) → Conn → Option Note → List (List ℕ) → Connection → Type 0
-Does conn entries pieces s None left c = DidNothing pieces s left c
-Does conn entries pieces s (Some note) left c =
-    DidWant conn entries pieces s note left c ⊎ (DidWrite conn pieces s note left c ⊎ ReadLast conn pieces s note left c)
+abbrev pub Does : Setup → ℕ → ℕ → List (List ℕ) → Conn → Option Note → List (List ℕ) → Connection → Type 0
+Does setup conn entries pieces s None left c = DidNothing setup pieces s left c
+Does setup conn entries pieces s (Some note) left c =
+    DidWant setup conn entries pieces s note left c ⊎ (DidWrite setup conn pieces s note left c ⊎ ReadLast setup conn pieces s note left c)
 
 -- the connection was refused memory for what is due, or for a read
-pub record Starves (pieces : List (List ℕ)) (s : Conn) (left : List (List ℕ)) (c : Connection) : Type 0 where
+pub record Starves (setup : Setup) (pieces : List (List ℕ)) (s : Conn) (left : List (List ℕ)) (c : Connection) : Type 0 where
   pub alive : s.ending ≡ None
   pub busy : (s.due ≢ []) ⊎ (CanRead s × (pieces ≢ []))
   pub left_is : left ≡ pieces
-  pub is : IsConn c (starved s)
+  pub is : IsConn setup c (starved s)
 
-abbrev pub Tries : ℕ → ℕ → List (List ℕ) → Conn → Result (Option Note) NoMemory → List (List ℕ) → Connection → Type 0
-Tries conn entries pieces s (Ok note) left c = Does conn entries pieces s note left c
-Tries conn entries pieces s (Err refused) left c = Starves pieces s left c
+abbrev pub Tries : Setup → ℕ → ℕ → List (List ℕ) → Conn → Result (Option Note) NoMemory → List (List ℕ) → Connection → Type 0
+Tries setup conn entries pieces s (Ok note) left c = Does setup conn entries pieces s note left c
+Tries setup conn entries pieces s (Err refused) left c = Starves setup pieces s left c

@@ -3,7 +3,8 @@ use Rattle.std.specs.Prelude.{◌≡◌, ℕ, ◌+◌, ◌≤◌, List, [], ◌�
 use Rattle.mq_machine.specs.declared.line.Line.TheVariants as line
 use Rattle.mq_machine.specs.Next.{Turn, SilentTurn, Quiet}
 use Rattle.mq_machine.specs.Play.{LinePlays, IsBadHere, Arrives}
-use Rattle.mq_machine.specs.State.{State, start}
+use Rattle.mq_machine.specs.State.{State, start_with}
+use Rattle.mq_machine.specs.declared.setup.Setup.{Setup}
 use Rattle.mq_world.specs.declared.event.Event.{Event}
 use Rattle.mq_world.specs.declared.event.Event.TheVariants.{Conn, Piece, Step}
 use Rattle.mq_world.specs.declared.event.Stepped.{Stepped}
@@ -21,38 +22,39 @@ use Rattle.mq_world.specs.declared.link.Seat.TheVariants.{Offered, Held, Gone}
 use Rattle.mq_world.specs.Links.{written}
 
 -- a link with these pieces is the worker's only offer, or that of its only connection, or its connection has ended
-abbrev pub IsSeat : Seat → List (List ℕ) → spec.Worker → Type 0
-IsSeat Offered pieces w = (w.offered ≡ record { number = 0; link = record { pieces = pieces } } ∷ []) × (w.conns ≡ [])
-IsSeat (Held c) pieces w =
-    (w.offered ≡ []) × (conn : spec.Conn) × (w.conns ≡ record { number = 0; link = record { pieces = pieces }; conn = conn } ∷ []) × IsConn c conn
-IsSeat Gone pieces w = (w.offered ≡ []) × (w.conns ≡ [])
+abbrev pub IsSeat : Setup → Seat → List (List ℕ) → spec.Worker → Type 0
+IsSeat setup Offered pieces w = (w.offered ≡ record { number = 0; link = record { pieces = pieces } } ∷ []) × (w.conns ≡ [])
+IsSeat setup (Held c) pieces w =
+    (w.offered ≡ []) × (conn : spec.Conn) × (w.conns ≡ record { number = 0; link = record { pieces = pieces }; conn = conn } ∷ []) × IsConn setup c conn
+IsSeat setup Gone pieces w = (w.offered ≡ []) × (w.conns ≡ [])
 
--- the link stands for this state, in which the book has so many entries
-pub record IsLinked (link : Link) (s : State) (entries : ℕ) : Type 0 where
+-- the link stands for this state of a proxy with this setup, in which the book has so many entries
+pub record IsLinked (setup : Setup) (link : Link) (s : State) (entries : ℕ) : Type 0 where
   pub worker : spec.Worker
   pub links : s.links ≡ 1
   pub workers : s.workers ≡ worker ∷ []
   pub id : worker.id ≡ 0
+  pub setup_is : s.shared.setup ≡ setup
   pub book : length s.shared.book ≡ entries
-  pub seat : IsSeat link.seat link.pieces worker
+  pub seat : IsSeat setup link.seat link.pieces worker
 
-abbrev pub MayBeLinked : Option Link → State → ℕ → Type 0
-MayBeLinked None s entries = (s ≡ start) × (entries ≡ 0)
-MayBeLinked (Some link) s entries = IsLinked link s entries
+abbrev pub MayBeLinked : Setup → Option Link → State → ℕ → Type 0
+MayBeLinked setup None s entries = (s ≡ start_with setup) × (entries ≡ 0)
+MayBeLinked setup (Some link) s entries = IsLinked setup link s entries
 
 -- the world stands for this state
 abbrev pub IsWorld : World → State → Type 0
-IsWorld w s = MayBeLinked w.link s w.entries
+IsWorld w s = MayBeLinked w.setup w.link s w.entries
 
 -- a piece arrives on link 0
-abbrev pub ArrivedOn : State → List ℕ → Link → ℕ → Type 0
-ArrivedOn s bytes link entries = (t : State) × Arrives s 0 bytes t × IsLinked link t entries
+abbrev pub ArrivedOn : Setup → State → List ℕ → Link → ℕ → Type 0
+ArrivedOn setup s bytes link entries = (t : State) × Arrives s 0 bytes t × IsLinked setup link t entries
 
 -- the worker's turn on its link, or it has none, or it was refused memory
-abbrev pub LinkSteps : State → ℕ → Result (Option Note) wire.NoMemory → Link → Type 0
-LinkSteps s entries (Ok (Some note)) link = (t : State) × Turn s 0 note t × IsLinked link t (entries + written note)
-LinkSteps s entries (Ok None) link = Quiet s 0 × IsLinked link s entries
-LinkSteps s entries (Err refused) link = (t : State) × SilentTurn s 0 t × IsLinked link t entries
+abbrev pub LinkSteps : Setup → State → ℕ → Result (Option Note) wire.NoMemory → Link → Type 0
+LinkSteps setup s entries (Ok (Some note)) link = (t : State) × Turn s 0 note t × IsLinked setup link t (entries + written note)
+LinkSteps setup s entries (Ok None) link = Quiet s 0 × IsLinked setup link s entries
+LinkSteps setup s entries (Err refused) link = (t : State) × SilentTurn s 0 t × IsLinked setup link t entries
 
 -- a new link, or that there can be none
 abbrev pub Offers : State → ℕ → Result Stepped WorldFault → World → Type 0

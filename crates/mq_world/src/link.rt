@@ -8,6 +8,7 @@ ghost use Rattle.mq_world.specs.Links.{TriesRead, Tries, NotOver, written};
 
 use crate::pieces::Pieces;
 use mq_conn::Connection;
+use mq_machine::Setup;
 use mq_talk::Note;
 use mq_wire::NoMemory;
 use std::alloc::Global;
@@ -41,17 +42,18 @@ pub fn written(note: &Note) -> u32
 /// One read, where a piece is there.
 fn read(
     alloc: Global,
+    setup: &Setup,
     conn: u32,
     pieces: &mut Pieces,
     connection: &mut Connection,
 ) -> Result<Option<Note>, NoMemory>
-    ensures { (s : Conn) → IsConn connection.old s → CanRead s → TriesRead conn pieces.old s result pieces.new connection.new }
+    ensures { (s : Conn) → IsConn setup.now connection.old s → CanRead s → TriesRead setup.now conn pieces.old s result pieces.new connection.new }
 {
     let Some(bytes) = pieces.first() else {
         return Ok(None);
     };
     let count = bytes.len() as u32;
-    connection.feed(alloc, bytes)?;
+    connection.feed(alloc, setup, bytes)?;
     pieces.advance();
     Ok(Some(Note::Took { conn, count }))
 }
@@ -59,12 +61,13 @@ fn read(
 /// One step of a connection that isn't over: what is next, a write, or a read. Where it is refused memory, it is ending.
 pub fn go_on(
     alloc: Global,
+    setup: &Setup,
     conn: u32,
     entries: u32,
     pieces: &mut Pieces,
     connection: &mut Connection,
 ) -> Result<Option<Note>, NoMemory>
-    ensures { (s : Conn) → IsConn connection.old s → NotOver s → Tries conn entries pieces.old s result pieces.new connection.new }
+    ensures { (s : Conn) → IsConn setup.now connection.old s → NotOver s → Tries setup.now conn entries pieces.old s result pieces.new connection.new }
 {
     if let Some(note) = connection.act(conn, entries)? {
         return Ok(Some(note));
@@ -73,5 +76,5 @@ pub fn go_on(
         let bytes = connection.write(alloc);
         return Ok(Some(Note::Wrote { conn, bytes }));
     }
-    read(alloc, conn, pieces, connection)
+    read(alloc, setup, conn, pieces, connection)
 }

@@ -1,26 +1,35 @@
-//! The world: one worker, its link and the number of entries in the book.
-ghost use Rattle.std.specs.Prelude.{◌≡◌, ℕ, OnOk};
-ghost use Rattle.mq_machine.specs.State.{State, start};
+//! The world: its setup, one worker with its link, and the number of entries in the book.
+ghost use Rattle.std.specs.Prelude.{◌≡◌, ℕ, ◌+◌, OnOk, IfOk};
+ghost use Rattle.mq_machine.specs.State.{State, start_with};
+ghost use Rattle.mq_machine.specs.declared.setup.Setup.{Setup};
+ghost use Rattle.mq_world.specs.Links.{written};
 ghost use Rattle.mq_world.specs.Worlds.{IsWorld, IsLinked, Happens, Offers, Arrived, Stepping, LinkSteps, ArrivedOn};
 
 use crate::event::{Event, Stepped, WorldFault};
 use crate::link::{Link, Seat, go_on, written};
 use crate::pieces::Pieces;
 use mq_conn::Connection;
+use mq_machine::Setup;
 use mq_talk::Note;
 use mq_wire::{Bytes, NoMemory};
 use std::alloc::Global;
 
-/// One worker with its link, once it was made, and the number of entries in the book.
+/// The setup of a proxy, one worker with its link, once it was made, and the number of entries in the book.
 #[derive(Drop)]
 pub struct World {
+    setup: Setup,
     link: Option<Link>,
     entries: u32,
 }
 
 /// One step of the worker on its link.
-fn step_link(alloc: Global, entries: u32, link: &mut Link) -> Result<Option<Note>, NoMemory>
-    ensures { (s : State) → IsLinked link.old s entries → LinkSteps s entries result link.new }
+fn step_link(
+    alloc: Global,
+    setup: &Setup,
+    entries: u32,
+    link: &mut Link,
+) -> Result<Option<Note>, NoMemory>
+    ensures { (s : State) → IsLinked setup.now link.old s entries → LinkSteps setup.now s entries result link.new }
 {
     match &mut link.seat {
         Seat::Gone => Ok(None),
@@ -33,14 +42,21 @@ fn step_link(alloc: Global, entries: u32, link: &mut Link) -> Result<Option<Note
                 link.seat = Seat::Gone;
                 return Ok(Some(Note::Ended { conn: 0, why }));
             }
-            go_on(alloc, 0, entries, &mut link.pieces, connection)
+            go_on(alloc, setup, 0, entries, &mut link.pieces, connection)
         }
     }
 }
 
+/// How many entries the book has after an act, where that is a number of 32 bits.
+fn with_written(entries: u32, note: &Note) -> Result<u32, NoMemory>
+    ensures { IfOk result (λ count. count ≡ entries + written note.now) }
+{
+    entries.checked_add(written(note)).ok_or(NoMemory)
+}
+
 /// A piece arrives on a link. One for a connection that has ended is let go.
 fn arrive_on(link: &mut Link, bytes: Bytes) -> Result<(), NoMemory>
-    ensures { (s : State) (entries : ℕ) → IsLinked link.old s entries → OnOk result (ArrivedOn s bytes link.new entries) }
+    ensures { (setup : Setup) (s : State) (entries : ℕ) → IsLinked setup link.old s entries → OnOk result (ArrivedOn setup s bytes link.new entries) }
 {
     match &link.seat {
         Seat::Gone => Ok(()),
@@ -50,11 +66,12 @@ fn arrive_on(link: &mut Link, bytes: Bytes) -> Result<(), NoMemory>
 }
 
 impl World {
-    /// One worker, and no link yet.
-    pub fn new() -> World
-        ensures { IsWorld result start }
+    /// One worker of a proxy with this setup, and no link yet.
+    pub fn new(setup: Setup) -> World
+        ensures { IsWorld result (start_with setup) }
     {
         World {
+            setup,
             link: None,
             entries: 0,
         }
@@ -114,10 +131,10 @@ impl World {
         let Some(link) = &mut self.link else {
             return Ok(Stepped::Idle);
         };
-        match step_link(alloc, self.entries, link) {
+        match step_link(alloc, &self.setup, self.entries, link) {
             Ok(None) => Ok(Stepped::Idle),
             Ok(Some(note)) => {
-                self.entries = self.entries.checked_add(written(&note)).ok_or(NoMemory)?;
+                self.entries = with_written(self.entries, &note)?;
                 Ok(Stepped::Did(note))
             }
             Err(_) => Ok(Stepped::Refused),

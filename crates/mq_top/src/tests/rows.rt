@@ -13,6 +13,13 @@ pub const REFUSED: &[u8] = b"conn 0\ntext 0 GET / HTTP/1.1\\r\\n\\r\\n\nstep 0 9
 pub const REFUSED_PRINTS: &[u8] =
     b"accepted 0 0\ntook 0 18\nrefused 0 0 400\nwrote 0 485454502f312e31203430302042616420526571756573740d0a436f6e6e656374696f6e3a20636c6f73650d0a436f6e74656e742d4c656e6774683a20300d0a0d0a\nended 0 Refused\nidle 0\n";
 
+/// A request whose path is none of the template.
+pub const NOT_FOUND: &[u8] =
+    b"conn 0\ntext 0 GET /x HTTP/1.1\\r\\nHost: p\\r\\nConnection: Upgrade\\r\\nUpgrade: connect-udp\\r\\n\\r\\n\nstep 0 9\n";
+
+pub const NOT_FOUND_PRINTS: &[u8] =
+    b"accepted 0 0\ntook 0 71\nrefused 0 0 404\nwrote 0 485454502f312e3120343034204e6f7420466f756e640d0a436f6e6e656374696f6e3a20636c6f73650d0a436f6e74656e742d4c656e6774683a20300d0a0d0a\nended 0 Refused\nidle 0\n";
+
 /// A second line that names a link that never was.
 pub const BAD: &[u8] = b"conn 0\nbytes 1 00\n";
 

@@ -2,4 +2,5 @@ use Rattle.mq_plays.proofs.Asked.{one_asked}
 use Rattle.mq_plays.proofs.asking.asked_once.Goals as goal
 
 pub returns : goal.returns
-returns c = one_asked (record { answer = c.one_answer.ensures; cut = c.cut_once.ensures; addr = c.one_addr.ensures })
+returns c = λ setup reads a b told x y.
+    one_asked (record { cut = c.cut_once.ensures; answer = c.one_answer.ensures; reading = c.one_reading.ensures; decision = c.one_decision.ensures }) setup told reads a b x y

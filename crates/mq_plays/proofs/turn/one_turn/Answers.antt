@@ -4,8 +4,8 @@ use Rattle.mq_plays.proofs.Turns.{one_actor_turn}
 use Rattle.mq_plays.proofs.Single.{plays_single, start_single, settles}
 use Rattle.mq_plays.proofs.turn.one_turn.Goals as goal
 
-known : (c : goal.After-one_answer) → Known
-known c = record { answer = c.one_answer.ensures; cut = c.cut_once.ensures; addr = c.one_addr.ensures }
+known : (c : goal.After-one_decision) → Known
+known c = record { cut = c.cut_once.ensures; answer = c.one_answer.ensures; reading = c.one_reading.ensures; decision = c.one_decision.ensures }
 
 pub returns : goal.returns
 returns c = λ lines refused actor text s t u n m plays.

@@ -13,7 +13,7 @@ use Rattle.mq_conn.proofs.Doing.{ends, done, owed_more, given_more, live_tunnel,
 use Rattle.mq_conn.proofs.connection.Connection.act_due.Goals as goal
 
 pub returns-in-Some-Payload : goal.returns-in-Some-Payload
-returns-in-Some-Payload c = λ s is.
+returns-in-Some-Payload c = λ setup s is.
     let rest = c.pop_front.new.self.items in
     let payload = c.in-Some-Payload in
     let due : s.due ≡ Payload payload.field-0-0 payload.n payload.payload ∷ rest = cc (is.due, payload.ensures.items) in
@@ -32,13 +32,13 @@ returns-in-Some-Payload c = λ s is.
         ending = is.ending;
         tunnels = is.tunnels;
         follows = subst G (sym follows.0) follows.2;
-        phase = done c.args.self.now.phase s.reads s.due _ rest rest _ _ s.ending s.ending due (λ w. w) (λ w. serves_on _ payload.field-0-0 payload.n payload.payload rest w) is.phase;
+        phase = done setup c.args.self.now.phase s.reads s.due _ rest rest _ _ s.ending s.ending due (λ w. w) (λ w. serves_on _ payload.field-0-0 payload.n payload.payload rest w) is.phase;
         closed = still s _ rest _ due is.closed;
       },
     )
 
 pub returns-in-Some-Malformed : goal.returns-in-Some-Malformed
-returns-in-Some-Malformed c = λ s is.
+returns-in-Some-Malformed c = λ setup s is.
     let rest = c.pop_front.new.self.items in
     let stream = c.in-Some-Malformed.field-0-0 in
     let due : s.due ≡ Malformed stream ∷ rest = cc (is.due, c.in-Some-Malformed.ensures.items) in
@@ -58,13 +58,13 @@ returns-in-Some-Malformed c = λ s is.
         ending = refl;
         tunnels = live.removed ∙ ap tunnels_of (sym none);
         follows = follows_none _ (without stream rest) (sym left ∙ follows.2);
-        phase = done c.args.self.now.phase s.reads s.due _ rest (without stream rest) _ _ s.ending (Some end.Tunnel) due (λ w. ends (without stream rest) end.Tunnel) (λ w. serves_no_end (is_some c.args.self.now.tunnel) (is_some c.take.new.self) stream rest (without stream rest) w) is.phase;
+        phase = done setup c.args.self.now.phase s.reads s.due _ rest (without stream rest) _ _ s.ending (Some end.Tunnel) due (λ w. ends (without stream rest) end.Tunnel) (λ w. serves_no_end (is_some c.args.self.now.tunnel) (is_some c.take.new.self) stream rest (without stream rest) w) is.phase;
         closed = λ h. sym left ∙ follows.2;
       },
     )
 
 pub returns-in_ok-refusal-in-Some-Refuse : goal.returns-in_ok-refusal-in-Some-Refuse
-returns-in_ok-refusal-in-Some-Refuse c = λ s is.
+returns-in_ok-refusal-in-Some-Refuse c = λ setup s is.
     let rest = c.pop_front.new.self.items in
     let refuse = c.in-Some-Refuse in
     let due : s.due ≡ Refuse refuse.stream refuse.status refuse.rule ∷ rest = cc (is.due, refuse.ensures.items) in
@@ -81,13 +81,13 @@ returns-in_ok-refusal-in-Some-Refuse c = λ s is.
         ending = refl;
         tunnels = is.tunnels;
         follows = follows_none _ rest follows.1;
-        phase = done c.args.self.now.phase s.reads s.due _ rest rest _ _ s.ending (Some end.Refused) due (λ w. ends rest end.Refused) (λ w. serves_no_refusal (is_some c.args.self.now.tunnel) (is_some c.args.self.now.tunnel) refuse.stream refuse.status refuse.rule rest rest w) is.phase;
+        phase = done setup c.args.self.now.phase s.reads s.due _ rest rest _ _ s.ending (Some end.Refused) due (λ w. ends rest end.Refused) (λ w. serves_no_refusal (is_some c.args.self.now.tunnel) (is_some c.args.self.now.tunnel) refuse.stream refuse.status refuse.rule rest rest w) is.phase;
         closed = λ h. follows.1;
       },
     )
 
 pub returns-in_ok-success-in-Some-Open : goal.returns-in_ok-success-in-Some-Open
-returns-in_ok-success-in-Some-Open c = λ s is.
+returns-in_ok-success-in-Some-Open c = λ setup s is.
     let rest = c.pop_front.new.self.items in
     let open_act = c.in-Some-Open in
     let due : s.due ≡ Open open_act.stream open_act.goal ∷ rest = cc (is.due, open_act.ensures.items) in
@@ -106,13 +106,13 @@ returns-in_ok-success-in-Some-Open c = λ s is.
         ending = is.ending;
         tunnels = ap (λ (ts : List Tunnel). ts ++ new open_act.stream) none ∙ ap new follows.1;
         follows = follows.2;
-        phase = done c.args.self.now.phase s.reads s.due _ rest rest _ true s.ending s.ending due (λ w. w) (λ w. serves_opened _ open_act.stream open_act.goal rest w) is.phase;
+        phase = done setup c.args.self.now.phase s.reads s.due _ rest rest _ true s.ending s.ending due (λ w. w) (λ w. serves_opened _ open_act.stream open_act.goal rest w) is.phase;
         closed = still s _ rest _ due is.closed;
       },
     )
 
 pub returns-in_ok-push_front-in-Some-Bind : goal.returns-in_ok-push_front-in-Some-Bind
-returns-in_ok-push_front-in-Some-Bind c = λ s is.
+returns-in_ok-push_front-in-Some-Bind c = λ setup s is.
     let rest = c.pop_front.new.self.items in
     let bind = c.in-Some-Bind in
     let due : s.due ≡ Bind bind.stream bind.goal ∷ rest = cc (is.due, bind.ensures.items) in
@@ -128,7 +128,7 @@ returns-in_ok-push_front-in-Some-Bind c = λ s is.
         ending = is.ending;
         tunnels = is.tunnels;
         follows = follows;
-        phase = done c.args.self.now.phase s.reads s.due _ rest _ _ _ s.ending s.ending due (λ w. w) (λ w. serves_opening _ bind.stream bind.goal rest w) is.phase;
+        phase = done setup c.args.self.now.phase s.reads s.due _ rest _ _ _ s.ending s.ending due (λ w. w) (λ w. serves_opening _ bind.stream bind.goal rest w) is.phase;
         closed = still s _ rest _ due is.closed;
       },
     )

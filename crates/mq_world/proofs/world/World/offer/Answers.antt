@@ -10,8 +10,8 @@ use Rattle.mq_world.proofs.world.World.offer.Goals as goal
 
 pub returns-in-None : goal.returns-in-None
 returns-in-None c = λ s is.
-    let P : Option Link → Type 0 = λ link. MayBeLinked link s c.args.self.now.entries in
+    let P : Option Link → Type 0 = λ link. MayBeLinked c.args.self.now.setup link s c.args.self.now.entries in
     let none = subst P c.in-None.is is in
     let Q : List (List ℕ) → Type 0 = λ pieces. (t : State) × LinePlays s (line.Conn c.args.actor) 0 [] t
-    × IsLinked (record { pieces = pieces; seat = Offered }) t c.args.self.now.entries in
-    subst Q (sym c.new.ensures) (offered_first s c.args.self.now.entries c.args.actor none.0 none.1 c.if-actor-gt0.false)
+    × IsLinked c.args.self.now.setup (record { pieces = pieces; seat = Offered }) t c.args.self.now.entries in
+    subst Q (sym c.new.ensures) (offered_first c.args.self.now.setup s c.args.self.now.entries c.args.actor none.0 none.1 c.if-actor-gt0.false)

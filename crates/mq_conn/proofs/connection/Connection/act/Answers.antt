@@ -1,0 +1,6 @@
+use Rattle.mq_conn.proofs.connection.Connection.act.Goals as goal
+
+pub returns-in-Err : goal.returns-in-Err
+returns-in-Err c = λ setup s is.
+    let told = c.in-Err.ensures setup s is in
+    (told.due, told.alive, c.starve.ensures setup s told.keeps)

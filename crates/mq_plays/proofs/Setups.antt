@@ -1,0 +1,52 @@
+-- The setup of a play: its template is one that a text tells, and no turn changes it.
+use Rattle.std.proofs.Common.{◌≡◌, ℕ, codes, refl, sym, ap, subst, ◌∙◌, inl, inr}
+use Rattle.mq_addr.specs.declared.kind.Kind.TheVariants as kind
+use Rattle.mq_talk.specs.declared.note.Note.{Note}
+use Rattle.mq_target.specs.Classes.{is_name_byte, is_unreserved, is_literal, is_delimiter}
+use Rattle.mq_target.specs.Template.{target_name, detail_name, IsPlain, well_known}
+use Rattle.mq_machine.specs.declared.setup.Setup.{Setup}
+use Rattle.mq_machine.specs.Setup.{plain_setup}
+use Rattle.mq_machine.specs.State.{Held, Worker, Shared, State}
+use Rattle.mq_machine.specs.Next.{HeldNext, Try, Want, Write, Read, Seat, Offers, Of, SeatNext, Turn}
+use Rattle.mq_plays.specs.Setups.{IsTold}
+use Rattle.mq_plays.proofs.Turns.{reads, writes, accepts, ends_or_goes}
+
+-- the well-known template is one
+well_known_told : IsPlain (codes "/.well-known/masque/udp/{target_host}/{target_port}/") (well_known kind.Udp)
+unfolding target_name detail_name is_name_byte is_unreserved is_literal is_delimiter
+well_known_told = record {
+  is = refl;
+  start = (refl, refl);
+  around = record { delimited = refl; between_literals = refl; ended = refl; after_literals = refl };
+}
+
+pub plain_told : IsTold plain_setup
+unfolding plain_setup
+plain_told = record { text = codes "/.well-known/masque/udp/{target_host}/{target_port}/"; is = inl well_known_told }
+
+pub same_told : (old new : Setup) → new ≡ old → IsTold old → IsTold new
+same_told old new same told = subst IsTold (sym same) told
+
+-- ---- what is shared keeps its setup
+
+same_setup : (old new : Shared) → new ≡ old → new.setup ≡ old.setup
+same_setup old new same = ap (λ (sh : Shared). sh.setup) same
+
+held_keeps : (actor : ℕ) (old : Held) (sh : Shared) (try : Try) (note : Note) (new : Held) (after : Shared) → HeldNext actor old sh try note new after → after.setup ≡ sh.setup
+held_keeps actor old sh Want note new after h = ap (λ (shared : Shared). shared.setup) h.after_is
+held_keeps actor old sh Write note new after h = same_setup sh after (writes actor old sh note new after h).after_is
+held_keeps actor old sh Read note new after h = same_setup sh after (reads actor old sh note new after h).after_is
+
+seat_keeps : (w : Worker) (sh : Shared) (seat : Seat) (try : Try) (note : Note) (new : Worker) (after : Shared) → SeatNext w sh seat try note new after → after.setup ≡ sh.setup
+seat_keeps w sh Offers try note new after x = same_setup sh after (accepts w sh try note new after x).after_is
+seat_keeps w sh (Of c) Want note new after x =
+    elim (ends_or_goes w sh c note new after x) [
+      | inl e ↦ same_setup sh after e.after_is
+      | inr g ↦ held_keeps w.id g.h sh Want note g.g after g.next
+    ]
+seat_keeps w sh (Of c) Write note new after x = held_keeps w.id x.h sh Write note x.g after x.next
+seat_keeps w sh (Of c) Read note new after x = held_keeps w.id x.h sh Read note x.g after x.next
+
+pub turn_keeps : (s t : State) (actor : ℕ) (note : Note) → Turn s actor note t → t.shared.setup ≡ s.shared.setup
+turn_keeps s t actor note x =
+    ap (λ (u : State). u.shared.setup) x.new_is ∙ seat_keeps x.worker s.shared x.turn.seat x.turn.try note x.after x.shared x.turn.allowed
