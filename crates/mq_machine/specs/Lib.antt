@@ -5,6 +5,6 @@ pub mod State
 pub mod ConnNext
 pub mod Next
 pub mod Text
-pub mod Line
 pub mod Setting
+pub mod Line
 pub mod Play

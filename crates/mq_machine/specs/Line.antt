@@ -3,7 +3,8 @@ use Rattle.std.specs.Prelude.{◌≡◌, ◌≢◌, ℕ, ◌<◌, ◌≤◌, ◌
 use Rattle.std.specs.List.{flat_map}
 use Rattle.hex.specs.Hex.{encode_lower}
 use Rattle.mq_machine.specs.declared.line.Line.{Line}
-use Rattle.mq_machine.specs.declared.line.Line.TheVariants.{Blank, Conn, Piece, Steps}
+use Rattle.mq_machine.specs.declared.line.Line.TheVariants.{Blank, Setting, Conn, Piece, Steps}
+use Rattle.mq_machine.specs.Setting.{SaysSetting}
 use Rattle.mq_machine.specs.Text.{number}
 
 -- a byte that a text can say: CR, LF, or from 0x20 to 0x7e
@@ -32,6 +33,7 @@ SaysSteps line actor count =
 -- what a line without its newline says
 abbrev pub Says : List ℕ → Line → Type 0
 Says line Blank = (line ≡ []) ⊎ ((rest : List ℕ) × (line ≡ 35 ∷ rest))
+Says line (Setting said) = SaysSetting line said
 Says line (Conn worker) = (worker ≤ 3) × (line ≡ codes "conn" ++ number worker)
 Says line (Piece conn bytes) = (conn < 2 ^ 32) × (bytes ≢ []) × SaysPiece line conn bytes
 Says line (Steps actor count) = (actor ≤ 3) × (1 ≤ count) × (count ≤ 1000000) × SaysSteps line actor count

@@ -4,10 +4,12 @@ use Rattle.std.specs.List.{flat_map}
 use Rattle.mq_talk.specs.declared.note.Note.{Note}
 use Rattle.mq_text.specs.Cut.{Lacks}
 use Rattle.mq_machine.specs.declared.line.Line.{Line}
-use Rattle.mq_machine.specs.declared.line.Line.TheVariants.{Blank, Conn, Piece, Steps}
+use Rattle.mq_machine.specs.declared.line.Line.TheVariants.{Blank, Setting, Conn, Piece, Steps}
 use Rattle.mq_machine.specs.Line.{Says, SaysNothing}
+use Rattle.mq_machine.specs.declared.setting.SettingLine.{SettingLine}
+use Rattle.mq_machine.specs.Setting.{MayFollow, setup_of}
 use Rattle.mq_machine.specs.Next.{Turn, SilentTurn, Quiet}
-use Rattle.mq_machine.specs.State.{Feed, Offer, Held, Worker, State, start}
+use Rattle.mq_machine.specs.State.{Feed, Offer, Held, Worker, State, start_with}
 use Rattle.mq_machine.specs.Text.{note_line, idle_line, bad_line, newline}
 
 -- Up to so many steps of an actor: each is its turn, and where it has none, it is idle and the steps stop. So many of them
@@ -68,24 +70,59 @@ pub record ArrivesLate (old : State) (number : ℕ) (new : State) : Type 0 where
 abbrev pub Arrives : State → ℕ → List ℕ → State → Type 0
 Arrives old number bytes new = ArrivesOffered old number bytes new ⊎ (ArrivesHeld old number bytes new ⊎ ArrivesLate old number new)
 
--- a good line that isn't one of steps
+-- what a line does that offers a link or lets a piece arrive
 abbrev pub Happens : State → Line → State → Type 0
-Happens old Blank new = new ≡ old
+Happens old Blank new = ⊥
+Happens old (Setting said) new = ⊥
 Happens old (Conn worker) new = (old.links ≡ 0) × OffersLink old worker new
 Happens old (Piece conn bytes) new = (conn < old.links) × Arrives old conn bytes new
 Happens old (Steps actor count) new = ⊥
 
--- What a good line prints and does. So many of its steps were refused memory.
-abbrev pub LinePlays : State → Line → ℕ → List ℕ → State → Type 0
-LinePlays old (Steps actor count) refused text new = (actor < length old.workers) × Runs old actor count refused text new
-LinePlays old said refused text new = Happens old said new × (refused ≡ 0) × (text ≡ [])
-
 -- It names what never was, or offers a second link: only one is served yet.
-abbrev pub IsBadHere : State → Line → Type 0
-IsBadHere old Blank = ⊥
-IsBadHere old (Conn worker) = (0 < old.links) ⊎ (length old.workers ≤ worker)
-IsBadHere old (Piece conn bytes) = old.links ≤ conn
-IsBadHere old (Steps actor count) = length old.workers ≤ actor
+abbrev pub IsMissing : State → Line → Type 0
+IsMissing old Blank = ⊥
+IsMissing old (Setting said) = ⊥
+IsMissing old (Conn worker) = (0 < old.links) ⊎ (length old.workers ≤ worker)
+IsMissing old (Piece conn bytes) = old.links ≤ conn
+IsMissing old (Steps actor count) = length old.workers ≤ actor
+
+-- how far a script has come: its first lines are settings, and behind them the machine runs
+pub data Stage : Type 0 where
+  Settings : List SettingLine → Stage
+  Running : State → Stage
+
+-- nothing was said yet
+abbrev pub opening : Stage
+opening = Settings []
+
+-- the state from which a line that is no setting goes on
+abbrev pub opened : Stage → State
+opened (Settings lines) = start_with (setup_of lines)
+opened (Running state) = state
+
+-- one more setting, before the first line that is none
+abbrev pub Sets : Stage → SettingLine → Stage → Type 0
+Sets (Settings lines) said new = MayFollow lines said × (new ≡ Settings (lines ++ said ∷ []))
+Sets (Running state) said new = ⊥
+
+-- it comes too late, or is one too many
+abbrev pub IsUnset : Stage → SettingLine → Type 0
+IsUnset (Settings lines) said = MayFollow lines said → ⊥
+IsUnset (Running state) said = Unit {0}
+
+-- What a good line prints and does. So many of its steps were refused memory.
+abbrev pub LinePlays : Stage → Line → ℕ → List ℕ → Stage → Type 0
+LinePlays old Blank refused text new = (new ≡ old) × (refused ≡ 0) × (text ≡ [])
+LinePlays old (Setting said) refused text new = Sets old said new × (refused ≡ 0) × (text ≡ [])
+LinePlays old (Steps actor count) refused text new =
+    (actor < length (opened old).workers) × (state : State) × Runs (opened old) actor count refused text state × (new ≡ Running state)
+LinePlays old said refused text new =
+    (state : State) × Happens (opened old) said state × (new ≡ Running state) × (refused ≡ 0) × (text ≡ [])
+
+-- a line of the grammar is bad in this place
+abbrev pub IsBadHere : Stage → Line → Type 0
+IsBadHere old (Setting said) = IsUnset old said
+IsBadHere old said = IsMissing (opened old) said
 
 -- the most bytes of a line without its newline, and of a script
 abbrev pub line_limit : ℕ
@@ -94,16 +131,16 @@ line_limit = 200000
 abbrev pub script_limit : ℕ
 script_limit = 67108864
 
--- a whole line is bad: outside the grammar, or bad in this state
-abbrev pub IsBad : State → List ℕ → Type 0
+-- a whole line is bad: outside the grammar, or bad in this place
+abbrev pub IsBad : Stage → List ℕ → Type 0
 IsBad old line = SaysNothing line ⊎ ((said : Line) × Says line said × IsBadHere old said)
 
 -- The lines, in order and each good, print the text and lead from old to new. So many steps were refused memory.
-abbrev pub Plays : State → List (List ℕ) → ℕ → List ℕ → State → Type 0
+abbrev pub Plays : Stage → List (List ℕ) → ℕ → List ℕ → Stage → Type 0
 Plays old [] refused text new = (refused ≡ 0) × (text ≡ []) × (new ≡ old)
 Plays old (line ∷ lines) refused text new =
     (length line ≤ line_limit) × (said : Line) × Says line said
-    × (mid : State) × (here : ℕ) × (later : ℕ) × (shown : List ℕ) × (rest : List ℕ)
+    × (mid : Stage) × (here : ℕ) × (later : ℕ) × (shown : List ℕ) × (rest : List ℕ)
     × LinePlays old said here shown mid × (refused ≡ here + later) × (text ≡ shown ++ rest) × Plays mid lines later rest new
 
 -- the lines with their newlines
@@ -130,23 +167,23 @@ with_tail lines (b ∷ bs) = lines ++ (b ∷ bs) ∷ []
 pub record IsPlayed (script out : List ℕ) : Type 0 where
   pub lines : List (List ℕ)
   pub tail : List ℕ
-  pub new : State
+  pub new : Stage
   -- how many steps were refused memory
   pub refused : ℕ
   pub script_is : IsScript script lines tail
   pub fits : length script ≤ script_limit
-  pub plays : Plays start (with_tail lines tail) refused out new
+  pub plays : Plays opening (with_tail lines tail) refused out new
 
 -- All whole lines are good, and were played; the begun one, and the script so far, are within their limits.
 pub record IsPlayedSoFar (script out : List ℕ) : Type 0 where
   pub lines : List (List ℕ)
   pub tail : List ℕ
-  pub new : State
+  pub new : Stage
   pub refused : ℕ
   pub script_is : IsScript script lines tail
   pub fits : length script ≤ script_limit
   pub begun : length tail ≤ line_limit
-  pub plays : Plays start lines refused out new
+  pub plays : Plays opening lines refused out new
 
 -- The script goes on behind these lines, which are all within its limit, with these bytes of one line.
 pub record HasFront (script : List ℕ) (before : List (List ℕ)) (front : List ℕ) : Type 0 where
@@ -181,23 +218,23 @@ pub record HasPast (script : List ℕ) (before : List (List ℕ)) : Type 0 where
   pub full : length (text_of before) + length front ≡ script_limit
   pub past : has.more ≢ []
 
--- a line says nothing that is good in this state
-pub record HasWrong (script : List ℕ) (before : List (List ℕ)) (state : State) : Type 0 where
+-- a line says nothing that is good in this place
+pub record HasWrong (script : List ℕ) (before : List (List ℕ)) (state : Stage) : Type 0 where
   pub line : List ℕ
   pub has : HasLine script before line
   pub wrong : IsBad state line
 
--- The line behind these, which lead to this state, is bad.
-abbrev pub HasBad : List ℕ → List (List ℕ) → State → Type 0
+-- The line behind these, which lead to this place, is bad.
+abbrev pub HasBad : List ℕ → List (List ℕ) → Stage → Type 0
 HasBad script before state = HasLong script before ⊎ (HasPast script before ⊎ HasWrong script before state)
 
 -- the lines before the first bad one were played, and then that was said
 pub record IsPlayedBad (script out : List ℕ) : Type 0 where
   pub before : List (List ℕ)
-  pub state : State
+  pub state : Stage
   pub text : List ℕ
   pub refused : ℕ
-  pub plays : Plays start before refused text state
+  pub plays : Plays opening before refused text state
   pub bad : HasBad script before state
   pub out_is : out ≡ text ++ bad_line (length before + 1)
 
@@ -211,12 +248,12 @@ RunsPart old actor (suc n) text =
     ⊎ (Quiet old actor × (text ≡ idle_line actor))))
 
 -- what a good line printed when it stopped: only steps print anything
-abbrev pub LinePart : State → Line → List ℕ → Type 0
-LinePart old (Steps actor count) text = (actor < length old.workers) × RunsPart old actor count text
+abbrev pub LinePart : Stage → Line → List ℕ → Type 0
+LinePart old (Steps actor count) text = (actor < length (opened old).workers) × RunsPart (opened old) actor count text
 LinePart old said text = text ≡ []
 
 -- the play stopped in the line behind these
-pub record StopsIn (script : List ℕ) (before : List (List ℕ)) (state : State) (text : List ℕ) : Type 0 where
+pub record StopsIn (script : List ℕ) (before : List (List ℕ)) (state : Stage) (text : List ℕ) : Type 0 where
   pub line : List ℕ
   pub said : Line
   pub has : HasLine script before line
@@ -231,11 +268,11 @@ IsFrontOf text whole = (rest : List ℕ) × (whole ≡ text ++ rest)
 -- A front of what that prints was printed.
 pub record IsPlayedPart (script out : List ℕ) : Type 0 where
   pub before : List (List ℕ)
-  pub state : State
+  pub state : Stage
   pub text : List ℕ
   pub part : List ℕ
   pub refused : ℕ
-  pub plays : Plays start before refused text state
+  pub plays : Plays opening before refused text state
   pub stops : (HasFront script before [] × (part ≡ []))
       ⊎ (StopsIn script before state part
       ⊎ (HasBad script before state × (part ≡ bad_line (length before + 1))))

@@ -23,10 +23,10 @@ abbrev pub IsBlockText : List ℕ → Option Prefix → Type 0
 IsBlockText text None = text ≡ codes "*"
 IsBlockText text (Some block) = IsPrefixText text block
 
--- a protocol, or `*` for all of them
-abbrev pub protocol_text : Option ℕ → List ℕ
-protocol_text None = codes "*"
-protocol_text (Some protocol) = decimal protocol
+-- the number of a protocol, or `*` for all of them
+abbrev pub IsProtocolText : List ℕ → Option ℕ → Type 0
+IsProtocolText text None = text ≡ codes "*"
+IsProtocolText text (Some protocol) = (protocol ≤ 255) × (text ≡ decimal protocol)
 
 abbrev pub verb : Bool → List ℕ
 verb true = codes "allow"
@@ -38,24 +38,33 @@ SaysRule line (rule.Udp allow block low high) =
     (1 ≤ low) × (low ≤ high) × (high ≤ 65535)
     × (text : List ℕ) × IsBlockText text block × (line ≡ verb allow ++ codes " udp " ++ text ++ number low ++ number high)
 SaysRule line (rule.Ip allow block protocol) =
-    (text : List ℕ) × IsBlockText text block × (line ≡ verb allow ++ codes " ip " ++ text ++ 32 ∷ protocol_text protocol)
+    (text : List ℕ) × (asked : List ℕ) × IsBlockText text block × IsProtocolText asked protocol
+    × (line ≡ verb allow ++ codes " ip " ++ text ++ 32 ∷ asked)
 
 -- `template udp TEXT`, `template ip TEXT`, `name NAME ADDR`, or a rule
 abbrev pub SaysSetting : List ℕ → SettingLine → Type 0
-SaysSetting line (Template shape) =
-    (text : List ℕ) × IsTemplate text shape × (line ≡ codes "template " ++ kind_text shape.kind ++ 32 ∷ text)
+SaysSetting line (Template kind shape) =
+    (text : List ℕ) × IsTemplate text shape × (shape.kind ≡ kind) × (line ≡ codes "template " ++ kind_text kind ++ 32 ∷ text)
 SaysSetting line (Name name addr) =
     (said : List ℕ) × (text : List ℕ) × IsName said × (name ≡ map to_ascii_lowercase said) × IsAddrText text addr
     × (line ≡ codes "name " ++ said ++ 32 ∷ text)
 SaysSetting line (RuleLine said) = SaysRule line said
 
+-- no setting is the line
+abbrev pub SaysNoSetting : List ℕ → Type 0
+SaysNoSetting line = (setting : SettingLine) → SaysSetting line setting → ⊥
+
+-- a line says at most one setting
+abbrev pub SaysOneSetting : Type 0
+SaysOneSetting = (line : List ℕ) (a b : SettingLine) → SaysSetting line a → SaysSetting line b → a ≡ b
+
 abbrev pub is_name : SettingLine → Bool
-is_name (Template shape) = false
+is_name (Template kind shape) = false
 is_name (Name name addr) = true
 is_name (RuleLine said) = false
 
 abbrev pub is_rule : SettingLine → Bool
-is_rule (Template shape) = false
+is_rule (Template kind shape) = false
 is_rule (Name name addr) = false
 is_rule (RuleLine said) = true
 
@@ -68,7 +77,7 @@ most_rules = 256
 
 -- the setting may stand behind these
 abbrev pub MayFollow : List SettingLine → SettingLine → Type 0
-MayFollow before (Template shape) = Unit {0}
+MayFollow before (Template kind shape) = Unit {0}
 MayFollow before (Name name addr) = length (filter is_name before) < most_names
 MayFollow before (RuleLine said) = length (filter is_rule before) < most_rules
 
@@ -78,7 +87,7 @@ with_template kind.Udp setup shape = record setup { udp = shape }
 with_template kind.Ip setup shape = setup
 
 abbrev pub with_setting : Setup → SettingLine → Setup
-with_setting setup (Template shape) = with_template shape.kind setup shape
+with_setting setup (Template kind shape) = with_template kind setup shape
 with_setting setup (Name name addr) = record setup { policy = record setup.policy { names = finite.insert setup.policy.names name addr } }
 with_setting setup (RuleLine said) = record setup { policy = record setup.policy { rules = setup.policy.rules ++ said ∷ [] } }
 

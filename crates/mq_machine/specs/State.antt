@@ -4,7 +4,6 @@ use Rattle.mq_talk.specs.declared.book.Entry.{Entry}
 use Rattle.mq_talk.specs.declared.note.End.{End}
 use Rattle.mq_machine.specs.declared.act.Act.{Act}
 use Rattle.mq_machine.specs.declared.setup.Setup.{Setup}
-use Rattle.mq_machine.specs.Setup.{plain_setup}
 
 -- a live tunnel of a connection
 pub record Tunnel : Type 0 where
@@ -75,7 +74,3 @@ start_with setup = record {
   workers = record { id = 0; offered = []; conns = []; next_seat = 0 } ∷ [];
   shared = record { setup = setup; book = [] };
 }
-
--- of a proxy of which nothing was said
-abbrev pub start : State
-start = start_with plain_setup

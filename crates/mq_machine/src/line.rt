@@ -1,5 +1,6 @@
 //! The lines of a script.
 
+use crate::SettingLine;
 use mq_wire::Bytes;
 
 /// One line of a script.
@@ -7,6 +8,8 @@ use mq_wire::Bytes;
 pub enum Line {
     /// An empty line or a comment.
     Blank,
+    /// A setting, before the first other line that isn't blank.
+    Setting(SettingLine),
     /// A new link is offered to this worker. Links are numbered from 0, in order.
     Conn { worker: u32 },
     /// A piece arrives on this link.

@@ -3,11 +3,12 @@ use Rattle.std.proofs.Common.{◌≡◌, ℕ, zero, suc, min, Some, slice_get, a
 use Rattle.std.proofs.lemmas.List.{length-append}
 use Rattle.mq_text.specs.Cut.{Lacks}
 use Rattle.mq_machine.specs.declared.line.Line.{Line}
-use Rattle.mq_machine.specs.declared.line.Line.TheVariants.{Blank, Conn, Piece, Steps}
+use Rattle.mq_machine.specs.declared.line.Line.TheVariants.{Blank, Setting, Conn, Piece, Steps}
 use Rattle.mq_machine.specs.Line.{Says, SaysOne}
-use Rattle.mq_machine.specs.State.{State}
-use Rattle.mq_machine.specs.Play.{LinePlays, IsBad, IsBadHere, HasFront, HasLine, HasBad, EndsLine, text_of, script_limit}
-use Rattle.mq_plays.proofs.Counts.{Alike}
+use Rattle.mq_machine.specs.declared.setting.SettingLine.{SettingLine}
+use Rattle.mq_machine.specs.Setting.{MayFollow}
+use Rattle.mq_machine.specs.Play.{Stage, Settings, Running, opened, Sets, IsUnset, LinePlays, IsBad, IsBadHere, HasFront, HasLine, HasBad, EndsLine, text_of, script_limit}
+use Rattle.mq_plays.proofs.Counts.{AreAlike, opened_alike}
 
 pub at_within : {A : Type 0} → (xs : List A) (i : ℕ) (x : A) → slice_get xs i ≡ Some x → i < length xs
 at_within [] zero x e = absurd cc
@@ -15,19 +16,29 @@ at_within [] (suc i) x e = absurd cc
 at_within (y ∷ ys) zero x e = omega arith
 at_within (y ∷ ys) (suc i) x e = let h = at_within ys i x e in omega arith
 
--- what a line says is good in a state or bad in one that is alike, and not both
-pub not_bad_here : (said : Line) (s t : State) (refused : ℕ) (text : List ℕ) (new : State) → Alike s t → LinePlays s said refused text new → IsBadHere t said → ⊥
-not_bad_here Blank s t refused text new h p bad = bad
-not_bad_here (Conn worker) s t refused text new h p bad =
-    let links = h.links in
-    let workers = h.workers in
-    let none = p.0.0 in
-    let within = at_within s.workers worker p.0.1.w p.0.1.at in
-    elim bad [ inl some ↦ omega arith | inr past ↦ omega arith ]
-not_bad_here (Piece conn bytes) s t refused text new h p bad = let few = p.0.0 in let same = h.links in omega arith
-not_bad_here (Steps actor count) s t refused text new h p bad = let few = p.0 in let same = h.workers in omega arith
+-- a setting that may stand there isn't unset
+set_not_unset : (said : SettingLine) (s t new : Stage) → AreAlike s t → Sets s said new → IsUnset t said → ⊥
+set_not_unset said (Settings lines) (Settings others) new h p bad =
+    let P : List SettingLine → Type 0 = λ ls. MayFollow ls said in
+    bad (subst P h p.0)
+set_not_unset said (Settings lines) (Running t) new h p bad = h
+set_not_unset said (Running s) t new h p bad = p
 
-not_wrong : SaysOne → (line : List ℕ) (said : Line) (t : State) → Says line said → (IsBadHere t said → ⊥) → IsBad t line → ⊥
+-- what a line says is good in a place or bad in one that is alike, and not both
+pub not_bad_here : (said : Line) (s t : Stage) (refused : ℕ) (text : List ℕ) (new : Stage) → AreAlike s t → LinePlays s said refused text new → IsBadHere t said → ⊥
+not_bad_here Blank s t refused text new h p bad = bad
+not_bad_here (Setting said) s t refused text new h p bad = set_not_unset said s t new h p.0 bad
+not_bad_here (Conn worker) s t refused text new h p bad =
+    let alike = opened_alike s t h in
+    let links = alike.links in
+    let workers = alike.workers in
+    let none = p.1.0 in
+    let within = at_within (opened s).workers worker p.1.1.w p.1.1.at in
+    elim bad [ inl some ↦ omega arith | inr past ↦ omega arith ]
+not_bad_here (Piece conn bytes) s t refused text new h p bad = let few = p.1.0 in let same = (opened_alike s t h).links in omega arith
+not_bad_here (Steps actor count) s t refused text new h p bad = let few = p.0 in let same = (opened_alike s t h).workers in omega arith
+
+not_wrong : SaysOne → (line : List ℕ) (said : Line) (t : Stage) → Says line said → (IsBadHere t said → ⊥) → IsBad t line → ⊥
 not_wrong one line said t says good bad =
     let P : Line → Type 0 = λ x. IsBadHere t x in
     elim bad [
@@ -79,7 +90,7 @@ none_past limit text front line rest end more is more_is fits full =
     nothing more (omega arith)
 
 -- a line that is good isn't bad
-pub not_bad : SaysOne → (script : List ℕ) (before : List (List ℕ)) (line : List ℕ) (said : Line) (t : State)
+pub not_bad : SaysOne → (script : List ℕ) (before : List (List ℕ)) (line : List ℕ) (said : Line) (t : Stage)
     → HasLine script before line → Says line said → (IsBadHere t said → ⊥) → HasBad script before t → ⊥
 not_bad one script before line said t l says good bad =
     elim bad [
@@ -103,7 +114,7 @@ not_bad one script before line said t l says good bad =
     ]
 
 -- the empty line at the end of a script is good
-pub empty_good : SaysOne → (script : List ℕ) (before : List (List ℕ)) (t : State) → script ≡ text_of before → HasBad script before t → ⊥
+pub empty_good : SaysOne → (script : List ℕ) (before : List (List ℕ)) (t : Stage) → script ≡ text_of before → HasBad script before t → ⊥
 empty_good one script before t is bad =
     elim bad [
       | inl long ↦ (let none = empty_front script before long.front is long.has in let over = long.long in let few = ap (λ (xs : List ℕ). length xs) none.0 in omega arith)

@@ -1,10 +1,11 @@
--- How many links and workers there are hangs on the lines alone.
+-- Which settings were told, and how many links and workers there are, hangs on the lines alone.
 use Rattle.std.proofs.Common.{◌≡◌, ℕ, zero, suc, ◌+◌, List, [], ◌∷◌, ◌++◌, length, slice_set, refl, sym, ap, subst, ◌∙◌, arith, inl, inr, append_assoc}
 use Rattle.mq_machine.specs.declared.line.Line.{Line}
-use Rattle.mq_machine.specs.declared.line.Line.TheVariants.{Blank, Conn, Piece, Steps}
+use Rattle.mq_machine.specs.declared.line.Line.TheVariants.{Blank, Setting, Conn, Piece, Steps}
 use Rattle.mq_machine.specs.Line.{SaysOne}
+use Rattle.mq_machine.specs.declared.setting.SettingLine.{SettingLine}
 use Rattle.mq_machine.specs.State.{Worker, State}
-use Rattle.mq_machine.specs.Play.{Runs, Arrives, LinePlays, Plays}
+use Rattle.mq_machine.specs.Play.{Runs, Arrives, Happens, Stage, Settings, Running, opened, Sets, LinePlays, Plays}
 
 -- as many links, and as many workers
 pub record Alike (a b : State) : Type 0 where
@@ -52,34 +53,79 @@ arrives_alike old number bytes new h =
       | inr (inr l) ↦ alike_at new old old old l.new_is refl (alike_self old)
     ]
 
--- a line leads alike states to alike ones
-line_alike : (said : Line) (s t : State) (r q : ℕ) (a b : List ℕ) (u v : State) → Alike s t → LinePlays s said r a u → LinePlays t said q b v → Alike u v
-line_alike Blank s t r q a b u v h p k = alike_at u v s t p.0 k.0 h
-line_alike (Conn worker) s t r q a b u v h p k =
-    let one = p.0.1 in
-    let other = k.0.1 in
+-- links and pieces lead alike states to alike ones
+happens_alike : (said : Line) (s t u v : State) → Alike s t → Happens s said u → Happens t said v → Alike u v
+happens_alike Blank s t u v h p k = absurd p
+happens_alike (Setting said) s t u v h p k = absurd p
+happens_alike (Conn worker) s t u v h p k =
+    let one = p.1 in
+    let other = k.1 in
     let links : u.links ≡ s.links + 1 = ap (λ (x : State). x.links) one.new_is in
     let later : v.links ≡ t.links + 1 = ap (λ (x : State). x.links) other.new_is in
     let same = h.links in
     let workers = ap (λ (x : State). length x.workers) one.new_is ∙ set_length s.workers worker _ in
     let others = ap (λ (x : State). length x.workers) other.new_is ∙ set_length t.workers worker _ in
     record { links = omega arith; workers = workers ∙ h.workers ∙ sym others }
-line_alike (Piece conn bytes) s t r q a b u v h p k =
-    alike_on u s v (arrives_alike s conn bytes u p.0.1) (alike_on s t v h (alike_back v t (arrives_alike t conn bytes v k.0.1)))
-line_alike (Steps actor count) s t r q a b u v h p k =
-    alike_on u s v (runs_alike actor count r s a u p.1) (alike_on s t v h (alike_back v t (runs_alike actor count q t b v k.1)))
+happens_alike (Piece conn bytes) s t u v h p k =
+    alike_on u s v (arrives_alike s conn bytes u p.1) (alike_on s t v h (alike_back v t (arrives_alike t conn bytes v k.1)))
+happens_alike (Steps actor count) s t u v h p k = absurd p
 
--- the same lines lead alike states to alike ones
-pub plays_alike : SaysOne → (lines : List (List ℕ)) (s t : State) (r q : ℕ) (a b : List ℕ) (u v : State) → Alike s t → Plays s lines r a u → Plays t lines q b v → Alike u v
-plays_alike one [] s t r q a b u v h p k = alike_at u v s t p.2 k.2 h
+-- The same settings were told, or the machine runs, in states that are alike.
+abbrev pub AreAlike : Stage → Stage → Type 0
+AreAlike (Settings lines) (Settings others) = lines ≡ others
+AreAlike (Settings lines) (Running t) = ⊥
+AreAlike (Running s) (Settings others) = ⊥
+AreAlike (Running s) (Running t) = Alike s t
+
+pub stage_alike_self : (s : Stage) → AreAlike s s
+stage_alike_self (Settings lines) = refl
+stage_alike_self (Running s) = alike_self s
+
+stage_alike_at : (a b c d : Stage) → a ≡ c → b ≡ d → AreAlike c d → AreAlike a b
+stage_alike_at a b c d p q h =
+    let P : Stage → Type 0 = λ x. AreAlike x d in
+    let Q : Stage → Type 0 = λ x. AreAlike a x in
+    subst Q (sym q) (subst P (sym p) h)
+
+-- no setting makes more links or workers
+pub opened_alike : (s t : Stage) → AreAlike s t → Alike (opened s) (opened t)
+opened_alike (Settings lines) (Settings others) h = record { links = refl; workers = refl }
+opened_alike (Settings lines) (Running t) h = absurd h
+opened_alike (Running s) (Settings others) h = absurd h
+opened_alike (Running s) (Running t) h = h
+
+sets_alike : (said : SettingLine) (s t u v : Stage) → AreAlike s t → Sets s said u → Sets t said v → AreAlike u v
+sets_alike said (Settings lines) (Settings others) u v h p k =
+    stage_alike_at u v (Settings (lines ++ said ∷ [])) (Settings (others ++ said ∷ [])) p.1 k.1 (ap (λ (ls : List SettingLine). ls ++ said ∷ []) h)
+sets_alike said (Settings lines) (Running t) u v h p k = absurd h
+sets_alike said (Running s) t u v h p k = absurd p
+
+-- a line leads alike stages to alike ones
+line_alike : (said : Line) (s t : Stage) (r q : ℕ) (a b : List ℕ) (u v : Stage) → AreAlike s t → LinePlays s said r a u → LinePlays t said q b v → AreAlike u v
+line_alike Blank s t r q a b u v h p k = stage_alike_at u v s t p.0 k.0 h
+line_alike (Setting said) s t r q a b u v h p k = sets_alike said s t u v h p.0 k.0
+line_alike (Conn worker) s t r q a b u v h p k =
+    stage_alike_at u v (Running p.0) (Running k.0) p.2 k.2 (happens_alike (Conn worker) (opened s) (opened t) p.0 k.0 (opened_alike s t h) p.1 k.1)
+line_alike (Piece conn bytes) s t r q a b u v h p k =
+    stage_alike_at u v (Running p.0) (Running k.0) p.2 k.2 (happens_alike (Piece conn bytes) (opened s) (opened t) p.0 k.0 (opened_alike s t h) p.1 k.1)
+line_alike (Steps actor count) s t r q a b u v h p k =
+    let before = opened_alike s t h in
+    let here = runs_alike actor count r (opened s) a p.1 p.2 in
+    let there = runs_alike actor count q (opened t) b k.1 k.2 in
+    stage_alike_at u v (Running p.1) (Running k.1) p.3 k.3
+    (alike_on p.1 (opened s) k.1 here (alike_on (opened s) (opened t) k.1 before (alike_back k.1 (opened t) there)))
+
+-- the same lines lead alike stages to alike ones
+pub plays_alike : SaysOne → (lines : List (List ℕ)) (s t : Stage) (r q : ℕ) (a b : List ℕ) (u v : Stage) → AreAlike s t → Plays s lines r a u → Plays t lines q b v → AreAlike u v
+plays_alike one [] s t r q a b u v h p k = stage_alike_at u v s t p.2 k.2 h
 plays_alike one (line ∷ lines) s t r q a b u v h (fits, said, says, mid, here, later, shown, rest, plays, sum, text, next) (fits', said', says', mid', here', later', shown', rest', plays', sum', text', next') =
     let same = one line said' said says' says in
     let P : Line → Type 0 = λ x. LinePlays t x here' shown' mid' in
     plays_alike one lines mid mid' later later' rest rest' u v (line_alike said s t here here' shown shown' mid mid' h plays (subst P same plays')) next next'
 
 -- The lines of a play, up to one of them and from there on.
-pub record Parted (old : State) (first later : List (List ℕ)) (refused : ℕ) (text : List ℕ) (new : State) : Type 0 where
-  pub mid : State
+pub record Parted (old : Stage) (first later : List (List ℕ)) (refused : ℕ) (text : List ℕ) (new : Stage) : Type 0 where
+  pub mid : Stage
   pub before : ℕ
   pub after : ℕ
   pub shown : List ℕ
@@ -89,7 +135,7 @@ pub record Parted (old : State) (first later : List (List ℕ)) (refused : ℕ) 
   pub sum : refused ≡ before + after
   pub text_is : text ≡ shown ++ rest
 
-pub parted : (first later : List (List ℕ)) (old : State) (refused : ℕ) (text : List ℕ) (new : State) → Plays old (first ++ later) refused text new → Parted old first later refused text new
+pub parted : (first later : List (List ℕ)) (old : Stage) (refused : ℕ) (text : List ℕ) (new : Stage) → Plays old (first ++ later) refused text new → Parted old first later refused text new
 parted [] later old refused text new p =
     record { mid = old; before = 0; after = refused; shown = []; rest = text; plays = (refl, refl, refl); next = p; sum = omega arith; text_is = refl }
 parted (line ∷ lines) later old refused text new (fits, said, says, mid, here, count, shown, rest, plays, sum, text_is, next) =

@@ -6,8 +6,8 @@ use Rattle.mq_machine.specs.declared.line.Line.{Line}
 use Rattle.mq_machine.specs.declared.line.Line.TheVariants as line
 use Rattle.mq_machine.specs.Line.{Says, SaysOne}
 use Rattle.mq_machine.specs.Text.{note_line, bad_line}
-use Rattle.mq_machine.specs.State.{State, start}
-use Rattle.mq_machine.specs.Play.{Runs, LinePlays, Plays, text_of, AreLines, IsScript, with_tail, EndsLine, HasFront, HasBad, IsPlayed, IsPlayedPart, RunsPart, LinePart, StopsIn, IsFrontOf}
+use Rattle.mq_machine.specs.State.{State}
+use Rattle.mq_machine.specs.Play.{Runs, Stage, opening, opened, LinePlays, Plays, text_of, AreLines, IsScript, with_tail, EndsLine, HasFront, HasBad, IsPlayed, IsPlayedPart, RunsPart, LinePart, StopsIn, IsFrontOf}
 use Rattle.mq_plays.specs.Parts.{AreShown, IsLineShown, IsAllShown}
 use Rattle.mq_plays.proofs.Requests.{Known}
 use Rattle.mq_plays.proofs.Cuts.{line_text, compare, none_more}
@@ -15,7 +15,7 @@ use Rattle.mq_plays.proofs.Counts.{parted}
 use Rattle.mq_plays.proofs.Bads.{front_within, whole_front}
 use Rattle.mq_plays.proofs.Ends.{tail_more, played_has_no_bad}
 use Rattle.mq_plays.proofs.Turns.{one_actor_turn, turn_not_quiet}
-use Rattle.mq_plays.proofs.Single.{IsSingle, settles, turn_single, plays_single, start_single}
+use Rattle.mq_plays.proofs.Single.{IsSingle, settles, turn_single, OpensSingle, plays_single, opening_single}
 use Rattle.mq_plays.proofs.Plays.{one_lines}
 
 -- ---- fronts
@@ -62,29 +62,30 @@ runs_front known (suc n) actor s a b t one (inr (inr (inr (quiet, is)))) shown y
       | inr (inr (quiet', none, is', same)) ↦ same_front a b (is ∙ sym is')
     ]
 
-line_front : Known → (said : Line) (s : State) (a b : List ℕ) (t : State) → IsSingle s → (x : LinePart s said a) → IsLineShown s said a x → LinePlays s said 0 b t → IsFrontOf a b
+line_front : Known → (said : Line) (s : Stage) (a b : List ℕ) (t : Stage) → OpensSingle s → (x : LinePart s said a) → IsLineShown s said a x → LinePlays s said 0 b t → IsFrontOf a b
 line_front known line.Blank s a b t one x shown y = none_front a b x
+line_front known (line.Setting setting) s a b t one x shown y = none_front a b x
 line_front known (line.Conn worker) s a b t one x shown y = none_front a b x
 line_front known (line.Piece conn bytes) s a b t one x shown y = none_front a b x
-line_front known (line.Steps actor count) s a b t one x shown y = runs_front known count actor s a b t one x.1 shown y.1
+line_front known (line.Steps actor count) s a b t one x shown y = runs_front known count actor (opened s) a b y.1 one x.1 shown y.2
 
 -- The rest of a play, behind its first lines.
-pub record Rest (state : State) (lines : List (List ℕ)) (text whole : List ℕ) : Type 0 where
+pub record Rest (state : Stage) (lines : List (List ℕ)) (text whole : List ℕ) : Type 0 where
   pub more : List ℕ
   pub refused : ℕ
-  pub new : State
+  pub new : Stage
   pub none : refused ≡ 0
   pub plays : Plays state lines refused more new
   pub is : whole ≡ text ++ more
 
-pub rest_of : Known → SaysOne → (before rest : List (List ℕ)) (r q : ℕ) (text whole : List ℕ) (state new : State) → r ≡ 0 → q ≡ 0 → Plays start before r text state → Plays start (before ++ rest) q whole new
+pub rest_of : Known → SaysOne → (before rest : List (List ℕ)) (r q : ℕ) (text whole : List ℕ) (state new : Stage) → r ≡ 0 → q ≡ 0 → Plays opening before r text state → Plays opening (before ++ rest) q whole new
     → Rest state rest text whole
 rest_of known says before rest r q text whole state new none zero_too x y =
-    let parts = parted before rest start q whole new y in
+    let parts = parted before rest opening q whole new y in
     let sum = parts.sum in
     let none_before : parts.before ≡ 0 = omega arith in
-    let same = one_lines known says before start r parts.before text parts.shown state parts.mid start_single none none_before x parts.plays in
-    let P : State → Type 0 = λ s. Plays s rest parts.after parts.rest new in
+    let same = one_lines known says before opening r parts.before text parts.shown state parts.mid opening_single none none_before x parts.plays in
+    let P : Stage → Type 0 = λ s. Plays s rest parts.after parts.rest new in
     record {
       more = parts.rest;
       refused = parts.after;
@@ -95,7 +96,7 @@ rest_of known says before rest r q text whole state new none zero_too x y =
     }
 
 -- the line that was cut off is the next one of the play
-pub cut_front : Known → SaysOne → (bytes : List ℕ) (lines : List (List ℕ)) (said : Line) (state : State) (text part whole : List ℕ) → IsSingle state → Says bytes said
+pub cut_front : Known → SaysOne → (bytes : List ℕ) (lines : List (List ℕ)) (said : Line) (state : Stage) (text part whole : List ℕ) → OpensSingle state → Says bytes said
     → (x : LinePart state said part) → IsLineShown state said part x → Rest state (bytes ∷ lines) text whole → IsFrontOf (text ++ part) whole
 cut_front known says bytes lines said state text part whole one told x shown rest =
     let p = rest.plays in
@@ -162,7 +163,7 @@ next_line (m ∷ ms) (c ∷ cs) front more are p q ends e =
     inr (ms ++ (c ∷ cs) ∷ [], ap (λ (line : List ℕ). line ∷ (ms ++ (c ∷ cs) ∷ [])) same)
 
 -- an empty line prints nothing
-empty_part : SaysOne → (bytes : List ℕ) (said : Line) (state : State) (part : List ℕ) → bytes ≡ [] → Says bytes said → LinePart state said part → part ≡ []
+empty_part : SaysOne → (bytes : List ℕ) (said : Line) (state : Stage) (part : List ℕ) → bytes ≡ [] → Says bytes said → LinePart state said part → part ≡ []
 empty_part says bytes said state part none told x =
     let P : List ℕ → Type 0 = λ xs. Says xs said in
     let Q : Line → Type 0 = λ l. LinePart state l part in
@@ -176,9 +177,9 @@ stopped_front : Known → SaysOne → (script out whole : List ℕ) (p : IsPlaye
     → p.refused ≡ 0 → q.refused ≡ 0 → IsLineShown p.state s.said p.part s.part → IsFrontOf (p.text ++ p.part) whole
 stopped_front known says script out whole p q s none zero_too shown =
     let w = within known.cut script p.before q.lines s.line q.tail q.script_is s.has.has in
-    let P : List (List ℕ) → Type 0 = λ ls. Plays start ls q.refused whole q.new in
+    let P : List (List ℕ) → Type 0 = λ ls. Plays opening ls q.refused whole q.new in
     let rest = rest_of known says p.before (with_tail w.later q.tail) p.refused q.refused p.text whole p.state q.new none zero_too p.plays (subst P w.is q.plays) in
-    let one = plays_single known p.before start p.refused p.text p.state p.plays start_single in
+    let one = plays_single known p.before opening p.refused p.text p.state p.plays opening_single in
     elim (next_line w.later q.tail s.line s.has.has.more w.are q.script_is.tail_is s.has.has.front_is s.has.ends w.bytes) [
       | inl empty ↦ text_front p.text p.part whole (empty_part says s.line s.said p.state p.part empty s.says s.part) (rest.more, rest.is)
       | inr (lines, is) ↦ (
@@ -192,12 +193,12 @@ between_front : Known → SaysOne → (script out whole : List ℕ) (p : IsPlaye
     → p.refused ≡ 0 → q.refused ≡ 0 → IsFrontOf (p.text ++ p.part) whole
 between_front known says script out whole p q f nothing none zero_too =
     let w = within known.cut script p.before q.lines [] q.tail q.script_is f in
-    let P : List (List ℕ) → Type 0 = λ ls. Plays start ls q.refused whole q.new in
+    let P : List (List ℕ) → Type 0 = λ ls. Plays opening ls q.refused whole q.new in
     let rest = rest_of known says p.before (with_tail w.later q.tail) p.refused q.refused p.text whole p.state q.new none zero_too p.plays (subst P w.is q.plays) in
     text_front p.text p.part whole nothing (rest.more, rest.is)
 
 -- where and how it stopped
-abbrev pub Stop : (script : List ℕ) (before : List (List ℕ)) (state : State) (part : List ℕ) → Type 0
+abbrev pub Stop : (script : List ℕ) (before : List (List ℕ)) (state : Stage) (part : List ℕ) → Type 0
 Stop script before state part = (HasFront script before [] × (part ≡ [])) ⊎ (StopsIn script before state part ⊎ (HasBad script before state × (part ≡ bad_line (length before + 1))))
 
 by_stop : Known → SaysOne → (script out whole : List ℕ) (p : IsPlayedPart script out) (q : IsPlayed script whole) → (stop : Stop script p.before p.state p.part) → p.stops ≡ stop → IsAllShown script out p → q.refused ≡ 0 → IsFrontOf (p.text ++ p.part) whole

@@ -6,14 +6,13 @@ use Rattle.mq_machine.specs.declared.line.Line.{Line}
 use Rattle.mq_machine.specs.declared.line.Line.TheVariants as line
 use Rattle.mq_machine.specs.Line.{Says, SaysOne}
 use Rattle.mq_machine.specs.Text.{bad_line}
-use Rattle.mq_machine.specs.State.{State, start}
-use Rattle.mq_machine.specs.Play.{Plays, text_of, AreLines, HasFront, HasLine, HasBad, IsPlayed, IsPlayedSoFar, IsPlayedBad, IsPlayedPart, LinePart, StopsIn, IsFrontOf}
+use Rattle.mq_machine.specs.Play.{Stage, opening, Plays, text_of, AreLines, HasFront, HasLine, HasBad, IsPlayed, IsPlayedSoFar, IsPlayedBad, IsPlayedPart, LinePart, StopsIn, IsFrontOf}
 use Rattle.mq_plays.specs.Parts.{IsLineShown, IsAllShown}
 use Rattle.mq_plays.proofs.Requests.{Known}
 use Rattle.mq_plays.proofs.Cuts.{line_text, compare}
 use Rattle.mq_plays.proofs.Bads.{not_bad}
 use Rattle.mq_plays.proofs.Ends.{front_of_bad, same_before}
-use Rattle.mq_plays.proofs.Single.{plays_single, start_single}
+use Rattle.mq_plays.proofs.Single.{plays_single, opening_single}
 use Rattle.mq_plays.proofs.Plays.{one_lines, one_bad}
 use Rattle.mq_plays.proofs.Parts.{rest_of, cut_front, text_front, front_on, front_more, same_front, same_whole, Stop, part_front}
 
@@ -25,7 +24,7 @@ record Before (script : List ℕ) (before : List (List ℕ)) (front more : List 
   bytes : front ++ more ≡ text_of later ++ rest
   are : AreLines later
 
-before_bad : IsCutOnce → SaysOne → (script : List ℕ) (before lines : List (List ℕ)) (front : List ℕ) (r q : ℕ) (a b : List ℕ) (s t : State) → Plays start before r a s → Plays start lines q b t
+before_bad : IsCutOnce → SaysOne → (script : List ℕ) (before lines : List (List ℕ)) (front : List ℕ) (r q : ℕ) (a b : List ℕ) (s t : Stage) → Plays opening before r a s → Plays opening lines q b t
     → (f : HasFront script before front) → HasBad script lines t → Before script before front f.more lines
 before_bad once says script before lines front r q a b s t x y f bad =
     let g = front_of_bad script lines t bad in
@@ -39,9 +38,10 @@ before_bad once says script before lines front r q a b s t x y f bad =
     ]
 
 -- what is good here prints no part, but steps
-no_part : SaysOne → (script : List ℕ) (before : List (List ℕ)) (bytes : List ℕ) (said : Line) (state : State) (part : List ℕ) → HasLine script before bytes → Says bytes said → LinePart state said part → HasBad script before state
+no_part : SaysOne → (script : List ℕ) (before : List (List ℕ)) (bytes : List ℕ) (said : Line) (state : Stage) (part : List ℕ) → HasLine script before bytes → Says bytes said → LinePart state said part → HasBad script before state
     → part ≡ []
 no_part says script before bytes line.Blank state part l told x bad = x
+no_part says script before bytes (line.Setting setting) state part l told x bad = x
 no_part says script before bytes (line.Conn worker) state part l told x bad = x
 no_part says script before bytes (line.Piece conn piece) state part l told x bad = x
 no_part says script before bytes (line.Steps actor count) state part l told x bad =
@@ -56,25 +56,25 @@ stopped_front known says script out whole p q s none zero_too shown =
   where
     go : (later : List (List ℕ)) → q.before ≡ p.before ++ later → (rest : List ℕ) → s.line ++ s.has.has.more ≡ text_of later ++ rest → AreLines later → IsFrontOf (p.text ++ p.part) q.text
     go [] is rest bytes are =
-        let P : List (List ℕ) → Type 0 = λ ls. Plays start ls q.refused q.text q.state in
-        let same = one_lines known says p.before start p.refused q.refused p.text q.text p.state q.state start_single none zero_too p.plays (subst P (is ∙ append-nil p.before) q.plays) in
+        let P : List (List ℕ) → Type 0 = λ ls. Plays opening ls q.refused q.text q.state in
+        let same = one_lines known says p.before opening p.refused q.refused p.text q.text p.state q.state opening_single none zero_too p.plays (subst P (is ∙ append-nil p.before) q.plays) in
         let Q : List (List ℕ) → Type 0 = λ ls. HasBad script ls q.state in
-        let R : State → Type 0 = λ t. HasBad script p.before t in
+        let R : Stage → Type 0 = λ t. HasBad script p.before t in
         let bad = subst R (sym same.1) (subst Q (is ∙ append-nil p.before) q.bad) in
         text_front p.text p.part q.text (no_part says script p.before s.line s.said p.state p.part s.has s.says s.part bad) (same_front p.text q.text same.0)
     go (m ∷ ms) is rest bytes are =
-        let P : List (List ℕ) → Type 0 = λ ls. Plays start ls q.refused q.text q.state in
+        let P : List (List ℕ) → Type 0 = λ ls. Plays opening ls q.refused q.text q.state in
         let line_is = same_whole s.line s.has.has.more m (10 ∷ (text_of ms ++ rest)) s.has.has.front_is are.0 s.has.ends refl (bytes ∙ line_text m ms rest) in
-        let R : List ℕ → Type 0 = λ l. Plays start (p.before ++ l ∷ ms) q.refused q.text q.state in
+        let R : List ℕ → Type 0 = λ l. Plays opening (p.before ++ l ∷ ms) q.refused q.text q.state in
         let behind = rest_of known says p.before (s.line ∷ ms) p.refused q.refused p.text q.text p.state q.state none zero_too p.plays (subst R line_is (subst P is q.plays)) in
-        cut_front known says s.line ms s.said p.state p.text p.part q.text (plays_single known p.before start p.refused p.text p.state p.plays start_single) s.says s.part shown behind
+        cut_front known says s.line ms s.said p.state p.text p.part q.text (plays_single known p.before opening p.refused p.text p.state p.plays opening_single) s.says s.part shown behind
 
 -- the play that stopped between two lines
 between_front : Known → SaysOne → (script out whole : List ℕ) (p : IsPlayedPart script out) (q : IsPlayedBad script whole) → HasFront script p.before [] → p.part ≡ []
     → p.refused ≡ 0 → q.refused ≡ 0 → IsFrontOf (p.text ++ p.part) q.text
 between_front known says script out whole p q f nothing none zero_too =
     let w = before_bad known.cut says script p.before q.before [] p.refused q.refused p.text q.text p.state q.state p.plays q.plays f q.bad in
-    let P : List (List ℕ) → Type 0 = λ ls. Plays start ls q.refused q.text q.state in
+    let P : List (List ℕ) → Type 0 = λ ls. Plays opening ls q.refused q.text q.state in
     let rest = rest_of known says p.before w.later p.refused q.refused p.text q.text p.state q.state none zero_too p.plays (subst P w.is q.plays) in
     text_front p.text p.part q.text nothing (rest.more, rest.is)
 

@@ -5,15 +5,16 @@ use Rattle.mq_machine.specs.declared.line.Line.{Line}
 use Rattle.mq_machine.specs.declared.line.Line.TheVariants as line
 use Rattle.mq_machine.specs.Line.{SaysOne}
 use Rattle.mq_machine.specs.Text.{note_line, bad_line}
-use Rattle.mq_machine.specs.State.{Offer, Held, Worker, State, start}
-use Rattle.mq_machine.specs.Play.{OffersLink, with_piece, ArrivesOffered, ArrivesHeld, ArrivesLate, Arrives, Runs, LinePlays, Plays, with_tail, IsPlayed, IsPlayedSoFar, IsPlayedBad}
+use Rattle.mq_machine.specs.declared.setting.SettingLine.{SettingLine}
+use Rattle.mq_machine.specs.State.{Offer, Held, Worker, State}
+use Rattle.mq_machine.specs.Play.{OffersLink, with_piece, ArrivesOffered, ArrivesHeld, ArrivesLate, Arrives, Runs, Stage, Settings, Running, opening, opened, Sets, LinePlays, Plays, with_tail, IsPlayed, IsPlayedSoFar, IsPlayedBad}
 use Rattle.mq_plays.proofs.Requests.{Known}
 use Rattle.mq_plays.proofs.Bads.{at_within}
 use Rattle.mq_plays.proofs.Cuts.{one_script}
 use Rattle.mq_plays.proofs.Ends.{one_before}
 use Rattle.mq_plays.proofs.Wanting.{some_same}
 use Rattle.mq_plays.proofs.Turns.{one_actor_turn, turn_not_quiet}
-use Rattle.mq_plays.proofs.Single.{IsSingle, get_only, get_one, settles, turn_single, line_single, start_single}
+use Rattle.mq_plays.proofs.Single.{IsSingle, get_only, get_one, settles, turn_single, OpensSingle, line_single, opening_single}
 
 -- ---- steps
 
@@ -127,13 +128,23 @@ one_arrival s number bytes t u one x y =
 
 -- ---- lines
 
-one_line : Known → (said : Line) (s : State) (a b : List ℕ) (t u : State) → IsSingle s → LinePlays s said 0 a t → LinePlays s said 0 b u → (a ≡ b) × (t ≡ u)
-one_line known line.Blank s a b t u one x y = (x.2 ∙ sym y.2, x.0 ∙ sym y.0)
-one_line known (line.Conn worker) s a b t u one x y = (x.2 ∙ sym y.2, one_offer s t u worker x.0.1 y.0.1)
-one_line known (line.Piece conn bytes) s a b t u one x y = (x.2 ∙ sym y.2, one_arrival s conn bytes t u one x.0.1 y.0.1)
-one_line known (line.Steps actor count) s a b t u one x y = one_runs known count actor s a b t u one x.1 y.1
+one_set : (said : SettingLine) (s t u : Stage) → Sets s said t → Sets s said u → t ≡ u
+one_set said (Settings lines) t u x y = x.1 ∙ sym y.1
+one_set said (Running s) t u x y = absurd x
 
-pub one_lines : Known → SaysOne → (lines : List (List ℕ)) (s : State) (r q : ℕ) (a b : List ℕ) (t u : State) → IsSingle s → r ≡ 0 → q ≡ 0 → Plays s lines r a t → Plays s lines q b u → (a ≡ b) × (t ≡ u)
+same_running : (t u : Stage) (v w : State) → t ≡ Running v → u ≡ Running w → v ≡ w → t ≡ u
+same_running t u v w x y same = x ∙ ap (λ (s : State). Running s) same ∙ sym y
+
+one_line : Known → (said : Line) (s : Stage) (a b : List ℕ) (t u : Stage) → OpensSingle s → LinePlays s said 0 a t → LinePlays s said 0 b u → (a ≡ b) × (t ≡ u)
+one_line known line.Blank s a b t u one x y = (x.2 ∙ sym y.2, x.0 ∙ sym y.0)
+one_line known (line.Setting said) s a b t u one x y = (x.2 ∙ sym y.2, one_set said s t u x.0 y.0)
+one_line known (line.Conn worker) s a b t u one x y = (x.4 ∙ sym y.4, same_running t u x.0 y.0 x.2 y.2 (one_offer (opened s) x.0 y.0 worker x.1.1 y.1.1))
+one_line known (line.Piece conn bytes) s a b t u one x y = (x.4 ∙ sym y.4, same_running t u x.0 y.0 x.2 y.2 (one_arrival (opened s) conn bytes x.0 y.0 one x.1.1 y.1.1))
+one_line known (line.Steps actor count) s a b t u one x y =
+    let same = one_runs known count actor (opened s) a b x.1 y.1 one x.2 y.2 in
+    (same.0, same_running t u x.1 y.1 x.3 y.3 same.1)
+
+pub one_lines : Known → SaysOne → (lines : List (List ℕ)) (s : Stage) (r q : ℕ) (a b : List ℕ) (t u : Stage) → OpensSingle s → r ≡ 0 → q ≡ 0 → Plays s lines r a t → Plays s lines q b u → (a ≡ b) × (t ≡ u)
 one_lines known says [] s r q a b t u one none zero_too x y = (x.1 ∙ sym y.1, x.2 ∙ sym y.2)
 one_lines known says (first ∷ lines) s r q a b t u one none zero_too (fits, said, told, mid, here, later, shown, rest, plays, sum, is, next) (fits', said', told', mid', here', later', shown', rest', plays', sum', is', next') =
     let P : ℕ → Type 0 = λ n. LinePlays s said n shown mid in
@@ -144,18 +155,18 @@ one_lines known says (first ∷ lines) s r q a b t u one none zero_too (fits, sa
     let x = subst P none_here plays in
     let y = subst Q none_now (subst R (says first said' said told' told) plays') in
     let same = one_line known said s shown shown' mid mid' one x y in
-    let S : State → Type 0 = λ m. Plays m lines later' rest' u in
+    let S : Stage → Type 0 = λ m. Plays m lines later' rest' u in
     let none_later : later ≡ 0 = omega arith in
     let none_there : later' ≡ 0 = omega arith in
-    let behind = one_lines known says lines mid later later' rest rest' t u (line_single known said s here shown mid plays one) none_later none_there next (subst S (sym same.1) next') in
+    let behind = one_lines known says lines mid later later' rest rest' t u (line_single known first said s here shown mid told plays one) none_later none_there next (subst S (sym same.1) next') in
     (is ∙ ap (λ (xs : List ℕ). xs ++ rest) same.0 ∙ ap (λ (xs : List ℕ). shown' ++ xs) behind.0 ∙ sym is', behind.1)
 
 -- ---- scripts
 
-same_lines : Known → SaysOne → (lines others : List (List ℕ)) (r q : ℕ) (a b : List ℕ) (t u : State) → others ≡ lines → r ≡ 0 → q ≡ 0 → Plays start lines r a t → Plays start others q b u → a ≡ b
+same_lines : Known → SaysOne → (lines others : List (List ℕ)) (r q : ℕ) (a b : List ℕ) (t u : Stage) → others ≡ lines → r ≡ 0 → q ≡ 0 → Plays opening lines r a t → Plays opening others q b u → a ≡ b
 same_lines known says lines others r q a b t u is none zero_too x y =
-    let P : List (List ℕ) → Type 0 = λ ls. Plays start ls q b u in
-    (one_lines known says lines start r q a b t u start_single none zero_too x (subst P is y)).0
+    let P : List (List ℕ) → Type 0 = λ ls. Plays opening ls q b u in
+    (one_lines known says lines opening r q a b t u opening_single none zero_too x (subst P is y)).0
 
 pub one_played : Known → SaysOne → (script a b : List ℕ) (p : IsPlayed script a) (q : IsPlayed script b) → p.refused ≡ 0 → q.refused ≡ 0 → a ≡ b
 one_played known says script a b p q none zero_too =

@@ -1,11 +1,14 @@
 -- The setup of a play: its template is one that a text tells, and no turn changes it.
-use Rattle.std.proofs.Common.{◌≡◌, ℕ, codes, refl, sym, ap, subst, ◌∙◌, inl, inr}
+use Rattle.std.proofs.Common.{◌≡◌, ℕ, List, [], ◌∷◌, ◌++◌, codes, refl, sym, ap, subst, ◌∙◌, inl, inr}
 use Rattle.mq_addr.specs.declared.kind.Kind.TheVariants as kind
 use Rattle.mq_talk.specs.declared.note.Note.{Note}
 use Rattle.mq_target.specs.Classes.{is_name_byte, is_unreserved, is_literal, is_delimiter}
 use Rattle.mq_target.specs.Template.{target_name, detail_name, IsPlain, well_known}
 use Rattle.mq_machine.specs.declared.setup.Setup.{Setup}
 use Rattle.mq_machine.specs.Setup.{plain_setup}
+use Rattle.mq_machine.specs.declared.setting.SettingLine.{SettingLine}
+use Rattle.mq_machine.specs.declared.setting.SettingLine.TheVariants as setting
+use Rattle.mq_machine.specs.Setting.{SaysSetting, with_setting, with_settings, setup_of}
 use Rattle.mq_machine.specs.State.{Held, Worker, Shared, State}
 use Rattle.mq_machine.specs.Next.{HeldNext, Try, Want, Write, Read, Seat, Offers, Of, SeatNext, Turn}
 use Rattle.mq_plays.specs.Setups.{IsTold}
@@ -26,6 +29,23 @@ plain_told = record { text = codes "/.well-known/masque/udp/{target_host}/{targe
 
 pub same_told : (old new : Setup) → new ≡ old → IsTold old → IsTold new
 same_told old new same told = subst IsTold (sym same) told
+
+-- ---- settings
+
+-- the last setting is told last
+with_last : (setup : Setup) (lines : List SettingLine) (said : SettingLine) → with_settings setup (lines ++ said ∷ []) ≡ with_setting (with_settings setup lines) said
+with_last setup [] said = refl
+with_last setup (line ∷ lines) said = with_last (with_setting setup line) lines said
+
+-- a line sets a template that its text tells, or keeps the one that is set
+setting_told : (line : List ℕ) (said : SettingLine) (setup : Setup) → SaysSetting line said → IsTold setup → IsTold (with_setting setup said)
+setting_told line (setting.Template kind.Udp shape) setup says told = record { text = says.0; is = says.1 }
+setting_told line (setting.Template kind.Ip shape) setup says told = told
+setting_told line (setting.Name name addr) setup says told = record { text = told.text; is = told.is }
+setting_told line (setting.Rule rule) setup says told = record { text = told.text; is = told.is }
+
+pub more_told : (line : List ℕ) (lines : List SettingLine) (said : SettingLine) → SaysSetting line said → IsTold (setup_of lines) → IsTold (setup_of (lines ++ said ∷ []))
+more_told line lines said says told = subst IsTold (sym (with_last plain_setup lines said)) (setting_told line said (setup_of lines) says told)
 
 -- ---- what is shared keeps its setup
 

@@ -4,14 +4,18 @@ use Rattle.std.proofs.lemmas.List.{length-append}
 use Rattle.mq_talk.specs.declared.note.Note.{Note}
 use Rattle.mq_machine.specs.declared.line.Line.{Line}
 use Rattle.mq_machine.specs.declared.line.Line.TheVariants as line
+use Rattle.mq_machine.specs.declared.setting.SettingLine.{SettingLine}
 use Rattle.mq_machine.specs.declared.setup.Setup.{Setup}
-use Rattle.mq_machine.specs.State.{new_conn, Offer, Held, Worker, Shared, State, start}
+use Rattle.mq_machine.specs.Line.{Says}
+use Rattle.mq_machine.specs.Setting.{SaysSetting, setup_of}
+use Rattle.mq_machine.specs.Setup.{plain_setup}
+use Rattle.mq_machine.specs.State.{new_conn, Offer, Held, Worker, Shared, State, start_with}
 use Rattle.mq_machine.specs.ConnNext.{starved}
 use Rattle.mq_machine.specs.Next.{HeldNext, OfNext, Try, Want, Write, Read, Seat, Offers, Of, SeatNext, WorkerStarves, Turn, SilentTurn}
-use Rattle.mq_machine.specs.Play.{OffersLink, with_piece, Arrives, Runs, LinePlays, Plays}
+use Rattle.mq_machine.specs.Play.{OffersLink, with_piece, Arrives, Runs, Stage, Settings, Running, opening, opened, Sets, LinePlays, Plays}
 use Rattle.mq_plays.specs.Setups.{IsTold}
 use Rattle.mq_plays.proofs.Requests.{Known}
-use Rattle.mq_plays.proofs.Setups.{plain_told, same_told, turn_keeps}
+use Rattle.mq_plays.proofs.Setups.{plain_told, more_told, same_told, turn_keeps}
 use Rattle.mq_plays.proofs.Counts.{set_length}
 use Rattle.mq_plays.proofs.Opening.{IsOne, new_one, want_one, wrote_one, took_one, starved_one, remove_length}
 use Rattle.mq_plays.proofs.Wanting.{some_same}
@@ -236,25 +240,45 @@ arrives_single s t number bytes x one =
       | inr (inr l) ↦ same_single s t l.new_is one
     ]
 
-pub line_single : Known → (said : Line) (s : State) (refused : ℕ) (text : List ℕ) (t : State) → LinePlays s said refused text t → IsSingle s → IsSingle t
-line_single known line.Blank s refused text t x one = same_single s t x.0 one
-line_single known (line.Conn worker) s refused text t x one = offers_single s t worker x.0.0 x.0.1 one
-line_single known (line.Piece conn bytes) s refused text t x one = arrives_single s t conn bytes x.0.1 one
-line_single known (line.Steps actor count) s refused text t x one = runs_single known count actor refused s text t x.1 one
+-- ---- a script
 
-pub plays_single : Known → (lines : List (List ℕ)) (s : State) (refused : ℕ) (text : List ℕ) (t : State) → Plays s lines refused text t → IsSingle s → IsSingle t
-plays_single known [] s refused text t x one = same_single s t x.2 one
-plays_single known (first ∷ lines) s refused text t (fits, said, says, mid, here, later, shown, rest, plays, sum, is, next) one =
-    plays_single known lines mid later rest t next (line_single known said s here shown mid plays one)
-
-pub start_single : IsSingle start
-start_single = record {
-  told = plain_told;
+start_single : (setup : Setup) → IsTold setup → IsSingle (start_with setup)
+start_single setup told = record {
+  told = told;
   w = record { id = 0; offered = []; conns = []; next_seat = 0 };
   workers = refl;
   links = omega arith;
   holds = record { few = omega arith; conns = λ i h at. absurd (get_none i h at) };
 }
+
+-- the state from which a line that is no setting goes on is so
+abbrev pub OpensSingle : Stage → Type 0
+OpensSingle s = IsSingle (opened s)
+
+pub opening_single : OpensSingle opening
+opening_single = start_single plain_setup plain_told
+
+single_at : (s t : Stage) → t ≡ s → OpensSingle s → OpensSingle t
+single_at s t is one = let P : Stage → Type 0 = λ u. OpensSingle u in subst P (sym is) one
+
+sets_single : (bytes : List ℕ) (said : SettingLine) (s t : Stage) → SaysSetting bytes said → Sets s said t → OpensSingle s → OpensSingle t
+sets_single bytes said (Settings lines) t says x one =
+    let told : IsTold (setup_of lines) = one.told in
+    let more = lines ++ said ∷ [] in
+    single_at (Settings more) t x.1 (start_single (setup_of more) (more_told bytes lines said says told))
+sets_single bytes said (Running s) t says x one = absurd x
+
+pub line_single : Known → (bytes : List ℕ) (said : Line) (s : Stage) (refused : ℕ) (text : List ℕ) (t : Stage) → Says bytes said → LinePlays s said refused text t → OpensSingle s → OpensSingle t
+line_single known bytes line.Blank s refused text t says x one = single_at s t x.0 one
+line_single known bytes (line.Setting said) s refused text t says x one = sets_single bytes said s t says x.0 one
+line_single known bytes (line.Conn worker) s refused text t says x one = single_at (Running x.0) t x.2 (offers_single (opened s) x.0 worker x.1.0 x.1.1 one)
+line_single known bytes (line.Piece conn piece) s refused text t says x one = single_at (Running x.0) t x.2 (arrives_single (opened s) x.0 conn piece x.1.1 one)
+line_single known bytes (line.Steps actor count) s refused text t says x one = single_at (Running x.1) t x.3 (runs_single known count actor refused (opened s) text x.1 x.2 one)
+
+pub plays_single : Known → (lines : List (List ℕ)) (s : Stage) (refused : ℕ) (text : List ℕ) (t : Stage) → Plays s lines refused text t → OpensSingle s → OpensSingle t
+plays_single known [] s refused text t x one = single_at s t x.2 one
+plays_single known (first ∷ lines) s refused text t (fits, said, says, mid, here, later, shown, rest, plays, sum, is, next) one =
+    plays_single known lines mid later rest t next (line_single known first said s here shown mid says plays one)
 
 -- its one worker is settled
 pub settles : (s : State) (actor : ℕ) (w : Worker) → IsSingle s → slice_get s.workers actor ≡ Some w → Settled s.shared.setup w

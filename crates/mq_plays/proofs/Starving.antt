@@ -8,10 +8,11 @@ use Rattle.mq_talk.specs.declared.note.Note.TheVariants.{Accepted, Took, Ported,
 use Rattle.mq_talk.specs.declared.note.Why.TheVariants as why
 use Rattle.mq_machine.specs.declared.line.Line.{Line}
 use Rattle.mq_machine.specs.declared.line.Line.TheVariants as line
-use Rattle.mq_machine.specs.State.{Conn, new_conn, Offer, Held, Worker, Shared, State, start}
+use Rattle.mq_machine.specs.declared.setting.SettingLine.{SettingLine}
+use Rattle.mq_machine.specs.State.{Conn, new_conn, Offer, Held, Worker, Shared, State}
 use Rattle.mq_machine.specs.ConnNext.{WantNext, starved}
 use Rattle.mq_machine.specs.Next.{HeldNext, OfNext, Try, Want, Write, Read, Seat, Offers, Of, SeatNext, WorkerStarves}
-use Rattle.mq_machine.specs.Play.{OffersLink, with_piece, Arrives, Runs, LinePlays, Plays}
+use Rattle.mq_machine.specs.Play.{OffersLink, with_piece, Arrives, Runs, Stage, Settings, Running, opening, opened, Sets, LinePlays, Plays}
 use Rattle.mq_plays.proofs.Counts.{set_length}
 use Rattle.mq_plays.proofs.Turns.{reads, writes, accepts, ends_or_goes}
 
@@ -186,21 +187,43 @@ offers_bounds before s worker t x bounds =
     let links : t.links ≡ s.links + 1 = ap (λ (u : State). u.links) x.new_is in
     omega arith
 
-line_bounds : (said : Line) (before refused : ℕ) (s : State) (text : List ℕ) (t : State) → LinePlays s said refused text t → Bounds before s → Bounds (before + refused) t
-line_bounds line.Blank before refused s text t x bounds = let none = x.1 in let here = same_bounds before s t x.0 bounds in omega arith
-line_bounds (line.Conn worker) before refused s text t x bounds = let none = x.1 in let here = offers_bounds before s worker t x.0.1 bounds in omega arith
-line_bounds (line.Piece conn bytes) before refused s text t x bounds = let none = x.1 in let here = arrives_bounds before s conn bytes t x.0.1 bounds in omega arith
-line_bounds (line.Steps actor count) before refused s text t x bounds = runs_bounds count actor refused before s text t x.1 bounds
+-- the same where the machine begins at the first line that is no setting
+abbrev StageBounds : ℕ → Stage → Type 0
+StageBounds refused s = Bounds refused (opened s)
 
-plays_bounds : (lines : List (List ℕ)) (before refused : ℕ) (s : State) (text : List ℕ) (t : State) → Plays s lines refused text t → Bounds before s → Bounds (before + refused) t
-plays_bounds [] before refused s text t x bounds = let none = x.0 in let here = same_bounds before s t x.2 bounds in omega arith
+stage_bounds_at : (refused : ℕ) (s t : Stage) → t ≡ s → StageBounds refused s → StageBounds refused t
+stage_bounds_at refused s t is bounds = let P : Stage → Type 0 = λ u. StageBounds refused u in subst P (sym is) bounds
+
+sets_bounds : (said : SettingLine) (before : ℕ) (s t : Stage) → Sets s said t → StageBounds before s → StageBounds before t
+sets_bounds said before (Settings lines) t x bounds =
+    let next : Stage = Settings (lines ++ said ∷ []) in
+    let still : StageBounds before next = omega arith in
+    stage_bounds_at before next t x.1 still
+sets_bounds said before (Running s) t x bounds = absurd x
+
+line_bounds : (said : Line) (before refused : ℕ) (s : Stage) (text : List ℕ) (t : Stage) → LinePlays s said refused text t → StageBounds before s → StageBounds (before + refused) t
+line_bounds line.Blank before refused s text t x bounds = let none = x.1 in let here = stage_bounds_at before s t x.0 bounds in omega arith
+line_bounds (line.Setting said) before refused s text t x bounds = let none = x.1 in let here = sets_bounds said before s t x.0 bounds in omega arith
+line_bounds (line.Conn worker) before refused s text t x bounds =
+    let none = x.3 in
+    let here = stage_bounds_at before (Running x.0) t x.2 (offers_bounds before (opened s) worker x.0 x.1.1 bounds) in
+    omega arith
+line_bounds (line.Piece conn bytes) before refused s text t x bounds =
+    let none = x.3 in
+    let here = stage_bounds_at before (Running x.0) t x.2 (arrives_bounds before (opened s) conn bytes x.0 x.1.1 bounds) in
+    omega arith
+line_bounds (line.Steps actor count) before refused s text t x bounds =
+    stage_bounds_at (before + refused) (Running x.1) t x.3 (runs_bounds count actor refused before (opened s) text x.1 x.2 bounds)
+
+plays_bounds : (lines : List (List ℕ)) (before refused : ℕ) (s : Stage) (text : List ℕ) (t : Stage) → Plays s lines refused text t → StageBounds before s → StageBounds (before + refused) t
+plays_bounds [] before refused s text t x bounds = let none = x.0 in let here = stage_bounds_at before s t x.2 bounds in omega arith
 plays_bounds (first ∷ lines) before refused s text t (fits, said, says, mid, here, later, shown, rest, plays, sum, is, next) bounds =
     let now = line_bounds said before here s shown mid plays bounds in
     let all = plays_bounds lines (before + here) later mid rest t next now in
     omega arith
 
-pub few_refused : (lines : List (List ℕ)) (refused : ℕ) (text : List ℕ) (s : State) → Plays start lines refused text s → refused ≤ s.links
+pub few_refused : (lines : List (List ℕ)) (refused : ℕ) (text : List ℕ) (s : Stage) → Plays opening lines refused text s → refused ≤ (opened s).links
 few_refused lines refused text s plays =
-    let begin : Bounds 0 start = omega arith in
-    let all = plays_bounds lines 0 refused start text s plays begin in
+    let begin : StageBounds 0 opening = omega arith in
+    let all = plays_bounds lines 0 refused opening text s plays begin in
     omega arith

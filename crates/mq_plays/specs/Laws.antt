@@ -4,9 +4,9 @@ use Rattle.mq_machine.specs.declared.act.Act.{Act}
 use Rattle.mq_machine.specs.declared.setup.Setup.{Setup}
 use Rattle.mq_machine.specs.Request.{Asks}
 use Rattle.mq_talk.specs.declared.note.Note.{Note}
-use Rattle.mq_machine.specs.State.{State, start}
+use Rattle.mq_machine.specs.State.{State}
 use Rattle.mq_machine.specs.Next.{Turn, Quiet}
-use Rattle.mq_machine.specs.Play.{Plays, IsScript, IsPlayed, IsPlayedSoFar, IsPlayedBad, IsPlayedPart, IsFrontOf}
+use Rattle.mq_machine.specs.Play.{Stage, opening, opened, Plays, IsScript, IsPlayed, IsPlayedSoFar, IsPlayedBad, IsPlayedPart, IsFrontOf}
 use Rattle.mq_plays.specs.Setups.{IsTold}
 use Rattle.mq_plays.specs.Parts.{IsAllShown}
 
@@ -14,14 +14,15 @@ use Rattle.mq_plays.specs.Parts.{IsAllShown}
 abbrev pub IsAskedOnce : Type 0
 IsAskedOnce = (setup : Setup) (reads : List (List ℕ)) (a b : List Act) → IsTold setup → Asks setup reads a → Asks setup reads b → a ≡ b
 
--- in a state that lines lead to, it is: so there they ask for one list
+-- In a state that lines lead to, which is the one from which a line that is no setting goes on, it is: so there they ask for one
+-- list.
 abbrev pub IsAlwaysTold : Type 0
-IsAlwaysTold = (lines : List (List ℕ)) (refused : ℕ) (text : List ℕ) (s : State) → Plays start lines refused text s → IsTold s.shared.setup
+IsAlwaysTold = (lines : List (List ℕ)) (refused : ℕ) (text : List ℕ) (s : Stage) → Plays opening lines refused text s → IsTold (opened s).shared.setup
 
 -- in a state that lines lead to, an actor's turn is one note, and leads to one state
 abbrev pub HasOneTurn : Type 0
-HasOneTurn = (lines : List (List ℕ)) (refused actor : ℕ) (text : List ℕ) (s t u : State) (n m : Note) → Plays start lines refused text s
-    → Turn s actor n t → Turn s actor m u → (n ≡ m) × (t ≡ u)
+HasOneTurn = (lines : List (List ℕ)) (refused actor : ℕ) (text : List ℕ) (s : Stage) (t u : State) (n m : Note) → Plays opening lines refused text s
+    → Turn (opened s) actor n t → Turn (opened s) actor m u → (n ≡ m) × (t ≡ u)
 
 -- an actor that has a turn isn't quiet
 abbrev pub IsTurnOrQuiet : Type 0
@@ -41,7 +42,7 @@ HasOneBadLine = (script a b : List ℕ) (p : IsPlayedBad script a) (q : IsPlayed
 
 -- There are no more steps that were refused memory than links.
 abbrev pub AreFewRefused : Type 0
-AreFewRefused = (lines : List (List ℕ)) (refused : ℕ) (text : List ℕ) (s : State) → Plays start lines refused text s → refused ≤ s.links
+AreFewRefused = (lines : List (List ℕ)) (refused : ℕ) (text : List ℕ) (s : Stage) → Plays opening lines refused text s → refused ≤ (opened s).links
 
 -- A script of good lines prints one text, where no step was refused memory: such a step prints nothing, and may come at any
 -- time.

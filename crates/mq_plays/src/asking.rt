@@ -16,7 +16,7 @@ pub fn asked_once()
     one_decision();
 }
 
-/// In a state that lines lead to, the setup's template is one that a text tells.
+/// In a state that lines lead to, the setup's template is one that a text tells: the well-known one, or that of a settings line.
 pub fn always_told()
     ensures { IsAlwaysTold }
 {

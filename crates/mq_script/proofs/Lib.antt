@@ -1,7 +1,14 @@
 pub mod Answered
+pub mod Growth
 pub mod Hexes
 pub mod Lines
+pub mod Lists
 pub mod Numbers
 pub mod Pieces
 pub mod Printed
+pub mod Sayings
+pub mod Singles
+pub mod Templates
 pub mod Texts
+pub mod Tokens
+pub mod Told

@@ -1,24 +1,30 @@
 -- What a line says, by its first word.
-use Rattle.std.proofs.Common.{◌≡◌, ◌≢◌, ℕ, ◌≤◌, ◌==◌, ◌⊎◌, inl, inr, List, [], ◌∷◌, ◌++◌, get_or, decimal, refl, sym, ◌∙◌, ap, subst, arith, Result, Ok, Err, if◌then◌else◌}
+use Rattle.std.proofs.Common.{◌≡◌, ◌≢◌, ℕ, ◌≤◌, ◌==◌, true, false, ◌⊎◌, inl, inr, List, [], ◌∷◌, ◌++◌, get_or, decimal, refl, sym, ◌∙◌, ap, subst, arith, Result, Ok, Err, if◌then◌else◌}
 use Rattle.std.specs.List.{flat_map}
 use Rattle.std.specs.Result.{IfOk}
 use Rattle.hex.specs.Hex.{encode_lower}
 use Rattle.std.proofs.lemmas.Fmt.{decimal_injective}
 use Rattle.mq_machine.specs.Text.{number}
 use Rattle.mq_machine.specs.declared.line.Line.{Line}
-use Rattle.mq_machine.specs.declared.line.Line.TheVariants.{Blank, Conn, Piece, Steps}
+use Rattle.mq_machine.specs.declared.line.Line.TheVariants.{Blank, Setting, Conn, Piece, Steps}
 use Rattle.mq_text.specs.Cut.{Lacks, IsCut, IsCutOnce}
-use Rattle.mq_machine.specs.Line.{Says, SaysNothing, SaysSteps, said}
+use Rattle.mq_machine.specs.Line.{Says, SaysNothing, SaysOne, SaysSteps, said}
+use Rattle.mq_machine.specs.Setting.{SaysOneSetting}
+use Rattle.mq_script.specs.Told.{setting_word}
 use Rattle.mq_script.specs.Words.{IsParsed, IsConn, IsHexOf, IsTextOf, SaysPieceBy, SaysStep, SaysBehind, SaysInWords, word_text}
 use Rattle.mq_script.specs.declared.fault.LineFault.{LineFault}
 use Rattle.mq_script.specs.declared.fault.LineFault.TheVariants.{Syntax, NoMemory}
+use Rattle.mq_script.specs.declared.setting_word.SettingWord.{SettingWord}
+use Rattle.mq_script.specs.declared.setting_word.SettingWord.TheVariants as setting
 use Rattle.mq_script.specs.declared.word.Word.{Word}
 use Rattle.mq_script.specs.declared.word.Word.TheVariants as word
 use Rattle.mq_script.proofs.Answered.{parsed_same}
 use Rattle.mq_script.proofs.Hexes.{one_hex}
 use Rattle.mq_script.proofs.Numbers.{lacks_decimal, holds_separator, one_number, one_conn, fits_actor, fits_steps}
 use Rattle.mq_script.proofs.Pieces.{IsOne}
+use Rattle.mq_script.proofs.Sayings.{behind_says, join_first, say_told}
 use Rattle.mq_script.proofs.Texts.{one_text}
+use Rattle.mq_script.proofs.Tokens.{words_lack}
 
 letter : (b : ℕ) → 33 ≤ b → b ≢ 32
 letter b h e = absurd (omega arith)
@@ -29,36 +35,62 @@ word_lacks word.Conn = (letter 99 (omega arith), (letter 111 (omega arith), (let
 word_lacks word.Bytes = (letter 98 (omega arith), (letter 121 (omega arith), (letter 116 (omega arith), (letter 101 (omega arith), (letter 115 (omega arith), tt)))))
 word_lacks word.Text = (letter 116 (omega arith), (letter 101 (omega arith), (letter 120 (omega arith), (letter 116 (omega arith), tt))))
 word_lacks word.Step = (letter 115 (omega arith), (letter 116 (omega arith), (letter 101 (omega arith), (letter 112 (omega arith), tt))))
+word_lacks (word.Setting w) = words_lack (setting_word w) w refl
 
--- the words differ in their first letters
-abbrev word_by : ℕ → Word
-word_by b = if b == 99 then word.Conn else (if b == 98 then word.Bytes else (if b == 116 then word.Text else word.Step))
+-- the words differ in their first letters, but for `text` and `template`
+abbrev word_by : ℕ → ℕ → Word
+word_by first third =
+    if first == 99 then word.Conn
+    else (if first == 98 then word.Bytes
+    else (if first == 115 then word.Step
+    else (if first == 110 then word.Setting setting.Name
+    else (if first == 97 then word.Setting setting.Allow
+    else (if first == 100 then word.Setting setting.Deny
+    else (if third == 120 then word.Text else word.Setting setting.Template))))))
 
-word_back : (w : Word) → word_by (get_or (word_text w) 0 0) ≡ w
+abbrev word_of : List ℕ → Word
+word_of text = word_by (get_or text 0 0) (get_or text 2 0)
+
+word_back : (w : Word) → word_of (word_text w) ≡ w
 word_back word.Conn = refl
 word_back word.Bytes = refl
 word_back word.Text = refl
 word_back word.Step = refl
+word_back (word.Setting setting.Template) = refl
+word_back (word.Setting setting.Name) = refl
+word_back (word.Setting setting.Allow) = refl
+word_back (word.Setting setting.Deny) = refl
 
 pub one_word : (a b : Word) → word_text a ≡ word_text b → a ≡ b
-one_word a b e = sym (word_back a) ∙ ap (λ (text : List ℕ). word_by (get_or text 0 0)) e ∙ word_back b
+one_word a b e = sym (word_back a) ∙ ap word_of e ∙ word_back b
 
 -- it has no word of its own
 abbrev pub IsBlank : List ℕ → Type 0
 IsBlank line = (line ≡ []) ⊎ ((rest : List ℕ) × (line ≡ 35 ∷ rest))
 
-first_is : (x y : ℕ) (xs ys : List ℕ) → x ∷ xs ≡ y ∷ ys → x ≡ y
-first_is x y xs ys e = cc
+-- the first byte, or a `#` where there is none
+abbrev first : List ℕ → ℕ
+first line = get_or line 0 35
+
+word_first : (w : Word) (rest : List ℕ) → (first (word_text w ++ 32 ∷ rest) == 35) ≡ false
+word_first word.Conn rest = refl
+word_first word.Bytes rest = refl
+word_first word.Text rest = refl
+word_first word.Step rest = refl
+word_first (word.Setting setting.Template) rest = refl
+word_first (word.Setting setting.Name) rest = refl
+word_first (word.Setting setting.Allow) rest = refl
+word_first (word.Setting setting.Deny) rest = refl
+
+blank_first : (line : List ℕ) → IsBlank line → first line ≡ 35
+blank_first line (inl empty) = ap first empty
+blank_first line (inr (rest, is)) = ap first is
 
 not_blank : (line : List ℕ) (w : Word) (rest : List ℕ) → line ≡ word_text w ++ 32 ∷ rest → IsBlank line → ⊥
-not_blank line word.Conn rest e (inl empty) = cc
-not_blank line word.Bytes rest e (inl empty) = cc
-not_blank line word.Text rest e (inl empty) = cc
-not_blank line word.Step rest e (inl empty) = cc
-not_blank line word.Conn rest e (inr (more, is)) = let h = first_is 99 35 _ more (sym e ∙ is) in absurd (omega (arith, h))
-not_blank line word.Bytes rest e (inr (more, is)) = let h = first_is 98 35 _ more (sym e ∙ is) in absurd (omega (arith, h))
-not_blank line word.Text rest e (inr (more, is)) = let h = first_is 116 35 _ more (sym e ∙ is) in absurd (omega (arith, h))
-not_blank line word.Step rest e (inr (more, is)) = let h = first_is 115 35 _ more (sym e ∙ is) in absurd (omega (arith, h))
+not_blank line w rest is blank =
+    let other : (first line == 35) ≡ false = ap (λ (xs : List ℕ). first xs == 35) is ∙ word_first w rest in
+    let same : (first line == 35) ≡ true = ap (λ (b : ℕ). b == 35) (blank_first line blank) in
+    cc
 
 in_words : (line : List ℕ) (said : Line) (w : Word) (rest : List ℕ) → line ≡ word_text w ++ 32 ∷ rest → SaysBehind w rest said → SaysInWords line said
 in_words line said w rest is says = record { word = w; rest = rest; is = is; says = says }
@@ -66,6 +98,9 @@ in_words line said w rest is says = record { word = w; rest = rest; is = is; say
 -- what a line says is nothing, or stands behind its word
 pub say_words : (line : List ℕ) (said : Line) → Says line said → ((said ≡ Blank) × IsBlank line) ⊎ SaysInWords line said
 say_words line Blank h = inl (refl, h)
+say_words line (Setting told) h =
+    let t = say_told line told h in
+    inr (in_words line (Setting told) (word.Setting t.value) t.behind (join_first line t.part (setting_word t.value) t.behind t.is t.says) (told, t.tells, refl))
 say_words line (Conn worker) h = inr (in_words line (Conn worker) word.Conn (decimal worker) h.1 (worker, h.0, refl, refl))
 say_words line (Piece conn bytes) h =
     elim h.2 [
@@ -116,6 +151,7 @@ words_say line word.Step rest said is h =
         | inr alone ↦ inr (alone.0, is ∙ ap (λ (xs : List ℕ). word_text word.Step ++ 32 ∷ xs) alone.1)
       ],
     )
+words_say line (word.Setting w) rest said is h = subst (Says line) (sym h.2) (behind_says line w rest h.0 is h.1)
 
 -- what stands behind a word is one thing
 pieces_once : (once : IsCutOnce) (IsSpelled : List ℕ → List ℕ → Type 0) (one : IsOne IsSpelled) (rest : List ℕ) (a b : Line) → SaysPieceBy IsSpelled rest a → SaysPieceBy IsSpelled rest b → a ≡ b
@@ -148,13 +184,21 @@ steps_once once rest a b h k =
       ]
     ]
 
-behind_once : (once : IsCutOnce) (w : Word) (rest : List ℕ) (a b : Line) → SaysBehind w rest a → SaysBehind w rest b → a ≡ b
-behind_once once word.Conn rest a b h k =
+-- so is what a word of a setting tells
+settings_once : (one : SaysOneSetting) (w : SettingWord) (rest : List ℕ) (a b : Line) → SaysBehind (word.Setting w) rest a → SaysBehind (word.Setting w) rest b → a ≡ b
+settings_once one w rest a b h k =
+    let line = setting_word w ++ 32 ∷ rest in
+    let same : h.0 ≡ k.0 = one line h.0 k.0 (behind_says line w rest h.0 refl h.1) (behind_says line w rest k.0 refl k.1) in
+    h.2 ∙ ap Setting same ∙ sym k.2
+
+behind_once : (once : IsCutOnce) (one : SaysOneSetting) (w : Word) (rest : List ℕ) (a b : Line) → SaysBehind w rest a → SaysBehind w rest b → a ≡ b
+behind_once once one word.Conn rest a b h k =
     let same : h.0 ≡ k.0 = decimal_injective h.0 k.0 (fits_actor h.0 h.1) (fits_actor k.0 k.1) (sym h.2 ∙ k.2) in
     h.3 ∙ ap Conn same ∙ sym k.3
-behind_once once word.Bytes rest a b h k = pieces_once once IsHexOf one_hex rest a b h k
-behind_once once word.Text rest a b h k = pieces_once once IsTextOf one_text rest a b h k
-behind_once once word.Step rest a b h k = steps_once once rest a b h k
+behind_once once one word.Bytes rest a b h k = pieces_once once IsHexOf one_hex rest a b h k
+behind_once once one word.Text rest a b h k = pieces_once once IsTextOf one_text rest a b h k
+behind_once once one word.Step rest a b h k = steps_once once rest a b h k
+behind_once once one (word.Setting w) rest a b h k = settings_once one w rest a b h k
 
 -- the first word and what stands behind it
 pub word_cut : (once : IsCutOnce) (line before behind : List ℕ) (w : Word) (rest : List ℕ) → IsCut 32 line before behind → line ≡ word_text w ++ 32 ∷ rest → (before ≡ word_text w) × (behind ≡ rest)
@@ -182,8 +226,8 @@ word_read once line before behind w r cut is h =
     subst (λ (v : Word). SaysBehind v behind said) word_is says)
     h
 
-pub says_once : (once : IsCutOnce) (line : List ℕ) (a b : Line) → Says line a → Says line b → a ≡ b
-says_once once line a b h k =
+pub says_once : (once : IsCutOnce) (one : SaysOneSetting) (line : List ℕ) (a b : Line) → Says line a → Says line b → a ≡ b
+says_once once one line a b h k =
     elim (say_words line a h) [
       | inl blank ↦ elim (say_words line b k) [
         | inl also ↦ blank.0 ∙ sym also.0
@@ -196,7 +240,7 @@ says_once once line a b h k =
             let word_is : words.word ≡ also.word = one_word words.word also.word same.0 in
             let says = subst (λ (v : Word). SaysBehind v words.rest a) word_is words.says in
             let again = subst (λ (text : List ℕ). SaysBehind also.word text a) same.1 says in
-            behind_once once also.word also.rest a b again also.says
+            behind_once once one also.word also.rest a b again also.says
             )
       ]
     ]
@@ -217,11 +261,11 @@ blank_answers line blank = record {
   ];
 }
 
-pub words_answer : (once : IsCutOnce) (line : List ℕ) (r : Result Line LineFault) → (IsBlank line → ⊥) → IsParsed (SaysInWords line) r → Answers line r
-words_answer once line (Ok value) other h =
+pub words_answer : (one : SaysOne) (line : List ℕ) (r : Result Line LineFault) → (IsBlank line → ⊥) → IsParsed (SaysInWords line) r → Answers line r
+words_answer one line (Ok value) other h =
     let says = words_say line h.word h.rest value h.is h.says in
-    record { ok = says; syntax = λ e. cc e; found = λ said k. inl (ap Ok (says_once once line value said says k)) }
-words_answer once line (Err Syntax) other h =
+    record { ok = says; syntax = λ e. cc e; found = λ said k. inl (ap Ok (one line value said says k)) }
+words_answer one line (Err Syntax) other h =
     let none : SaysNothing line = λ said k. elim (say_words line said k) [ inl blank ↦ other blank.1 | inr words ↦ h said words ] in
     record { ok = tt; syntax = λ e. none; found = λ said k. absurd (none said k) }
-words_answer once line (Err NoMemory) other h = record { ok = tt; syntax = λ e. cc e; found = λ said k. inr refl }
+words_answer one line (Err NoMemory) other h = record { ok = tt; syntax = λ e. cc e; found = λ said k. inr refl }

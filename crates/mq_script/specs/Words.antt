@@ -5,10 +5,12 @@ use Rattle.std.specs.List.{flat_map}
 use Rattle.hex.specs.Hex.{encode_lower}
 use Rattle.mq_machine.specs.Text.{number}
 use Rattle.mq_machine.specs.declared.line.Line.{Line}
-use Rattle.mq_machine.specs.declared.line.Line.TheVariants.{Conn, Piece, Steps}
+use Rattle.mq_machine.specs.declared.line.Line.TheVariants.{Setting, Conn, Piece, Steps}
+use Rattle.mq_machine.specs.declared.setting.SettingLine.{SettingLine}
 use Rattle.mq_machine.specs.Line.{IsSayable, said}
 use Rattle.mq_script.specs.declared.fault.LineFault.{LineFault}
 use Rattle.mq_script.specs.declared.fault.LineFault.TheVariants.{Syntax, NoMemory}
+use Rattle.mq_script.specs.Told.{TellsBehind, setting_word}
 use Rattle.mq_script.specs.declared.word.Word.{Word}
 use Rattle.mq_script.specs.declared.word.Word.TheVariants as word
 
@@ -75,6 +77,10 @@ word_text word.Conn = codes "conn"
 word_text word.Bytes = codes "bytes"
 word_text word.Text = codes "text"
 word_text word.Step = codes "step"
+word_text (word.Setting w) = setting_word w
+
+abbrev pub IsWord : List ℕ → Word → Type 0
+IsWord text w = text ≡ word_text w
 
 -- what stands behind a word and a space
 abbrev pub SaysBehind : Word → List ℕ → Line → Type 0
@@ -82,6 +88,7 @@ SaysBehind word.Conn rest line = SaysConn rest line
 SaysBehind word.Bytes rest line = SaysPieceBy IsHexOf rest line
 SaysBehind word.Text rest line = SaysPieceBy IsTextOf rest line
 SaysBehind word.Step rest line = SaysStep rest line
+SaysBehind (word.Setting w) rest line = (setting : SettingLine) × TellsBehind w rest setting × (line ≡ Setting setting)
 
 -- what a line says that isn't blank
 pub record SaysInWords (text : List ℕ) (line : Line) : Type 0 where

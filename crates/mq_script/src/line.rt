@@ -6,6 +6,7 @@ ghost use Rattle.mq_script.specs.Words.{IsParsed, SaysBehind, SaysInWords};
 
 use crate::behind::{parse_bytes, parse_conn, parse_said, parse_step};
 use crate::fault::LineFault;
+use crate::setting::{parse_told, says_one_setting};
 use crate::word::{Word, parse_word};
 use mq_machine::Line;
 use mq_text::{cut, cut_once};
@@ -30,6 +31,7 @@ fn parse_behind(alloc: Global, word: Word, rest: &[u8]) -> Result<Line, LineFaul
         Word::Bytes => parse_bytes(alloc, rest),
         Word::Text => parse_said(alloc, rest),
         Word::Step => parse_step(rest),
+        Word::Setting(word) => Ok(Line::Setting(parse_told(alloc, word, rest)?)),
     }
 }
 
@@ -53,7 +55,7 @@ pub fn parse_line(alloc: Global, line: &[u8]) -> Result<Line, LineFault>
     ensures syntax { result ≡ Err LineFault.Syntax → SaysNothing line.now }
     ensures found { (said : Line) → Says line.now said → (result ≡ Ok said) ⊎ (result ≡ Err LineFault.NoMemory) }
 {
-    cut_once();
+    says_one();
     if is_blank(line) {
         return Ok(Line::Blank);
     }
@@ -65,4 +67,5 @@ pub fn says_one()
     ensures { SaysOne }
 {
     cut_once();
+    says_one_setting();
 }

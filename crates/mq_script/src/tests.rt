@@ -1,5 +1,7 @@
 use super::*;
-use mq_machine::Line;
+use mq_addr::Addr;
+use mq_machine::{Line, SettingLine};
+use mq_policy::Rule;
 use mq_talk::{End, From, Kind, Note, Why};
 use mq_wire::{Bytes, NoMemory};
 use std::alloc::{AllocError, Global};
@@ -10,6 +12,9 @@ use std::test::Fail;
 enum Want {
     Bad,
     Blank,
+    Template(Kind),
+    Name(&'static [u8], Addr),
+    Rule(Rule),
     Conn(u32),
     Piece(u32, &'static [u8]),
     Steps(u32, u32),
@@ -18,6 +23,7 @@ enum Want {
 fn meets(got: &Result<Line, LineFault>, want: Want) -> bool {
     match got {
         Ok(Line::Blank) => matches!(want, Want::Blank),
+        Ok(Line::Setting(setting)) => tells(setting, want),
         Ok(Line::Conn { worker }) => matches!(want, Want::Conn(number) if *worker == number),
         Ok(Line::Piece { conn, bytes }) => {
             matches!(want, Want::Piece(number, text) if *conn == number && bytes.as_slice() == text)
@@ -27,6 +33,18 @@ fn meets(got: &Result<Line, LineFault>, want: Want) -> bool {
         }
         Err(LineFault::Syntax) => matches!(want, Want::Bad),
         Err(LineFault::NoMemory) => false,
+    }
+}
+
+fn tells(setting: &SettingLine, want: Want) -> bool {
+    match setting {
+        SettingLine::Template { kind, .. } => {
+            matches!(want, Want::Template(other) if *kind == other)
+        }
+        SettingLine::Name { name, addr } => {
+            matches!(want, Want::Name(text, at) if name.as_slice() == text && *addr == at)
+        }
+        SettingLine::Rule(rule) => matches!(want, Want::Rule(other) if *rule == other),
     }
 }
 
@@ -41,6 +59,49 @@ const BLANK_LINES: [(&[u8], Want); 10] = [
     (b"\r", Want::Bad),
     (b"conn 0 # a comment", Want::Bad),
     (b"\xef\xbb\xbf#", Want::Bad),
+];
+
+/// `allow udp * 53 443`.
+const SOME_PORTS: Rule = Rule::Udp {
+    allow: true,
+    block: None,
+    low: 53,
+    high: 443,
+};
+
+/// `deny ip * *`.
+const NO_IP: Rule = Rule::Ip {
+    allow: false,
+    block: None,
+    protocol: None,
+};
+
+const SETTING_LINES: [(&[u8], Want); 19] = [
+    (
+        b"template udp /{target_host}/{target_port}",
+        Want::Template(Kind::Udp),
+    ),
+    (b"template ip /{target}/{ipproto}", Want::Template(Kind::Ip)),
+    (
+        b"name Server.example 192.0.2.6",
+        Want::Name(b"server.example", Addr::V4(0xc000_0206)),
+    ),
+    (b"allow udp * 53 443", Want::Rule(SOME_PORTS)),
+    (b"deny ip * *", Want::Rule(NO_IP)),
+    (b"template", Want::Bad),
+    (b"template 0", Want::Bad),
+    (b"name", Want::Bad),
+    (b"name 0", Want::Bad),
+    (b"allow", Want::Bad),
+    (b"allow 0", Want::Bad),
+    (b"deny 0 1", Want::Bad),
+    (b" deny ip * *", Want::Bad),
+    (b"deny ip * * ", Want::Bad),
+    (b"deny ip * * # a comment", Want::Bad),
+    (b"conn ip * *", Want::Bad),
+    (b"step udp * 53 443", Want::Bad),
+    (b"text udp * 53 443", Want::Bad),
+    (b"set udp * 53 443", Want::Bad),
 ];
 
 const CONN_LINES: [(&[u8], Want); 18] = [
@@ -144,6 +205,9 @@ const TEXT_LINES: [(&[u8], Want); 24] = [
 #[test]
 fn lines_are_read_as_the_grammar_says(rt: HostRuntime) {
     for (line, want) in BLANK_LINES {
+        assert!(rt; meets(&parse_line(rt.alloc(), line), want), "{line:?}");
+    }
+    for (line, want) in SETTING_LINES {
         assert!(rt; meets(&parse_line(rt.alloc(), line), want), "{line:?}");
     }
     for (line, want) in CONN_LINES {

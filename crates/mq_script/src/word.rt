@@ -1,6 +1,8 @@
 //! The word that a line begins with.
-ghost use Rattle.std.specs.Prelude.{◌≡◌, IfSome};
-ghost use Rattle.mq_script.specs.Words.{word_text};
+ghost use Rattle.mq_script.specs.Told.{IsFound};
+ghost use Rattle.mq_script.specs.Words.{IsWord};
+
+use crate::setting_word::{SettingWord, parse_setting_word};
 
 /// The word that a line begins with.
 #[derive(Clone, Copy, Debug, PartialEq, Eq)]
@@ -9,18 +11,18 @@ pub enum Word {
     Bytes,
     Text,
     Step,
+    Setting(SettingWord),
 }
 
 /// The word that a text is.
 pub fn parse_word(text: &[u8]) -> Option<Word>
-    ensures some { IfSome result (λ word. text.now ≡ word_text word) }
-    ensures none { (word : Word) → text.now ≡ word_text word → result ≡ Some word }
+    ensures { IsFound (IsWord text.now) result }
 {
     match text {
         b"conn" => Some(Word::Conn),
         b"bytes" => Some(Word::Bytes),
         b"text" => Some(Word::Text),
         b"step" => Some(Word::Step),
-        _ => None,
+        _ => Some(Word::Setting(parse_setting_word(text)?)),
     }
 }

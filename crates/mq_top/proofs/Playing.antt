@@ -1,47 +1,134 @@
 -- What the parts of a line's play say of the line.
-use Rattle.std.proofs.Common.{◌≡◌, ℕ, List, [], Result, Ok, Err, refl, sym, subst, inl, inr}
+use Rattle.std.proofs.Common.{◌≡◌, ℕ, true, List, [], ◌∷◌, ◌++◌, Option, Some, None, Result, Ok, Err, refl, sym, subst, inl, inr}
 use Rattle.mq_machine.specs.Line.{Says}
+use Rattle.mq_machine.specs.Play as spec
+use Rattle.mq_machine.specs.Play.{Settings, Running, opened, LinePlays, IsBadHere, RunsPart}
 use Rattle.mq_machine.specs.State.{State}
 use Rattle.mq_machine.specs.declared.line.Line.{Line}
+use Rattle.mq_machine.specs.declared.line.Line.TheVariants as line
 use Rattle.mq_machine.specs.declared.line.Line.TheVariants.{Steps}
+use Rattle.mq_machine.specs.declared.setting.SettingLine.{SettingLine}
+use Rattle.mq_machine.specs.declared.setup.Setup.{Setup}
 use Rattle.mq_machine.specs.Next.{Turn}
 use Rattle.mq_machine.specs.Text.{note_line}
 use Rattle.mq_talk.specs.declared.note.Note.{Note}
-use Rattle.mq_top.specs.Playing.{StepTo, RunsTo, SilentTo, LineTo}
+use Rattle.mq_script.specs.Settings as script
+use Rattle.mq_top.specs.Playing.{StepTo, RunsTo, StageRunsTo, Answers, EventTo, SilentTo, LineTo}
 use Rattle.mq_top.specs.Printing.{Spills}
+use Rattle.mq_top.specs.Stages.{MayRun, SetTo}
+use Rattle.mq_top.specs.declared.stage.Stage.{Stage}
 use Rattle.mq_top.specs.declared.status.Stop.{Stop}
 use Rattle.mq_top.specs.declared.status.Stop.TheVariants.{BadLine, WriteFault, NoMemory}
+use Rattle.mq_world.specs.declared.event.Event.{Event}
+use Rattle.mq_world.specs.declared.event.Event.TheVariants.{Conn, Piece, Step}
+use Rattle.mq_world.specs.declared.event.Stepped.{Stepped}
+use Rattle.mq_world.specs.declared.event.Stepped.TheVariants.{Done, Did, Idle, Refused}
+use Rattle.mq_world.specs.declared.event.WorldFault.{WorldFault}
+use Rattle.mq_world.specs.declared.event.WorldFault.TheVariants as fault
 use Rattle.mq_world.specs.declared.world.World.{World}
+use Rattle.mq_world.specs.Worlds as world
+use Rattle.mq_world.specs.Worlds.{IsWorld}
+
+-- the stage of a world that has begun
+abbrev pub running : script.Made → World → Stage
+running settings w = record { settings = settings; world = Some w }
 
 -- a line that prints nothing
-pub silent_line : (s : State) (bytes : List ℕ) (said : Line) (answer : Result (Unit {0}) Stop) (w : World) → Says bytes said → SilentTo s said answer w → LineTo s bytes [] answer w
-silent_line s bytes said (Ok done) w says told = (said, told.0, 0, says, told.1, told.2)
-silent_line s bytes said (Err BadLine) w says told = (inr (said, says, told), refl)
-silent_line s bytes said (Err WriteFault) w says told = absurd told
-silent_line s bytes said (Err NoMemory) w says told = inl refl
+pub silent_line : (s : spec.Stage) (bytes : List ℕ) (said : Line) (answer : Result (Unit {0}) Stop) (x : Stage) → Says bytes said → SilentTo s said answer x → LineTo s bytes [] answer x
+silent_line s bytes said (Ok done) x says told = (said, told.0, 0, says, told.1, told.2)
+silent_line s bytes said (Err BadLine) x says told = (inr (said, says, told), refl)
+silent_line s bytes said (Err WriteFault) x says told = absurd told
+silent_line s bytes said (Err NoMemory) x says told = inl refl
+
+-- a line of a setting
+pub setting_line : (s : spec.Stage) (bytes : List ℕ) (said : SettingLine) (answer : Result (Unit {0}) Stop) (x : Stage) → Says bytes (line.Setting said) → SetTo s said answer x → LineTo s bytes [] answer x
+setting_line s bytes said (Ok done) x says told = (line.Setting said, told.0, 0, says, (told.1, refl, refl), told.2)
+setting_line s bytes said (Err BadLine) x says told = (inr (line.Setting said, says, told), refl)
+setting_line s bytes said (Err WriteFault) x says told = absurd told
+setting_line s bytes said (Err NoMemory) x says told = inl refl
 
 -- a line of steps
-pub steps_line : (s : State) (bytes : List ℕ) (actor count : ℕ) (shown : List ℕ) (answer : Result (Unit {0}) Stop) (w : World) → Says bytes (Steps actor count)
-    → RunsTo s actor count shown answer w → LineTo s bytes shown answer w
-steps_line s bytes actor count shown (Ok done) w says told = (Steps actor count, told.0, told.1, says, (told.2, told.3), told.4)
-steps_line s bytes actor count shown (Err BadLine) w says told = (inr (Steps actor count, says, told.0), told.1)
-steps_line s bytes actor count shown (Err WriteFault) w says told =
+pub steps_line : (s : spec.Stage) (bytes : List ℕ) (actor count : ℕ) (shown : List ℕ) (answer : Result (Unit {0}) Stop) (x : Stage) → Says bytes (Steps actor count)
+    → StageRunsTo s actor count shown answer x → LineTo s bytes shown answer x
+steps_line s bytes actor count shown (Ok done) x says told = (Steps actor count, Running told.0, told.1, says, (told.2, told.0, told.3, refl), told.4)
+steps_line s bytes actor count shown (Err BadLine) x says told = (inr (Steps actor count, says, told.0), told.1)
+steps_line s bytes actor count shown (Err WriteFault) x says told =
     elim told.1 [
       | inl none ↦ inl none
       | inr within ↦ inr (Steps actor count, says, (within, told.0))
     ]
-steps_line s bytes actor count shown (Err NoMemory) w says told =
+steps_line s bytes actor count shown (Err NoMemory) x says told =
     elim told.1 [
       | inl none ↦ inl none
       | inr within ↦ inr (Steps actor count, says, (within, told.0))
     ]
+
+-- one more setting stands, where the world hasn't begun
+pub setting_stands : (x new : script.Made) (found : Option World) (s : spec.Stage) (said : SettingLine) → found ≡ None → MayRun x found s
+    → ((lines : List SettingLine) → script.IsSettings x lines → script.Adds x lines said (Ok true) new) → (t : spec.Stage) × spec.Sets s said t × MayRun new found t
+setting_stands x new found (Settings lines) said none runs adds =
+    let P : Option World → Type 0 = λ o. MayRun x o (Settings lines) in
+    let Q : Option World → Type 0 = λ o. MayRun new o (Settings (lines ++ said ∷ [])) in
+    let added = adds lines (subst P none runs) in
+    (Settings (lines ++ said ∷ []), (added.0, refl), subst Q (sym none) added.1)
+setting_stands x new found (Running state) said none runs adds = let P : Option World → Type 0 = λ o. MayRun x o (Running state) in absurd (subst P none runs)
+
+-- steps of a world are steps of its stage
+pub stage_runs : (s : spec.Stage) (actor count : ℕ) (shown : List ℕ) (answer : Result (Unit {0}) Stop) (settings : script.Made) (w : World)
+    → RunsTo settings.setup (opened s) actor count shown answer w → StageRunsTo s actor count shown answer (running settings w)
+stage_runs s actor count shown (Ok done) settings w told = told
+stage_runs s actor count shown (Err BadLine) settings w told = told
+stage_runs s actor count shown (Err WriteFault) settings w told = told
+stage_runs s actor count shown (Err NoMemory) settings w told = told
+
+-- nothing was shown yet
+pub stage_none : (s : spec.Stage) (actor count : ℕ) (x : Stage) → RunsPart (opened s) actor count [] → StageRunsTo s actor count [] (Err NoMemory) x
+stage_none s actor count x part = (part, inl refl)
+
+-- the world that has begun
+pub world_of : (x : script.Made) (found : Option World) (w : World) (s : State) → found ≡ Some w → MayRun x found (Running s) → IsWorld x.setup w s
+world_of x found w s is runs = let P : Option World → Type 0 = λ o. MayRun x o (Running s) in subst P is runs
+
+-- what happened to the world, happened at its stage
+pub event_done : (s : spec.Stage) (event : Event) (stepped : Stepped) (settings : script.Made) (w : World) → world.Happens settings.setup (opened s) event (Ok stepped) w
+    → EventTo s event (Ok tt) (running settings w)
+event_done s (Conn actor) Done settings w told = (Running told.0, (told.0, told.1, refl, refl, refl), told.2)
+event_done s (Conn actor) (Did note) settings w told = absurd told
+event_done s (Conn actor) Idle settings w told = absurd told
+event_done s (Conn actor) Refused settings w told = absurd told
+event_done s (Piece conn bytes) Done settings w told = (Running told.0, (told.0, told.1, refl, refl, refl), told.2)
+event_done s (Piece conn bytes) (Did note) settings w told = absurd told
+event_done s (Piece conn bytes) Idle settings w told = absurd told
+event_done s (Piece conn bytes) Refused settings w told = absurd told
+event_done s (Step actor) stepped settings w told = tt
+
+pub event_missing : (s : spec.Stage) (event : Event) (settings : script.Made) (w : World) (x : Stage) → world.Happens settings.setup (opened s) event (Err fault.Missing) w
+    → EventTo s event (Err BadLine) x
+event_missing s (Conn actor) settings w x told = told.0
+event_missing s (Piece conn bytes) settings w x told = told.0
+event_missing s (Step actor) settings w x told = tt
+
+pub event_unknown : (s : spec.Stage) (event : Event) (x : Stage) → EventTo s event (Err NoMemory) x
+event_unknown s (Conn actor) x = tt
+event_unknown s (Piece conn bytes) x = tt
+event_unknown s (Step actor) x = tt
+
+-- what the world answers, by what happened to it
+pub happened : (s : spec.Stage) (event : Event) (stepped : Result Stepped WorldFault) (answer : Result (Unit {0}) Stop) (settings : script.Made) (w : World)
+    → world.Happens settings.setup (opened s) event stepped w → Answers stepped answer → EventTo s event answer (running settings w)
+happened s event (Ok stepped) answer settings w told is =
+    let P : Result (Unit {0}) Stop → Type 0 = λ r. EventTo s event r (running settings w) in subst P (sym is) (event_done s event stepped settings w told)
+happened s event (Err fault.Missing) answer settings w told is =
+    let P : Result (Unit {0}) Stop → Type 0 = λ r. EventTo s event r (running settings w) in subst P (sym is) (event_missing s event settings w (running settings w) told)
+happened s event (Err fault.NoMemory) answer settings w told is =
+    let P : Result (Unit {0}) Stop → Type 0 = λ r. EventTo s event r (running settings w) in subst P (sym is) (event_unknown s event (running settings w))
 
 -- the note of a step was printed, and the sink failed
-pub spilled : (s t : State) (actor : ℕ) (note : Note) (why : Stop) (w : World) → Turn s actor note t → Spills (Err why) → StepTo s actor (note_line note) (Err why) w
-spilled s t actor note WriteFault w turn fault = (note, t, turn, refl)
-spilled s t actor note BadLine w turn fault = absurd fault
-spilled s t actor note NoMemory w turn fault = absurd fault
+pub spilled : (setup : Setup) (s t : State) (actor : ℕ) (note : Note) (why : Stop) (w : World) → Turn s actor note t → Spills (Err why) → StepTo setup s actor (note_line note) (Err why) w
+spilled setup s t actor note WriteFault w turn fault = (note, t, turn, refl)
+spilled setup s t actor note BadLine w turn fault = absurd fault
+spilled setup s t actor note NoMemory w turn fault = absurd fault
 
 -- memory ran out before anything was printed
-pub unprinted : (s : State) (actor : ℕ) (why : Stop) (w : World) → why ≡ NoMemory → StepTo s actor [] (Err why) w
-unprinted s actor why w e = let P : Stop → Type 0 = λ e. StepTo s actor [] (Err e) w in subst P (sym e) refl
+pub unprinted : (setup : Setup) (s : State) (actor : ℕ) (why : Stop) (w : World) → why ≡ NoMemory → StepTo setup s actor [] (Err why) w
+unprinted setup s actor why w e = let P : Stop → Type 0 = λ e. StepTo setup s actor [] (Err e) w in subst P (sym e) refl

@@ -2,10 +2,10 @@
 use Rattle.std.proofs.Common.{◌≡◌, ℕ, zero, suc, ◌+◌, ◌≤◌, List, [], ◌∷◌, ◌++◌, length, Result, Ok, Err, refl, sym, ap, subst, ◌∙◌, arith, append_assoc, append-nil, inl, inr}
 use Rattle.std.proofs.lemmas.List.{length-append}
 use Rattle.mq_machine.specs.Line.{Says}
-use Rattle.mq_machine.specs.Play.{Plays, Runs, RunsPart, LinePlays, LinePart, IsScript, HasFront, HasLine, HasBad, IsPlayed, IsPlayedPart, text_of, line_limit, script_limit}
-use Rattle.mq_machine.specs.State.{State, start}
+use Rattle.mq_machine.specs.State.{State}
+use Rattle.mq_machine.specs.Play.{Stage, opening, opened, Plays, Runs, RunsPart, LinePlays, LinePart, IsScript, HasFront, HasLine, HasBad, IsPlayed, IsPlayedPart, text_of, line_limit, script_limit}
 use Rattle.mq_machine.specs.declared.line.Line.{Line}
-use Rattle.mq_machine.specs.declared.line.Line.TheVariants.{Blank, Conn, Piece, Steps}
+use Rattle.mq_machine.specs.declared.line.Line.TheVariants.{Blank, Setting, Conn, Piece, Steps}
 use Rattle.mq_text.specs.Cut.{Lacks}
 use Rattle.mq_top.proofs.Cutting.{begun_more, begun_ended, parts_length, has_front, no_front, has_line, has_last, has_long, has_past}
 use Rattle.mq_top.specs.Playing.{LineTo, IsCutLine}
@@ -14,15 +14,15 @@ use Rattle.mq_top.specs.Reading.{IsRead, RoomTo, StopsAt, ReadsTo, EndsTo}
 use Rattle.mq_top.specs.declared.session.Session.{Session}
 use Rattle.mq_top.specs.declared.status.Stop.{Stop}
 use Rattle.mq_top.specs.declared.status.Stop.TheVariants.{BadLine, WriteFault, NoMemory}
-use Rattle.mq_world.specs.declared.world.World.{World}
-use Rattle.mq_world.specs.Worlds.{IsWorld}
+use Rattle.mq_top.specs.declared.stage.Stage as held
+use Rattle.mq_top.specs.Stages.{IsStage}
 
 -- one more line
-plays_more : (old : State) (lines : List (List ℕ)) (before : ℕ) (text : List ℕ) (mid : State) (line shown : List ℕ) (said : Line) (here : ℕ) (new : State)
+plays_more : (old : Stage) (lines : List (List ℕ)) (before : ℕ) (text : List ℕ) (mid : Stage) (line shown : List ℕ) (said : Line) (here : ℕ) (new : Stage)
     → Plays old lines before text mid → length line ≤ line_limit → Says line said → LinePlays mid said here shown new
     → Plays old (lines ++ line ∷ []) (before + here) (text ++ shown) new
 plays_more old [] before text mid line shown said here new p fits says q =
-    let P : State → Type 0 = λ from. LinePlays from said here shown new in
+    let P : Stage → Type 0 = λ from. LinePlays from said here shown new in
     let none = p.0 in
     (fits, said, says, new, here, 0, shown, [], subst P p.2 q, omega (arith, none), ap (λ (xs : List ℕ). xs ++ shown) p.1 ∙ sym (append-nil shown), (refl, refl, refl))
 plays_more old (first ∷ lines) before text mid line shown said here new p fits says q =
@@ -34,7 +34,7 @@ plays_more old (first ∷ lines) before text mid line shown said here new p fits
 pub nothing_yet : (whole : List ℕ) → IsPlayedPart whole []
 nothing_yet whole = record {
   before = [];
-  state = start;
+  state = opening;
   text = [];
   part = [];
   refused = 0;
@@ -44,7 +44,7 @@ nothing_yet whole = record {
 }
 
 -- the play stopped before a line
-stops_before : (whole : List ℕ) (lines : List (List ℕ)) (state : State) (refused : ℕ) (text shown front : List ℕ) → Plays start lines refused text state → HasFront whole lines front → shown ≡ [] → IsPlayedPart whole (text ++ shown)
+stops_before : (whole : List ℕ) (lines : List (List ℕ)) (state : Stage) (refused : ℕ) (text shown front : List ℕ) → Plays opening lines refused text state → HasFront whole lines front → shown ≡ [] → IsPlayedPart whole (text ++ shown)
 stops_before whole lines state refused text shown front plays has none = record {
   before = lines;
   state = state;
@@ -57,7 +57,7 @@ stops_before whole lines state refused text shown front plays has none = record 
 }
 
 -- it stopped in a line
-stops_in : (whole : List ℕ) (lines : List (List ℕ)) (state : State) (refused : ℕ) (text shown line : List ℕ) → Plays start lines refused text state → HasLine whole lines line → IsCutLine state line shown → IsPlayedPart whole (text ++ shown)
+stops_in : (whole : List ℕ) (lines : List (List ℕ)) (state : Stage) (refused : ℕ) (text shown line : List ℕ) → Plays opening lines refused text state → HasLine whole lines line → IsCutLine state line shown → IsPlayedPart whole (text ++ shown)
 stops_in whole lines state refused text shown line plays has (inl none) = stops_before whole lines state refused text shown line plays has.has none
 stops_in whole lines state refused text shown line plays has (inr in_line) = record {
   before = lines;
@@ -71,10 +71,10 @@ stops_in whole lines state refused text shown line plays has (inr in_line) = rec
 }
 
 -- a whole line was played until its play stopped
-pub line_stops : (whole : List ℕ) (lines : List (List ℕ)) (state : State) (refused : ℕ) (text shown line : List ℕ) (why : Stop) (w : World) (number : ℕ) → Plays start lines refused text state → HasLine whole lines line
+pub line_stops : (whole : List ℕ) (lines : List (List ℕ)) (state : Stage) (refused : ℕ) (text shown line : List ℕ) (why : Stop) (w : held.Stage) (number : ℕ) → Plays opening lines refused text state → HasLine whole lines line
     → number ≡ length lines → LineTo state line shown (Err why) w → StopsAt whole (text ++ shown) why number
 line_stops whole lines state refused text shown line BadLine w number plays has count told =
-    let P : List ℕ → Type 0 = λ all. Plays start lines refused all state in
+    let P : List ℕ → Type 0 = λ all. Plays opening lines refused all state in
     record {
       before = lines;
       state = state;
@@ -143,7 +143,7 @@ ended_script script bytes = append_assoc script bytes (10 ∷ [])
 
 -- the begun line ended and was good
 pub line_read : (x y : Session) (script : List ℕ) (lines : List (List ℕ)) (text bytes shown : List ℕ) (now : ℕ) → Lacks 10 bytes → (r : IsRead x script lines text)
-    → RoomTo (length x.begun.items + length bytes) (x.count + length bytes) 1 (Ok now) → LineTo r.state (x.begun.items ++ bytes) shown (Ok tt) y.world
+    → RoomTo (length x.begun.items + length bytes) (x.count + length bytes) 1 (Ok now) → LineTo r.state (x.begun.items ++ bytes) shown (Ok tt) y.stage
     → y.begun.items ≡ [] → y.number ≡ x.number + 1 → y.count ≡ now → IsRead y (script ++ (bytes ++ 10 ∷ [])) (lines ++ (x.begun.items ++ bytes) ∷ []) (text ++ shown)
 line_read x y script lines text bytes shown now plain r room told none number count =
     let begun = x.begun.items in
@@ -158,7 +158,7 @@ line_read x y script lines text bytes shown now plain r room told none number co
     record {
       state = told.1;
       refused = r.refused + told.2;
-      plays = plays_more start lines r.refused text r.state line shown told.0 told.2 told.1 r.plays (omega (arith, size, room.2)) told.3 told.4;
+      plays = plays_more opening lines r.refused text r.state line shown told.0 told.2 told.1 r.plays (omega (arith, size, room.2)) told.3 told.4;
       stands = told.5;
       number = omega (arith, number, counted, r.number);
       script_is = subst Q (sym none) (subst P (ended_script script bytes) (begun_ended (script ++ bytes) lines line s));
@@ -168,7 +168,7 @@ line_read x y script lines text bytes shown now plain r room told none number co
     }
 
 -- it ended and stopped the play
-pub line_stopped : (x : Session) (script : List ℕ) (lines : List (List ℕ)) (text bytes shown : List ℕ) (now : ℕ) (why : Stop) (w : World) → Lacks 10 bytes → (r : IsRead x script lines text)
+pub line_stopped : (x : Session) (script : List ℕ) (lines : List (List ℕ)) (text bytes shown : List ℕ) (now : ℕ) (why : Stop) (w : held.Stage) → Lacks 10 bytes → (r : IsRead x script lines text)
     → RoomTo (length x.begun.items + length bytes) (x.count + length bytes) 1 (Ok now) → LineTo r.state (x.begun.items ++ bytes) shown (Err why) w
     → (more : List ℕ) → StopsAt (script ++ (bytes ++ 10 ∷ []) ++ more) (text ++ shown) why x.number
 line_stopped x script lines text bytes shown now why w plain r room told more =
@@ -184,14 +184,14 @@ line_stopped x script lines text bytes shown now why w plain r room told more =
 
 -- the begun line goes on
 pub kept : (x y : Session) (script : List ℕ) (lines : List (List ℕ)) (text bytes : List ℕ) (now : ℕ) → Lacks 10 bytes → IsRead x script lines text
-    → RoomTo (length x.begun.items + length bytes) (x.count + length bytes) 0 (Ok now) → y.world ≡ x.world
+    → RoomTo (length x.begun.items + length bytes) (x.count + length bytes) 0 (Ok now) → y.stage ≡ x.stage
     → y.begun.items ≡ x.begun.items ++ bytes → y.number ≡ x.number → y.count ≡ now → IsRead y (script ++ bytes) lines text
 kept x y script lines text bytes now plain r room world begun number count =
     let s = begun_more script lines x.begun.items bytes plain r.script_is in
     let size : length (x.begun.items ++ bytes) ≡ length x.begun.items + length bytes = length-append x.begun.items bytes in
     let all : length (script ++ bytes) ≡ length script + length bytes = length-append script bytes in
     let P : List ℕ → Type 0 = λ tail. IsScript (script ++ bytes) lines tail in
-    let Q : World → Type 0 = λ w. IsWorld w r.state in
+    let Q : held.Stage → Type 0 = λ w. IsStage w r.state in
     record {
       state = r.state;
       refused = r.refused;
@@ -256,24 +256,25 @@ runs_part old actor (suc n) refused text new (inl r) = inr (inl (r.0, r.1, r.2, 
 runs_part old actor (suc n) refused text new (inr (inl r)) = inr (inr (inl (r.0, r.2, runs_part r.0 actor n r.1 text new r.4)))
 runs_part old actor (suc n) refused text new (inr (inr r)) = inr (inr (inr (r.0, r.2)))
 
-line_part : (old : State) (said : Line) (refused : ℕ) (text : List ℕ) (new : State) → LinePlays old said refused text new → LinePart old said text
+line_part : (old : Stage) (said : Line) (refused : ℕ) (text : List ℕ) (new : Stage) → LinePlays old said refused text new → LinePart old said text
 line_part old Blank refused text new p = p.2
-line_part old (Conn worker) refused text new p = p.2
-line_part old (Piece conn bytes) refused text new p = p.2
-line_part old (Steps actor count) refused text new p = (p.0, runs_part old actor count refused text new p.1)
+line_part old (Setting said) refused text new p = p.2
+line_part old (Conn worker) refused text new p = p.4
+line_part old (Piece conn bytes) refused text new p = p.4
+line_part old (Steps actor count) refused text new p = (p.0, runs_part (opened old) actor count refused text p.1 p.2)
 
 -- the last line, with no newline
-last_played : (script : List ℕ) (lines : List (List ℕ)) (line : List ℕ) (refused : ℕ) (text : List ℕ) (new : State) → (line ≡ [] → ⊥) → IsScript script lines line → length script ≤ script_limit
-    → Plays start (lines ++ line ∷ []) refused text new → IsPlayed script text
+last_played : (script : List ℕ) (lines : List (List ℕ)) (line : List ℕ) (refused : ℕ) (text : List ℕ) (new : Stage) → (line ≡ [] → ⊥) → IsScript script lines line → length script ≤ script_limit
+    → Plays opening (lines ++ line ∷ []) refused text new → IsPlayed script text
 last_played script lines [] refused text new some s fits plays = absurd (some refl)
 last_played script lines (b ∷ bs) refused text new some s fits plays = record { lines = lines; tail = b ∷ bs; new = new; refused = refused; script_is = s; fits = fits; plays = plays }
 
 pub ends_line : (x y : Session) (script : List ℕ) (lines : List (List ℕ)) (text shown : List ℕ) (answer : Result (Unit {0}) Stop) → (x.begun.items ≡ [] → ⊥) → (r : IsRead x script lines text)
-    → y.number ≡ x.number → LineTo r.state x.begun.items shown answer y.world → EndsTo script (text ++ shown) answer y
+    → y.number ≡ x.number → LineTo r.state x.begun.items shown answer y.stage → EndsTo script (text ++ shown) answer y
 ends_line x y script lines text shown (Ok done) some r number told = (
   last_played script lines x.begun.items (r.refused + told.2) (text ++ shown) told.1 some r.script_is r.fits
-      (plays_more start lines r.refused text r.state x.begun.items shown told.0 told.2 told.1 r.plays r.begun_fits told.3 told.4),
+      (plays_more opening lines r.refused text r.state x.begun.items shown told.0 told.2 told.1 r.plays r.begun_fits told.3 told.4),
   stops_in script lines r.state r.refused text shown x.begun.items r.plays (has_last script lines x.begun.items r.begun_fits r.fits r.script_is) (inr (told.0, told.3, line_part r.state told.0 told.2 shown told.1 told.4)),
 )
 ends_line x y script lines text shown (Err why) some r number told =
-    line_stops script lines r.state r.refused text shown x.begun.items why y.world y.number r.plays (has_last script lines x.begun.items r.begun_fits r.fits r.script_is) (number ∙ r.number) told
+    line_stops script lines r.state r.refused text shown x.begun.items why y.stage y.number r.plays (has_last script lines x.begun.items r.begun_fits r.fits r.script_is) (number ∙ r.number) told

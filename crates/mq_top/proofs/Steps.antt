@@ -5,6 +5,7 @@ use Rattle.std.proofs.lemmas.List.{length-set}
 use Rattle.mq_machine.specs.Next.{Turn, SilentTurn, Quiet}
 use Rattle.mq_machine.specs.Play.{Runs, RunsPart}
 use Rattle.mq_machine.specs.State.{State}
+use Rattle.mq_machine.specs.declared.setup.Setup.{Setup}
 use Rattle.mq_machine.specs.Text.{note_line, idle_line}
 use Rattle.mq_talk.specs.declared.note.Note.{Note}
 use Rattle.mq_top.specs.Playing.{StepTo, Moves, IsActor, RunsTo}
@@ -87,23 +88,23 @@ far_silent s t u actor count left less shown e far turn = record {
 }
 
 -- a step moves on
-pub far_moves : (s t : State) (actor count left less : ℕ) (shown more : List ℕ) (w : World) → left ≡ suc less → Far s actor count shown t left → Moves t actor more w
-    → (u : State) × IsWorld w u × Far s actor count (shown ++ more) u less
-far_moves s t actor count left less shown more w e far (inl did) =
+pub far_moves : (setup : Setup) (s t : State) (actor count left less : ℕ) (shown more : List ℕ) (w : World) → left ≡ suc less → Far s actor count shown t left → Moves setup t actor more w
+    → (u : State) × IsWorld setup w u × Far s actor count (shown ++ more) u less
+far_moves setup s t actor count left less shown more w e far (inl did) =
     let P : List ℕ → Type 0 = λ text. Far s actor count (shown ++ text) did.1 less in
     (did.1, did.4, subst P (sym did.3) (far_more s t did.1 actor count left less shown did.0 e far did.2))
-far_moves s t actor count left less shown more w e far (inr silent) =
+far_moves setup s t actor count left less shown more w e far (inr silent) =
     let P : List ℕ → Type 0 = λ text. Far s actor count text silent.0 less in
     (silent.0, silent.3, subst P (sym (ap (λ (text : List ℕ). shown ++ text) silent.2 ∙ append-nil shown)) (far_silent s t silent.0 actor count left less shown e far silent.1))
 
-runs_none : (s : State) (actor n : ℕ) → RunsPart s actor n []
+pub runs_none : (s : State) (actor n : ℕ) → RunsPart s actor n []
 runs_none s actor zero = refl
 runs_none s actor (suc n) = inl refl
 
 -- no step is left
-pub far_done : (s t : State) (actor count left : ℕ) (shown : List ℕ) (w : World) → left ≡ 0 → 1 ≤ count → Far s actor count shown t left → (stands : IsWorld w t)
-    → RunsTo s actor count shown (Ok tt) w
-far_done s t actor count left shown w none some far stands =
+pub far_done : (setup : Setup) (s t : State) (actor count left : ℕ) (shown : List ℕ) (w : World) → left ≡ 0 → 1 ≤ count → Far s actor count shown t left → (stands : IsWorld setup w t)
+    → RunsTo setup s actor count shown (Ok tt) w
+far_done setup s t actor count left shown w none some far stands =
     let Q : ℕ → Type 0 = λ n. Runs t actor n 0 [] t in
     let P : List ℕ → Type 0 = λ text. Runs s actor count (far.refused + 0) text t in
     let runs = subst P (append-nil shown) (far.runs 0 [] t (subst Q (sym none) (refl, refl, refl))) in
@@ -113,9 +114,9 @@ far_done s t actor count left shown w none some far stands =
     ]
 
 -- the actor has no step
-pub far_idle : (s t : State) (actor count left less : ℕ) (shown idle : List ℕ) (w : World) → left ≡ suc less → Far s actor count shown t left → Quiet t actor → idle ≡ idle_line actor
-    → (stands : IsWorld w t) → RunsTo s actor count (shown ++ idle) (Ok tt) w
-far_idle s t actor count left less shown idle w e far quiet is stands =
+pub far_idle : (setup : Setup) (s t : State) (actor count left less : ℕ) (shown idle : List ℕ) (w : World) → left ≡ suc less → Far s actor count shown t left → Quiet t actor → idle ≡ idle_line actor
+    → (stands : IsWorld setup w t) → RunsTo setup s actor count (shown ++ idle) (Ok tt) w
+far_idle setup s t actor count left less shown idle w e far quiet is stands =
     let Q : ℕ → Type 0 = λ n. Runs t actor n 0 (idle_line actor) t in
     let P : List ℕ → Type 0 = λ text. Runs s actor count (far.refused + 0) (shown ++ text) t in
     let runs = subst P (sym is) (far.runs 0 (idle_line actor) t (subst Q (sym e) (inr (inr (quiet, refl, refl, refl))))) in
@@ -130,15 +131,15 @@ still_actor s t actor count left shown more none far =
     ]
 
 -- the step stopped
-pub far_stopped : (s t : State) (actor count left less : ℕ) (shown more : List ℕ) (why : Stop) (w v : World) → left ≡ suc less → Far s actor count shown t left
-    → StepTo t actor more (Err why) w → RunsTo s actor count (shown ++ more) (Err why) v
-far_stopped s t actor count left less shown more BadLine w v e far step =
+pub far_stopped : (setup : Setup) (s t : State) (actor count left less : ℕ) (shown more : List ℕ) (why : Stop) (w v : World) → left ≡ suc less → Far s actor count shown t left
+    → StepTo setup t actor more (Err why) w → RunsTo setup s actor count (shown ++ more) (Err why) v
+far_stopped setup s t actor count left less shown more BadLine w v e far step =
     let P : List ℕ → Type 0 = λ text. text ≡ [] in
     elim far.some [
       | inl none ↦ (omega (arith, far.same, step.0), ap (λ (xs : List ℕ). xs ++ more) none.0 ∙ step.1)
       | inr within ↦ absurd (omega (arith, far.same, step.0, within))
     ]
-far_stopped s t actor count left less shown more WriteFault w v e far step =
+far_stopped setup s t actor count left less shown more WriteFault w v e far step =
     let note = step.0 in
     let line = note_line note in
     let is : more ≡ line ++ [] = step.3 ∙ sym (append-nil line) in
@@ -146,7 +147,7 @@ far_stopped s t actor count left less shown more WriteFault w v e far step =
       far.part more (subst Q (sym e) (inr (inl (note, step.1, [], step.2, is, runs_none step.1 actor less)))),
       inr (within_start s t actor far.same (turn_within t actor note step.1 step.2)),
     )
-far_stopped s t actor count left less shown more NoMemory w v e far step =
+far_stopped setup s t actor count left less shown more NoMemory w v e far step =
     let Q : List ℕ → Type 0 = λ text. RunsPart t actor left text in (
       far.part more (subst Q (sym step) (runs_none t actor left)),
       still_actor s t actor count left shown more step far,

@@ -1,3 +1,4 @@
+pub mod Stages
 pub mod Printing
 pub mod Playing
 pub mod Reading

@@ -4,6 +4,8 @@ use Rattle.mq_machine.specs.declared.line.Line.{Line}
 use Rattle.mq_machine.specs.declared.line.Line.TheVariants as line
 use Rattle.mq_machine.specs.Line.{Says}
 use Rattle.mq_machine.specs.Next.{Turn, SilentTurn, Quiet}
+use Rattle.mq_machine.specs.declared.setup.Setup.{Setup}
+use Rattle.mq_machine.specs.Play as spec
 use Rattle.mq_machine.specs.Play.{Runs, RunsPart, LinePlays, LinePart, IsBad, IsBadHere}
 use Rattle.mq_machine.specs.State.{State}
 use Rattle.mq_machine.specs.Text.{note_line, idle_line}
@@ -14,54 +16,73 @@ use Rattle.mq_top.specs.declared.status.Stop.{Stop}
 use Rattle.mq_top.specs.declared.status.Stop.TheVariants.{BadLine, WriteFault, NoMemory}
 use Rattle.mq_world.specs.declared.event.Event.{Event}
 use Rattle.mq_world.specs.declared.event.Event.TheVariants.{Conn, Piece, Step}
+use Rattle.mq_world.specs.declared.event.Stepped.{Stepped}
+use Rattle.mq_world.specs.declared.event.WorldFault.{WorldFault}
+use Rattle.mq_world.specs.declared.event.WorldFault.TheVariants as fault
+use Rattle.mq_top.specs.declared.stage.Stage.{Stage}
+use Rattle.mq_top.specs.Stages.{IsStage}
 use Rattle.mq_world.specs.declared.world.World.{World}
 use Rattle.mq_world.specs.Worlds.{IsWorld}
 
 -- a step had a note, and showed it; or it was refused memory, and showed nothing
-abbrev pub Moves : State → ℕ → List ℕ → World → Type 0
-Moves s actor shown w =
-    ((note : Note) × (t : State) × Turn s actor note t × (shown ≡ note_line note) × IsWorld w t)
-    ⊎ ((t : State) × SilentTurn s actor t × (shown ≡ []) × IsWorld w t)
+abbrev pub Moves : Setup → State → ℕ → List ℕ → World → Type 0
+Moves setup s actor shown w =
+    ((note : Note) × (t : State) × Turn s actor note t × (shown ≡ note_line note) × IsWorld setup w t)
+    ⊎ ((t : State) × SilentTurn s actor t × (shown ≡ []) × IsWorld setup w t)
 
 -- an actor's step, and what it showed
-abbrev pub StepTo : State → ℕ → List ℕ → Result Moved Stop → World → Type 0
-StepTo s actor shown (Ok Acted) w = Moves s actor shown w
-StepTo s actor shown (Ok Idle) w = Quiet s actor × (shown ≡ idle_line actor) × IsWorld w s
-StepTo s actor shown (Err BadLine) w = (length s.workers ≤ actor) × (shown ≡ [])
-StepTo s actor shown (Err WriteFault) w = (note : Note) × (t : State) × Turn s actor note t × (shown ≡ note_line note)
-StepTo s actor shown (Err NoMemory) w = shown ≡ []
+abbrev pub StepTo : Setup → State → ℕ → List ℕ → Result Moved Stop → World → Type 0
+StepTo setup s actor shown (Ok Acted) w = Moves setup s actor shown w
+StepTo setup s actor shown (Ok Idle) w = Quiet s actor × (shown ≡ idle_line actor) × IsWorld setup w s
+StepTo setup s actor shown (Err BadLine) w = (length s.workers ≤ actor) × (shown ≡ [])
+StepTo setup s actor shown (Err WriteFault) w = (note : Note) × (t : State) × Turn s actor note t × (shown ≡ note_line note)
+StepTo setup s actor shown (Err NoMemory) w = shown ≡ []
 
 -- nothing was shown, or the actor is one
 abbrev pub IsActor : State → ℕ → List ℕ → Type 0
 IsActor s actor shown = (shown ≡ []) ⊎ (actor < length s.workers)
 
 -- up to so many steps, and what they showed
-abbrev pub RunsTo : State → ℕ → ℕ → List ℕ → Result (Unit {0}) Stop → World → Type 0
-RunsTo s actor count shown (Ok done) w = (t : State) × (refused : ℕ) × (actor < length s.workers) × Runs s actor count refused shown t × IsWorld w t
-RunsTo s actor count shown (Err BadLine) w = (length s.workers ≤ actor) × (shown ≡ [])
-RunsTo s actor count shown (Err WriteFault) w = RunsPart s actor count shown × IsActor s actor shown
-RunsTo s actor count shown (Err NoMemory) w = RunsPart s actor count shown × IsActor s actor shown
+abbrev pub RunsTo : Setup → State → ℕ → ℕ → List ℕ → Result (Unit {0}) Stop → World → Type 0
+RunsTo setup s actor count shown (Ok done) w = (t : State) × (refused : ℕ) × (actor < length s.workers) × Runs s actor count refused shown t × IsWorld setup w t
+RunsTo setup s actor count shown (Err BadLine) w = (length s.workers ≤ actor) × (shown ≡ [])
+RunsTo setup s actor count shown (Err WriteFault) w = RunsPart s actor count shown × IsActor s actor shown
+RunsTo setup s actor count shown (Err NoMemory) w = RunsPart s actor count shown × IsActor s actor shown
+
+-- the same from a stage on
+abbrev pub StageRunsTo : spec.Stage → ℕ → ℕ → List ℕ → Result (Unit {0}) Stop → Stage → Type 0
+StageRunsTo s actor count shown (Ok done) x =
+    (t : State) × (refused : ℕ) × (actor < length (spec.opened s).workers) × Runs (spec.opened s) actor count refused shown t × IsStage x (spec.Running t)
+StageRunsTo s actor count shown (Err BadLine) x = (length (spec.opened s).workers ≤ actor) × (shown ≡ [])
+StageRunsTo s actor count shown (Err WriteFault) x = RunsPart (spec.opened s) actor count shown × IsActor (spec.opened s) actor shown
+StageRunsTo s actor count shown (Err NoMemory) x = RunsPart (spec.opened s) actor count shown × IsActor (spec.opened s) actor shown
+
+-- whether the play goes on behind what is no step
+abbrev pub Answers : Result Stepped WorldFault → Result (Unit {0}) Stop → Type 0
+Answers (Ok stepped) answer = answer ≡ Ok tt
+Answers (Err fault.Missing) answer = answer ≡ Err BadLine
+Answers (Err fault.NoMemory) answer = answer ≡ Err NoMemory
 
 -- a line that prints nothing
-abbrev pub SilentTo : State → Line → Result (Unit {0}) Stop → World → Type 0
-SilentTo s said (Ok done) w = (t : State) × LinePlays s said 0 [] t × IsWorld w t
-SilentTo s said (Err BadLine) w = IsBadHere s said
-SilentTo s said (Err WriteFault) w = ⊥
-SilentTo s said (Err NoMemory) w = Unit {0}
+abbrev pub SilentTo : spec.Stage → Line → Result (Unit {0}) Stop → Stage → Type 0
+SilentTo s said (Ok done) x = (t : spec.Stage) × LinePlays s said 0 [] t × IsStage x t
+SilentTo s said (Err BadLine) x = IsBadHere s said
+SilentTo s said (Err WriteFault) x = ⊥
+SilentTo s said (Err NoMemory) x = Unit {0}
 
 -- what is no step
-abbrev pub EventTo : State → Event → Result (Unit {0}) Stop → World → Type 0
-EventTo s (Conn actor) answer w = SilentTo s (line.Conn actor) answer w
-EventTo s (Piece conn bytes) answer w = SilentTo s (line.Piece conn bytes) answer w
-EventTo s (Step actor) answer w = Unit {0}
+abbrev pub EventTo : spec.Stage → Event → Result (Unit {0}) Stop → Stage → Type 0
+EventTo s (Conn actor) answer x = SilentTo s (line.Conn actor) answer x
+EventTo s (Piece conn bytes) answer x = SilentTo s (line.Piece conn bytes) answer x
+EventTo s (Step actor) answer x = Unit {0}
 
 -- a line was cut off: before it, or in what it says
-abbrev pub IsCutLine : State → List ℕ → List ℕ → Type 0
+abbrev pub IsCutLine : spec.Stage → List ℕ → List ℕ → Type 0
 IsCutLine s bytes shown = (shown ≡ []) ⊎ ((said : Line) × Says bytes said × LinePart s said shown)
 
 -- a whole line within its limit, and what it showed
-abbrev pub LineTo : State → List ℕ → List ℕ → Result (Unit {0}) Stop → World → Type 0
-LineTo s bytes shown (Ok done) w = (said : Line) × (t : State) × (refused : ℕ) × Says bytes said × LinePlays s said refused shown t × IsWorld w t
-LineTo s bytes shown (Err BadLine) w = IsBad s bytes × (shown ≡ [])
-LineTo s bytes shown (Err WriteFault) w = IsCutLine s bytes shown
-LineTo s bytes shown (Err NoMemory) w = IsCutLine s bytes shown
+abbrev pub LineTo : spec.Stage → List ℕ → List ℕ → Result (Unit {0}) Stop → Stage → Type 0
+LineTo s bytes shown (Ok done) x = (said : Line) × (t : spec.Stage) × (refused : ℕ) × Says bytes said × LinePlays s said refused shown t × IsStage x t
+LineTo s bytes shown (Err BadLine) x = IsBad s bytes × (shown ≡ [])
+LineTo s bytes shown (Err WriteFault) x = IsCutLine s bytes shown
+LineTo s bytes shown (Err NoMemory) x = IsCutLine s bytes shown

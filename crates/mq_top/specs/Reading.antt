@@ -1,7 +1,7 @@
 -- How far a script was read and played.
 use Rattle.std.specs.Prelude.{◌≡◌, ℕ, ◌+◌, ◌≤◌, ◌<◌, ◌⊎◌, List, [], ◌++◌, length, Option, Some, None, Result, Ok, Err}
-use Rattle.mq_machine.specs.Play.{Plays, IsScript, HasBad, IsPlayed, IsPlayedBad, IsPlayedPart, line_limit, script_limit}
-use Rattle.mq_machine.specs.State.{State, start}
+use Rattle.mq_machine.specs.Play.{Stage, opening, Plays, IsScript, HasBad, IsPlayed, IsPlayedBad, IsPlayedPart, line_limit, script_limit}
+use Rattle.mq_top.specs.Stages.{IsStage}
 use Rattle.mq_top.specs.declared.session.Session.{Session}
 use Rattle.mq_outside.specs.Outside.{Rose}
 use Rattle.mq_top.specs.Replay.{Replays}
@@ -10,14 +10,13 @@ use Rattle.mq_top.specs.declared.status.Status.TheVariants as status
 use Rattle.mq_top.specs.declared.status.Status.TheVariants.{Done, ReadFault, BadScript}
 use Rattle.mq_top.specs.declared.status.Stop.{Stop}
 use Rattle.mq_top.specs.declared.status.Stop.TheVariants.{BadLine, WriteFault, NoMemory}
-use Rattle.mq_world.specs.Worlds.{IsWorld}
 
 -- The script so far is these lines and the begun one. The lines were played, and printed the text.
 pub record IsRead (x : Session) (script : List ℕ) (lines : List (List ℕ)) (text : List ℕ) : Type 0 where
-  pub state : State
+  pub state : Stage
   pub refused : ℕ
-  pub plays : Plays start lines refused text state
-  pub stands : IsWorld x.world state
+  pub plays : Plays opening lines refused text state
+  pub stands : IsStage x.stage state
   pub number : x.number ≡ length lines
   pub script_is : IsScript script lines x.begun.items
   pub count : x.count ≡ length script
@@ -34,9 +33,9 @@ RoomTo line count newline (Err NoMemory) = ⊥
 -- so many lines were played and printed the text, and the one behind them is bad
 pub record IsAtBad (whole text : List ℕ) (number : ℕ) : Type 0 where
   pub before : List (List ℕ)
-  pub state : State
+  pub state : Stage
   pub refused : ℕ
-  pub plays : Plays start before refused text state
+  pub plays : Plays opening before refused text state
   pub bad : HasBad whole before state
   pub number_is : number ≡ length before
 

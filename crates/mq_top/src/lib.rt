@@ -8,6 +8,7 @@ mod play;
 mod print;
 mod script;
 mod session;
+mod stage;
 mod standard;
 mod status;
 #[cfg(test)]

@@ -1,19 +1,18 @@
 //! The bytes of a script are cut into lines, and each line is played as soon as it is whole.
 ghost use Rattle.std.specs.Prelude.{◌≡◌, ◌≢◌, ℕ, ◌+◌, ◌<◌, ◌≤◌, List, [], ◌∷◌, ◌++◌, length, Ok, Err, IfOk};
-ghost use Rattle.mq_machine.specs.State.{State};
-ghost use Rattle.mq_world.specs.Worlds.{IsWorld};
+ghost use Rattle.mq_machine.specs.Play as spec;
+ghost use Rattle.mq_top.specs.Stages.{IsStage};
 ghost use Rattle.mq_text.specs.Cut.{Lacks};
 ghost use Rattle.mq_top.specs.Printing.{Prints, StopCounts, IsSilent};
 ghost use Rattle.mq_top.specs.Playing.{LineTo};
 ghost use Rattle.mq_top.specs.Reading.{IsRead, RoomTo, ReadsTo, EndsTo};
 
 use crate::play::play_line;
+use crate::stage::Stage;
 use crate::status::Stop;
-use mq_machine::Setup;
 use mq_outside::Sink;
 use mq_text::cut;
 use mq_wire::NoMemory;
-use mq_world::World;
 use std::alloc::Global;
 
 /// The most bytes of a line, without its newline.
@@ -25,7 +24,7 @@ const SCRIPT_LIMIT: usize = 67_108_864;
 /// How far a script was read and played.
 #[derive(Drop)]
 pub struct Session {
-    pub world: World,
+    pub stage: Stage,
     /// The line that was begun, where earlier reads ended in it.
     pub begun: Vec<u8>,
     /// How many lines came before it.
@@ -35,13 +34,12 @@ pub struct Session {
 }
 
 impl Session {
-    /// Nothing was read, and the proxy has a plain setup.
+    /// Nothing was read.
     pub fn new(alloc: Global) -> Result<Session, NoMemory>
         ensures { IfOk result (λ session. IsRead session [] [] []) }
     {
-        let setup = Setup::new(alloc)?;
         Ok(Session {
-            world: World::new(setup),
+            stage: Stage::new(alloc)?,
             begun: Vec::new(alloc),
             number: 0,
             count: 0,
@@ -78,7 +76,7 @@ impl Session {
             return Err(Stop::NoMemory);
         }
         let number = self.number + 1;
-        play_whole(alloc, &mut self.world, &mut self.begun, end, owed, sink)?;
+        play_whole(alloc, &mut self.stage, &mut self.begun, end, owed, sink)?;
         self.begun.clear();
         self.number = number;
         self.count = count;
@@ -135,28 +133,28 @@ impl Session {
         if self.begun.is_empty() {
             return Ok(());
         }
-        play_line(alloc, &mut self.world, self.begun.as_slice(), owed, sink)
+        play_line(alloc, &mut self.stage, self.begun.as_slice(), owed, sink)
     }
 }
 
 /// Plays the line of begun bytes and an end. A line of one read is played where it lies.
 fn play_whole<K: Sink>(
     alloc: Global,
-    world: &mut World,
+    stage: &mut Stage,
     begun: &mut Vec<u8>,
     end: &[u8],
     owed: &mut Vec<u8>,
     sink: &mut K,
 ) -> Result<(), Stop>
     ensures line { (shown : List ℕ) × Prints (K.taken sink.old) (K.taken sink.new) owed.old.items owed.new.items shown
-        × ((s : State) → IsWorld world.old s → LineTo s (begun.old.items ++ end.now) shown result world.new) }
+        × ((s : spec.Stage) → IsStage stage.old s → LineTo s (begun.old.items ++ end.now) shown result stage.new) }
     ensures counts { StopCounts (K.faults sink.old) (K.faults sink.new) result }
 {
     if begun.is_empty() {
-        return play_line(alloc, world, end, owed, sink);
+        return play_line(alloc, stage, end, owed, sink);
     }
     if begun.extend_from_slice(end).is_err() {
         return Err(Stop::NoMemory);
     }
-    play_line(alloc, world, begun.as_slice(), owed, sink)
+    play_line(alloc, stage, begun.as_slice(), owed, sink)
 }

@@ -5,7 +5,8 @@ mod rows;
 use crate::{MemSink, MemSource, Status, replay, run};
 use mq_wire::{Bytes, NoMemory, Seq};
 use rows::{
-    BAD, BAD_PRINTS, FIRST, FIRST_PRINTS, NOT_FOUND, NOT_FOUND_PRINTS, REFUSED, REFUSED_PRINTS,
+    BAD, BAD_PRINTS, DENIED, DENIED_PRINTS, FIRST, FIRST_PRINTS, NOT_FOUND, NOT_FOUND_PRINTS,
+    REFUSED, REFUSED_PRINTS,
 };
 use std::alloc::{AllocError, Global};
 use std::test::Fail;
@@ -46,6 +47,7 @@ fn rows_print_what_they_should(rt: HostRuntime) -> Result<(), Fail> {
         (FIRST, Status::Done, FIRST_PRINTS),
         (REFUSED, Status::Done, REFUSED_PRINTS),
         (NOT_FOUND, Status::Done, NOT_FOUND_PRINTS),
+        (DENIED, Status::Done, DENIED_PRINTS),
         (BAD, Status::BadScript, BAD_PRINTS),
         (b"# said\n\nstep 1\n", Status::BadScript, b"bad line 3\n"),
         (b"conn 0\nconn 0\n", Status::BadScript, b"bad line 2\n"),
@@ -132,6 +134,111 @@ fn paths_are_judged(rt: HostRuntime) -> Result<(), Fail> {
         let (status, out) = replayed(rt.alloc(), script.as_slice(), &PLAIN)?;
         assert_eq!(rt; status, Status::Done);
         assert_eq!(rt; out.as_slice().ends_with(want), true);
+    }
+    Ok(())
+}
+
+/// Settings, and then a request for a UDP tunnel at this path.
+fn configured(alloc: Global, settings: &[u8], path: &[u8]) -> Result<Vec<u8>, AllocError> {
+    let mut script = Vec::from_slice(alloc, settings)?;
+    let request = request_at(alloc, path)?;
+    script.extend_from_slice(request.as_slice())?;
+    Ok(script)
+}
+
+// The first rule that matches decides; a name is looked up before; the last template and the last line of a name count.
+#[test]
+fn settings_decide(rt: HostRuntime) -> Result<(), Fail> {
+    let here: &[u8] = b"/.well-known/masque/udp/192.0.2.6/443/";
+    let named: &[u8] = b"/.well-known/masque/udp/A.Example/443/";
+    let cases: [(&[u8], &[u8], &[u8]); 17] = [
+        (b"", here, b"\nported 0 0\n"),
+        (b"deny udp * 1 65535\n", here, b"\nrefused 0 0 403 rule 1\n"),
+        (
+            b"allow udp * 1 65535\ndeny udp * 1 65535\n",
+            here,
+            b"\nported 0 0\n",
+        ),
+        (
+            b"deny udp 192.0.2.0/24 1 65535\nallow udp * 1 65535\n",
+            here,
+            b"\nrefused 0 0 403 rule 1\n",
+        ),
+        (b"allow ip * *\n", here, b"\nrefused 0 0 403 rule 0\n"),
+        (
+            b"deny ip * *\ndeny udp * 443 443\n",
+            here,
+            b"\nrefused 0 0 403 rule 2\n",
+        ),
+        (
+            b"deny udp * 1 442\ndeny udp * 444 65535\nallow udp * 1 65535\n",
+            here,
+            b"\nported 0 0\n",
+        ),
+        (
+            b"deny udp * 443 65535\n",
+            here,
+            b"\nrefused 0 0 403 rule 1\n",
+        ),
+        (b"deny udp * 1 443\n", here, b"\nrefused 0 0 403 rule 1\n"),
+        (
+            b"deny udp ::/0 1 65535\nallow udp * 1 65535\n",
+            here,
+            b"\nported 0 0\n",
+        ),
+        (b"deny udp * 1 65535\n", named, b"\nrefused 0 0 502\n"),
+        (b"name a.example 192.0.2.6\n", named, b"\nported 0 0\n"),
+        (
+            b"name a.example 192.0.2.6\ndeny udp 192.0.2.6/32 1 65535\n",
+            named,
+            b"\nrefused 0 0 403 rule 1\n",
+        ),
+        (
+            b"name a.example 192.0.2.6\nname a.example 192.0.2.7\ndeny udp 192.0.2.6/32 1 65535\nallow udp * 1 65535\n",
+            named,
+            b"\nported 0 0\n",
+        ),
+        (
+            b"# said\n\ntemplate udp /u/{target_host}/{target_port}\n",
+            here,
+            b"\nrefused 0 0 404\n",
+        ),
+        (
+            b"template udp /u/{target_host}/{target_port}\n",
+            b"/u/192.0.2.6/443",
+            b"\nported 0 0\n",
+        ),
+        (
+            b"template udp /u{?target_host,target_port}\ntemplate udp /v{?target_host,target_port}\n",
+            b"/v?target_host=192.0.2.6&target_port=443",
+            b"\nported 0 0\n",
+        ),
+    ];
+    for (settings, path, want) in cases {
+        let script = configured(rt.alloc(), settings, path)?;
+        let (status, out) = replayed(rt.alloc(), script.as_slice(), &PLAIN)?;
+        assert_eq!(rt; status, Status::Done);
+        assert_eq!(rt; out.as_slice().ends_with(want), true);
+    }
+    Ok(())
+}
+
+#[test]
+fn settings_stand_first(rt: HostRuntime) -> Result<(), Fail> {
+    let cases: [(&[u8], &[u8]); 5] = [
+        (b"conn 0\ndeny udp * 1 65535\n", b"bad line 2\n"),
+        (b"step 0\nname a 192.0.2.6\n", b"idle 0\nbad line 2\n"),
+        (
+            b"name a 192.0.2.6\nconn 0\ntemplate ip /{target}/{ipproto}\n",
+            b"bad line 3\n",
+        ),
+        (b"template udp /{target}/{ipproto}\n", b"bad line 1\n"),
+        (b"deny udp 192.0.2.1/24 1 65535\n", b"bad line 1\n"),
+    ];
+    for (script, want) in cases {
+        let (status, out) = replayed(rt.alloc(), script, &PLAIN)?;
+        assert_eq!(rt; out.as_slice(), want);
+        assert_eq!(rt; status, Status::BadScript);
     }
     Ok(())
 }

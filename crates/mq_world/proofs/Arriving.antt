@@ -5,7 +5,7 @@ use Rattle.mq_machine.specs.State as spec
 use Rattle.mq_machine.specs.State.{State, start_with}
 use Rattle.mq_machine.specs.declared.setup.Setup.{Setup}
 use Rattle.mq_machine.specs.declared.line.Line.TheVariants as line
-use Rattle.mq_machine.specs.Play.{OffersLink, LinePlays}
+use Rattle.mq_machine.specs.Play.{OffersLink, Happens}
 use Rattle.mq_machine.specs.Next.{Quiet}
 use Rattle.mq_conn.specs.declared.connection.Connection.{Connection}
 use Rattle.mq_world.specs.declared.link.Seat.TheVariants.{Offered, Held, Gone}
@@ -23,17 +23,17 @@ start_quiet setup s is =
 
 -- the first link is offered
 pub offered_first : (setup : Setup) (s : State) (entries actor : ℕ) → s ≡ start_with setup → entries ≡ 0 → actor ≤ 0
-    → (t : State) × LinePlays s (line.Conn actor) 0 [] t × IsLinked setup (record { pieces = []; seat = Offered }) t entries
+    → (t : State) × Happens s (line.Conn actor) t × IsLinked setup (record { pieces = []; seat = Offered }) t entries
 offered_first setup s entries actor is none first =
     let o : spec.Offer = record { number = 0; link = record { pieces = [] } } in
     let w : spec.Worker = record { id = 0; offered = []; conns = []; next_seat = 0 } in
     let v : spec.Worker = record { id = 0; offered = o ∷ []; conns = []; next_seat = 0 } in
     let t : State = record { links = 1; workers = v ∷ []; shared = record { setup = setup; book = [] } } in
     let zero_is : actor ≡ 0 = omega arith in
-    let P : State → Type 0 = λ x. LinePlays x (line.Conn actor) 0 [] t in
+    let P : State → Type 0 = λ x. Happens x (line.Conn actor) t in
     let Q : ℕ → Type 0 = λ a. OffersLink (start_with setup) a t in (
       t,
-      subst P (sym is) ((refl, subst Q (sym zero_is) (record { w = w; at = refl; new_is = refl })), refl, refl),
+      subst P (sym is) (refl, subst Q (sym zero_is) (record { w = w; at = refl; new_is = refl })),
       record { worker = v; links = refl; workers = refl; id = refl; setup_is = refl; book = sym none; seat = (refl, refl) },
     )
 

@@ -2,7 +2,8 @@
 use Rattle.std.specs.Prelude.{◌≡◌, ℕ, ◌+◌, ◌≤◌, List, [], ◌∷◌, length, Option, Some, None, Result, Ok, Err}
 use Rattle.mq_machine.specs.declared.line.Line.TheVariants as line
 use Rattle.mq_machine.specs.Next.{Turn, SilentTurn, Quiet}
-use Rattle.mq_machine.specs.Play.{LinePlays, IsBadHere, Arrives}
+use Rattle.mq_machine.specs.Play as spec_play
+use Rattle.mq_machine.specs.Play.{IsMissing, Arrives}
 use Rattle.mq_machine.specs.State.{State, start_with}
 use Rattle.mq_machine.specs.declared.setup.Setup.{Setup}
 use Rattle.mq_world.specs.declared.event.Event.{Event}
@@ -42,9 +43,9 @@ abbrev pub MayBeLinked : Setup → Option Link → State → ℕ → Type 0
 MayBeLinked setup None s entries = (s ≡ start_with setup) × (entries ≡ 0)
 MayBeLinked setup (Some link) s entries = IsLinked setup link s entries
 
--- the world stands for this state
-abbrev pub IsWorld : World → State → Type 0
-IsWorld w s = MayBeLinked w.setup w.link s w.entries
+-- the world of a proxy with this setup stands for this state
+abbrev pub IsWorld : Setup → World → State → Type 0
+IsWorld setup w s = MayBeLinked setup w.link s w.entries
 
 -- a piece arrives on link 0
 abbrev pub ArrivedOn : Setup → State → List ℕ → Link → ℕ → Type 0
@@ -57,34 +58,34 @@ LinkSteps setup s entries (Ok None) link = Quiet s 0 × IsLinked setup link s en
 LinkSteps setup s entries (Err refused) link = (t : State) × SilentTurn s 0 t × IsLinked setup link t entries
 
 -- a new link, or that there can be none
-abbrev pub Offers : State → ℕ → Result Stepped WorldFault → World → Type 0
-Offers s actor (Ok Done) w = (t : State) × LinePlays s (line.Conn actor) 0 [] t × IsWorld w t
-Offers s actor (Err Missing) w = IsBadHere s (line.Conn actor) × IsWorld w s
-Offers s actor (Err NoMemory) w = Unit {0}
-Offers s actor (Ok (Did note)) w = ⊥
-Offers s actor (Ok Idle) w = ⊥
-Offers s actor (Ok Refused) w = ⊥
+abbrev pub Offers : Setup → State → ℕ → Result Stepped WorldFault → World → Type 0
+Offers setup s actor (Ok Done) w = (t : State) × spec_play.Happens s (line.Conn actor) t × IsWorld setup w t
+Offers setup s actor (Err Missing) w = IsMissing s (line.Conn actor) × IsWorld setup w s
+Offers setup s actor (Err NoMemory) w = Unit {0}
+Offers setup s actor (Ok (Did note)) w = ⊥
+Offers setup s actor (Ok Idle) w = ⊥
+Offers setup s actor (Ok Refused) w = ⊥
 
 -- a piece arrives, or its link never was
-abbrev pub Arrived : State → ℕ → List ℕ → Result Stepped WorldFault → World → Type 0
-Arrived s conn bytes (Ok Done) w = (t : State) × LinePlays s (line.Piece conn bytes) 0 [] t × IsWorld w t
-Arrived s conn bytes (Err Missing) w = IsBadHere s (line.Piece conn bytes) × IsWorld w s
-Arrived s conn bytes (Err NoMemory) w = Unit {0}
-Arrived s conn bytes (Ok (Did note)) w = ⊥
-Arrived s conn bytes (Ok Idle) w = ⊥
-Arrived s conn bytes (Ok Refused) w = ⊥
+abbrev pub Arrived : Setup → State → ℕ → List ℕ → Result Stepped WorldFault → World → Type 0
+Arrived setup s conn bytes (Ok Done) w = (t : State) × spec_play.Happens s (line.Piece conn bytes) t × IsWorld setup w t
+Arrived setup s conn bytes (Err Missing) w = IsMissing s (line.Piece conn bytes) × IsWorld setup w s
+Arrived setup s conn bytes (Err NoMemory) w = Unit {0}
+Arrived setup s conn bytes (Ok (Did note)) w = ⊥
+Arrived setup s conn bytes (Ok Idle) w = ⊥
+Arrived setup s conn bytes (Ok Refused) w = ⊥
 
 -- an actor's turn, or it has none, or was refused memory, or never was
-abbrev pub Stepping : State → ℕ → Result Stepped WorldFault → World → Type 0
-Stepping s actor (Ok (Did note)) w = (t : State) × Turn s actor note t × IsWorld w t
-Stepping s actor (Ok Idle) w = Quiet s actor × IsWorld w s
-Stepping s actor (Ok Refused) w = (t : State) × SilentTurn s actor t × IsWorld w t
-Stepping s actor (Err Missing) w = (length s.workers ≤ actor) × IsWorld w s
-Stepping s actor (Err NoMemory) w = Unit {0}
-Stepping s actor (Ok Done) w = ⊥
+abbrev pub Stepping : Setup → State → ℕ → Result Stepped WorldFault → World → Type 0
+Stepping setup s actor (Ok (Did note)) w = (t : State) × Turn s actor note t × IsWorld setup w t
+Stepping setup s actor (Ok Idle) w = Quiet s actor × IsWorld setup w s
+Stepping setup s actor (Ok Refused) w = (t : State) × SilentTurn s actor t × IsWorld setup w t
+Stepping setup s actor (Err Missing) w = (length s.workers ≤ actor) × IsWorld setup w s
+Stepping setup s actor (Err NoMemory) w = Unit {0}
+Stepping setup s actor (Ok Done) w = ⊥
 
 -- what an event does
-abbrev pub Happens : State → Event → Result Stepped WorldFault → World → Type 0
-Happens s (Conn actor) answer w = Offers s actor answer w
-Happens s (Piece conn bytes) answer w = Arrived s conn bytes answer w
-Happens s (Step actor) answer w = Stepping s actor answer w
+abbrev pub Happens : Setup → State → Event → Result Stepped WorldFault → World → Type 0
+Happens setup s (Conn actor) answer w = Offers setup s actor answer w
+Happens setup s (Piece conn bytes) answer w = Arrived setup s conn bytes answer w
+Happens setup s (Step actor) answer w = Stepping setup s actor answer w

@@ -1,4 +1,4 @@
-//! The world: its setup, one worker with its link, and the number of entries in the book.
+//! The world: one worker, its link and the number of entries in the book.
 ghost use Rattle.std.specs.Prelude.{◌≡◌, ℕ, ◌+◌, OnOk, IfOk};
 ghost use Rattle.mq_machine.specs.State.{State, start_with};
 ghost use Rattle.mq_machine.specs.declared.setup.Setup.{Setup};
@@ -14,10 +14,9 @@ use mq_talk::Note;
 use mq_wire::{Bytes, NoMemory};
 use std::alloc::Global;
 
-/// The setup of a proxy, one worker with its link, once it was made, and the number of entries in the book.
+/// One worker with its link, once it was made, and the number of entries in the book.
 #[derive(Drop)]
 pub struct World {
-    setup: Setup,
     link: Option<Link>,
     entries: u32,
 }
@@ -66,31 +65,35 @@ fn arrive_on(link: &mut Link, bytes: Bytes) -> Result<(), NoMemory>
 }
 
 impl World {
-    /// One worker of a proxy with this setup, and no link yet.
-    pub fn new(setup: Setup) -> World
-        ensures { IsWorld result (start_with setup) }
+    /// One worker, and no link yet.
+    pub fn new() -> World
+        ensures { (setup : Setup) → IsWorld setup result (start_with setup) }
     {
         World {
-            setup,
             link: None,
             entries: 0,
         }
     }
 
-    /// Lets something happen.
-    pub fn step(&mut self, alloc: Global, event: Event) -> Result<Stepped, WorldFault>
-        ensures { (s : State) → IsWorld self.old s → Happens s event result self.new }
+    /// Lets something happen. The setup of the proxy is the same at each event.
+    pub fn step(
+        &mut self,
+        alloc: Global,
+        setup: &Setup,
+        event: Event,
+    ) -> Result<Stepped, WorldFault>
+        ensures { (s : State) → IsWorld setup.now self.old s → Happens setup.now s event result self.new }
     {
         match event {
             Event::Conn { actor } => self.offer(alloc, actor),
             Event::Piece { conn, bytes } => self.arrive(conn, bytes),
-            Event::Step { actor } => self.step_actor(alloc, actor),
+            Event::Step { actor } => self.step_actor(alloc, setup, actor),
         }
     }
 
     /// Offers the link.
     fn offer(&mut self, alloc: Global, actor: u32) -> Result<Stepped, WorldFault>
-        ensures { (s : State) → IsWorld self.old s → Offers s actor result self.new }
+        ensures { (setup : Setup) (s : State) → IsWorld setup self.old s → Offers setup s actor result self.new }
     {
         if actor > 0 {
             return Err(WorldFault::Missing);
@@ -109,7 +112,7 @@ impl World {
 
     /// A piece arrives.
     fn arrive(&mut self, conn: u32, bytes: Bytes) -> Result<Stepped, WorldFault>
-        ensures { (s : State) → IsWorld self.old s → Arrived s conn bytes result self.new }
+        ensures { (setup : Setup) (s : State) → IsWorld setup self.old s → Arrived setup s conn bytes result self.new }
     {
         let Some(link) = &mut self.link else {
             return Err(WorldFault::Missing);
@@ -122,8 +125,13 @@ impl World {
     }
 
     /// One step of an actor.
-    fn step_actor(&mut self, alloc: Global, actor: u32) -> Result<Stepped, WorldFault>
-        ensures { (s : State) → IsWorld self.old s → Stepping s actor result self.new }
+    fn step_actor(
+        &mut self,
+        alloc: Global,
+        setup: &Setup,
+        actor: u32,
+    ) -> Result<Stepped, WorldFault>
+        ensures { (s : State) → IsWorld setup.now self.old s → Stepping setup.now s actor result self.new }
     {
         if actor > 0 {
             return Err(WorldFault::Missing);
@@ -131,7 +139,7 @@ impl World {
         let Some(link) = &mut self.link else {
             return Ok(Stepped::Idle);
         };
-        match step_link(alloc, &self.setup, self.entries, link) {
+        match step_link(alloc, setup, self.entries, link) {
             Ok(None) => Ok(Stepped::Idle),
             Ok(Some(note)) => {
                 self.entries = with_written(self.entries, &note)?;

@@ -20,6 +20,13 @@ pub const NOT_FOUND: &[u8] =
 pub const NOT_FOUND_PRINTS: &[u8] =
     b"accepted 0 0\ntook 0 71\nrefused 0 0 404\nwrote 0 485454502f312e3120343034204e6f7420466f756e640d0a436f6e6e656374696f6e3a20636c6f73650d0a436f6e74656e742d4c656e6774683a20300d0a0d0a\nended 0 Refused\nidle 0\n";
 
+/// A rule that denies the target of the example request.
+pub const DENIED: &[u8] =
+    b"deny udp 192.0.2.0/24 1 65535\nconn 0\ntext 0 GET https://example.org/.well-known/masque/udp/192.0.2.6/443/ HTTP/1.1\\r\\nHost: example.org\\r\\nConnection: Upgrade\\r\\nUpgrade: connect-udp\\r\\nCapsule-Protocol: ?1\\r\\n\\r\\n\nbytes 0 0003006869\nstep 0 8\n";
+
+pub const DENIED_PRINTS: &[u8] =
+    b"accepted 0 0\ntook 0 158\nrefused 0 0 403 rule 1\nwrote 0 485454502f312e312034303320466f7262696464656e0d0a436f6e6e656374696f6e3a20636c6f73650d0a436f6e74656e742d4c656e6774683a20300d0a0d0a\nended 0 Refused\nidle 0\n";
+
 /// A second line that names a link that never was.
 pub const BAD: &[u8] = b"conn 0\nbytes 1 00\n";
 

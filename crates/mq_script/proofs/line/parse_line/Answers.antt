@@ -9,6 +9,6 @@ returns-then-is_blank c =
 pub returns : goal.returns
 returns c =
     let no_blank = c.if-is_blank.false in
-    let a = words_answer c.cut_once.ensures c.args.line.now c.parse_words.result
+    let a = words_answer c.says_one.ensures c.args.line.now c.parse_words.result
     (λ blank. let yes = c.is_blank.ensures.1 blank in cc (no_blank, yes)) c.parse_words.ensures in
     record { ok = a.ok; syntax = a.syntax; found = a.found }

@@ -6,7 +6,7 @@ returns-in_default c = λ said h. no_word c.args.line.now said c.in_default.ensu
 
 pub returns-in_default-parse_word : goal.returns-in_default-parse_word
 returns-in_default-parse_word c = other_word c.cut_once.ensures c.args.line.now c.in-Some.text.now c.in-Some.rest.now c.in-Some.ensures
-    (λ w is. let none = c.in_default-parse_word.ensures.none w is in cc none)
+    c.in_default-parse_word.ensures
 
 pub returns : goal.returns
-returns c = word_read c.cut_once.ensures c.args.line.now c.in-Some.text.now c.in-Some.rest.now c.in-Some-parse_word.word c.parse_behind.result c.in-Some.ensures c.in-Some-parse_word.ensures.some c.parse_behind.ensures
+returns c = word_read c.cut_once.ensures c.args.line.now c.in-Some.text.now c.in-Some.rest.now c.in-Some-parse_word.word c.parse_behind.result c.in-Some.ensures c.in-Some-parse_word.ensures c.parse_behind.ensures

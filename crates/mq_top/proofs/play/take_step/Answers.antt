@@ -25,7 +25,7 @@ returns-in_err-spill-in-Ok-Did-clause-step g c =
       λ s is.
           let told = rw c.in-Ok-Did.field-0-is at (c.in-Ok-Did.ensures s is) in
           let p = err_from_is_err_and c.from_residual-in_err-spill-in-Ok-Did.result c.from_residual-in_err-spill-in-Ok-Did.ensures.1 in
-          rw (p.1, p.2) (spilled s told.0 c.args.actor c.in-Ok-Did.note c.in_err-spill-in-Ok-Did.field-0.0 c.step.new.self told.1 c.in_err-spill-in-Ok-Did.ensures.fault),
+          rw (p.1, p.2) (spilled c.args.setup.now s told.0 c.args.actor c.in-Ok-Did.note c.in_err-spill-in-Ok-Did.field-0.0 c.step.new.self told.1 c.in_err-spill-in-Ok-Did.ensures.fault),
     )
 
 pub returns-in_err-print_idle-in-Ok-Idle-clause-step : goal.returns-in_err-print_idle-in-Ok-Idle-clause-step
@@ -34,7 +34,7 @@ returns-in_err-print_idle-in-Ok-Idle-clause-step g c = (
   prints_said _ _ _ [] (c.in_err-print_idle-in-Ok-Idle.ensures.err ∙ sym (append-nil _)),
   λ s is.
       let p = err_from_is_err_and c.from_residual-in_err-print_idle-in-Ok-Idle.result c.from_residual-in_err-print_idle-in-Ok-Idle.ensures.1 in
-      rw p.1 (unprinted s c.args.actor _ c.step.new.self p.2),
+      rw p.1 (unprinted c.args.setup.now s c.args.actor _ c.step.new.self p.2),
 )
 
 pub returns-in-Err-Missing-clause-step : goal.returns-in-Err-Missing-clause-step

@@ -16,7 +16,7 @@ returns-in_err-take_step-clause-runs g c =
           let far = inv.2 s is in
           let p = err_from_is_err_and c.from_residual.result c.from_residual.ensures.1 in
           let w = c.take_step.new.world in
-          rw (p.1, p.2) (far_stopped s far.0 c.args.actor c.args.count left (left - 1) inv.0 step.0 c.in_err-take_step.field-0.0 w w e far.2 (step.2 far.0 far.1)),
+          rw (p.1, p.2) (far_stopped c.args.setup.now s far.0 c.args.actor c.args.count left (left - 1) inv.0 step.0 c.in_err-take_step.field-0.0 w w e far.2 (step.2 far.0 far.1)),
     )
 
 pub loop-left-init : goal.loop-left-init
@@ -33,7 +33,7 @@ loop-left-preserved g c =
       (λ s is.
           let far = inv.2 s is in
           let told = rw c.in-Acted.is at (step.2 far.0 far.1) in
-          far_moves s far.0 c.args.actor c.args.count left (left - 1) inv.0 step.0 c.take_step.new.world e far.2 told),
+          far_moves c.args.setup.now s far.0 c.args.actor c.args.count left (left - 1) inv.0 step.0 c.take_step.new.world e far.2 told),
       c.in_ok-take_step.ensures.counts ∙ inv.3,
     )
 
@@ -48,7 +48,7 @@ returns-in-Idle-clause-runs g c =
       λ s is some.
           let far = inv.2 s is in
           let told = rw c.in-Idle.is at (step.2 far.0 far.1) in
-          far_idle s far.0 c.args.actor c.args.count left (left - 1) inv.0 step.0 c.take_step.new.world e far.2 told.0 told.1 told.2,
+          far_idle c.args.setup.now s far.0 c.args.actor c.args.count left (left - 1) inv.0 step.0 c.take_step.new.world e far.2 told.0 told.1 told.2,
     )
 
 pub returns-clause-runs : goal.returns-clause-runs
@@ -60,5 +60,5 @@ returns-clause-runs g c =
       inv.1,
       λ s is some.
           let far = inv.2 s is in
-          far_done s far.0 c.args.actor c.args.count left inv.0 c.loop-left.world none some far.2 far.1,
+          far_done c.args.setup.now s far.0 c.args.actor c.args.count left inv.0 c.loop-left.world none some far.2 far.1,
     )

@@ -9,7 +9,7 @@ use Rattle.mq_world.specs.Worlds.{IsWorld}
 abbrev pub invariant-loop-left : goal.invariant-loop-left
 invariant-loop-left g l =
     (shown : List ℕ) × Prints (g.K.Sink.taken l.initial.sink) (g.K.Sink.taken l.sink) l.initial.owed.items l.owed.items shown
-    × ((s : State) → IsWorld l.initial.world s → (t : State) × IsWorld l.world t × Far s l.actor l.count shown t l.left)
+    × ((s : State) → IsWorld l.setup l.initial.world s → (t : State) × IsWorld l.setup l.world t × Far s l.actor l.count shown t l.left)
     × (g.K.Sink.faults l.sink ≡ g.K.Sink.faults l.initial.sink)
 
 abbrev pub decreases-loop-left : goal.decreases-loop-left

@@ -34,7 +34,7 @@ returns-in_err-play_whole-clause-reads g c =
       played.1,
       λ script lines text plain r.
           let p = err_from_is_err_and c.from_residual-in_err-play_whole.result c.from_residual-in_err-play_whole.ensures.1 in
-          rw (p.1, p.2) (line_stopped c.args.self.now script lines text c.args.end.now played.0 c.in_ok-count.count c.in_err-play_whole.field-0.0 c.play_whole.new.world plain r c.in_ok-count.ensures (played.2 r.state r.stands)),
+          rw (p.1, p.2) (line_stopped c.args.self.now script lines text c.args.end.now played.0 c.in_ok-count.count c.in_err-play_whole.field-0.0 c.play_whole.new.stage plain r c.in_ok-count.ensures (played.2 r.state r.stands)),
     )
 
 pub returns-clause-reads : goal.returns-clause-reads
@@ -43,7 +43,7 @@ returns-clause-reads g c =
     let old = c.args.self.now in
     let end = c.args.end.now in
     let count = c.in_ok-count.count in
-    let new : Session = record { world = c.play_whole.new.world; begun = c.clear.new.self; number = old.number + 1; count = count } in (
+    let new : Session = record { stage = c.play_whole.new.stage; begun = c.clear.new.self; number = old.number + 1; count = count } in (
       played.0,
       played.1,
       λ script lines text plain r.

@@ -11,11 +11,11 @@ pub returns-clause-ends : goal.returns-clause-ends
 returns-clause-ends g c =
     let ran = c.play_line.ensures.line in
     let old = c.args.self.now in
-    let new : Session = record { world = c.play_line.new.world; begun = old.begun; number = old.number; count = old.count } in (
+    let new : Session = record { stage = c.play_line.new.stage; begun = old.begun; number = old.number; count = old.count } in (
       ran.0,
       ran.1,
       λ script lines text r.
-          let P : List ℕ → Type 0 = λ line. LineTo r.state line ran.0 c.play_line.result c.play_line.new.world in
+          let P : List ℕ → Type 0 = λ line. LineTo r.state line ran.0 c.play_line.result c.play_line.new.stage in
           let some : old.begun.items ≡ [] → ⊥ = λ e. let none : length old.begun.items ≡ 0 = ap length e in grind (arith, common_steps) in
           ends_line old new script lines text ran.0 c.play_line.result some r refl (subst P c.as_slice.ensures.value (ran.2 r.state r.stands)),
     )

@@ -32,6 +32,6 @@ pub returns-clause-keeps : goal.returns-clause-keeps
 returns-clause-keeps c = λ script lines text plain r.
     let old = c.args.self.now in
     let bytes = c.args.bytes.now in
-    let new : Session = record { world = old.world; begun = c.extend_from_slice.new.self; number = old.number; count = c.in_ok-count.count } in
+    let new : Session = record { stage = old.stage; begun = c.extend_from_slice.new.self; number = old.number; count = c.in_ok-count.count } in
     let begun : c.extend_from_slice.new.self.items ≡ old.begun.items ++ bytes = grind (arith, common_steps) in
     (lines, kept old new script lines text bytes c.in_ok-count.count plain r c.in_ok-count.ensures refl begun refl refl)

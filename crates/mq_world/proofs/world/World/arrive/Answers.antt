@@ -1,12 +1,11 @@
-use Rattle.std.proofs.Common.{◌≡◌, ℕ, Option, refl, sym, subst, arith}
+use Rattle.std.proofs.Common.{◌≡◌, ℕ, Option, sym, subst, arith}
 use Rattle.mq_machine.specs.Play.{Arrives}
 use Rattle.mq_world.specs.declared.link.Link.{Link}
 use Rattle.mq_world.specs.Worlds.{MayBeLinked}
 use Rattle.mq_world.proofs.world.World.arrive.Goals as goal
 
 pub returns : goal.returns
-returns c = λ s is.
-    let setup = c.args.self.now.setup in
+returns c = λ setup s is.
     let entries = c.args.self.now.entries in
     let P : Option Link → Type 0 = λ link. MayBeLinked setup link s entries in
     let linked = subst P c.in-Some.is is in
@@ -14,4 +13,4 @@ returns c = λ s is.
     let arrived = c.in_ok-arrive_on.ensures setup s entries linked in
     let Q : ℕ → Type 0 = λ conn. Arrives s conn c.args.bytes arrived.0 in
     let links = linked.links in
-    (arrived.0, ((omega arith, subst Q (sym first) arrived.1), refl, refl), arrived.2)
+    (arrived.0, (omega arith, subst Q (sym first) arrived.1), arrived.2)

@@ -1,7 +1,7 @@
-use Rattle.std.proofs.Common.{List, ℕ, [], Option, sym, subst}
+use Rattle.std.proofs.Common.{List, ℕ, Option, sym, subst}
 use Rattle.mq_machine.specs.State.{State}
 use Rattle.mq_machine.specs.declared.line.Line.TheVariants as line
-use Rattle.mq_machine.specs.Play.{LinePlays}
+use Rattle.mq_machine.specs.Play.{Happens}
 use Rattle.mq_world.specs.declared.link.Link.{Link}
 use Rattle.mq_world.specs.declared.link.Seat.TheVariants.{Offered}
 use Rattle.mq_world.specs.Worlds.{MayBeLinked, IsLinked}
@@ -9,9 +9,9 @@ use Rattle.mq_world.proofs.Arriving.{offered_first}
 use Rattle.mq_world.proofs.world.World.offer.Goals as goal
 
 pub returns-in-None : goal.returns-in-None
-returns-in-None c = λ s is.
-    let P : Option Link → Type 0 = λ link. MayBeLinked c.args.self.now.setup link s c.args.self.now.entries in
+returns-in-None c = λ setup s is.
+    let P : Option Link → Type 0 = λ link. MayBeLinked setup link s c.args.self.now.entries in
     let none = subst P c.in-None.is is in
-    let Q : List (List ℕ) → Type 0 = λ pieces. (t : State) × LinePlays s (line.Conn c.args.actor) 0 [] t
-    × IsLinked c.args.self.now.setup (record { pieces = pieces; seat = Offered }) t c.args.self.now.entries in
-    subst Q (sym c.new.ensures) (offered_first c.args.self.now.setup s c.args.self.now.entries c.args.actor none.0 none.1 c.if-actor-gt0.false)
+    let Q : List (List ℕ) → Type 0 = λ pieces. (t : State) × Happens s (line.Conn c.args.actor) t
+    × IsLinked setup (record { pieces = pieces; seat = Offered }) t c.args.self.now.entries in
+    subst Q (sym c.new.ensures) (offered_first setup s c.args.self.now.entries c.args.actor none.0 none.1 c.if-actor-gt0.false)
