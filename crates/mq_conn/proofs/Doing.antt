@@ -2,7 +2,10 @@
 use Rattle.std.proofs.Common.{◌≡◌, ◌≢◌, ℕ, ◌≤◌, List, [], ◌∷◌, ◌++◌, length, drop, Bool, true, false, Option, Some, None, slice_get, remove, unwrap_or, refl, sym, ap, ◌∙◌, subst, arith}
 use Rattle.std.proofs.lemmas.List.{drop-append-le, length-append}
 use Rattle.std.specs.Option.{is_some}
+use Rattle.mq_head.specs.Answers.{refusal_text}
 use Rattle.mq_talk.specs.declared.note.End.{End}
+use Rattle.mq_talk.specs.declared.note.End.TheVariants as end
+use Rattle.mq_talk.specs.declared.note.Note.{Note}
 use Rattle.mq_machine.specs.declared.act.Act.{Act}
 use Rattle.mq_machine.specs.declared.setup.Setup.{Setup}
 use Rattle.mq_machine.specs.declared.act.Act.TheVariants.{Bind, Open, Refuse, Payload, Malformed}
@@ -11,7 +14,8 @@ use Rattle.mq_talk.specs.declared.goal.Goal.{Goal}
 use Rattle.mq_machine.specs.ConnNext.{HasTunnel, AbandonedNext, without}
 use Rattle.mq_conn.specs.declared.connection.Phase.{Phase}
 use Rattle.mq_conn.specs.declared.connection.Phase.TheVariants.{Head, Tunnel as InCapsules, Done}
-use Rattle.mq_conn.specs.Connections.{WillEnd, WillServe, IsPhase, Follows, tunnels_of}
+use Rattle.mq_conn.specs.declared.connection.Connection.{Connection}
+use Rattle.mq_conn.specs.Connections.{WillEnd, WillServe, IsPhase, Follows, tunnels_of, IsConn, Refuses}
 
 -- an ending connection ends whatever is due
 pub ends : (acts : List Act) (why : End) → WillEnd acts (Some why)
@@ -81,10 +85,6 @@ pub serves_no_end : (live lives : Bool) (stream : ℕ) (rest after : List Act) �
 serves_no_end true lives stream rest after w = absurd w
 serves_no_end false lives stream rest after w = absurd w
 
-pub serves_no_refusal : (live lives : Bool) (stream status rule : ℕ) (rest after : List Act) → WillServe live (Refuse stream status rule ∷ rest) → WillServe lives after
-serves_no_refusal true lives stream status rule rest after w = absurd w
-serves_no_refusal false lives stream status rule rest after w = absurd w
-
 pub follows_none : (live : Bool) (acts : List Act) → acts ≡ [] → Follows live acts
 follows_none live [] h = tt
 follows_none live (a ∷ acts) h = absurd cc
@@ -111,3 +111,34 @@ pub abandons : (s : Conn) (tunnel : Option ℕ) (id : ℕ) → s.tunnels ≡ tun
 abandons s tunnel id is live ending due =
     let one : Tunnel = record { id = id; stream = 0; waiting = [] } in
     record { t = one; rest = []; ending = ending; due = due; tunnels = is ∙ ap tunnels_of live; tunnel_is = refl; left_is = refl; new_is = refl }
+
+-- what follows a request is of its stream, and gone with it
+pub gone : (stream : ℕ) (acts : List Act) → stream ≡ 0 → Follows true acts → without stream acts ≡ []
+gone stream acts is follows = let P : ℕ → Type 0 = λ on. without on acts ≡ [] in subst P (sym is) (on_first acts follows) where
+  on_first : (acts : List Act) → Follows true acts → without 0 acts ≡ []
+  on_first [] h = refl
+  on_first (Bind on goal ∷ acts) h = let no = h.0 in absurd cc
+  on_first (Open on goal ∷ acts) h = let no = h.0 in absurd cc
+  on_first (Refuse on status rule ∷ acts) h = let no = h.0 in absurd cc
+  on_first (Payload on n payload ∷ acts) h = let P : ℕ → Type 0 = λ k. without 0 (Payload k n payload ∷ acts) ≡ [] in subst P (sym h.1) (on_first acts h.2)
+  on_first (Malformed on ∷ acts) h =
+      let P : ℕ → Type 0 = λ k. without 0 (Malformed k ∷ acts) ≡ [] in
+      let Q : List Act → Type 0 = λ rest. without 0 rest ≡ [] in
+      subst P (sym h.1) (subst Q (sym h.2) refl)
+
+-- a refused request leaves its connection ending, where nothing else is due
+pub refused_conn : (setup : Setup) (old new : Connection) (s : Conn) (conn stream status rule : ℕ) (put : Connection) (after : List Act) → IsConn setup old s → after ≡ [] → (note : Note)
+    → Refuses conn stream status rule put note new → put.owed ≡ old.owed → put.tunnel ≡ old.tunnel → IsConn setup new (record s { due = after; out = s.out ++ refusal_text status; ending = Some end.Refused })
+refused_conn setup old new s conn stream status rule put after is none note told owed tunnel =
+    let text = refusal_text status in
+    let P : Phase → Type 0 = λ phase. IsPhase setup phase s.reads after (is_some new.tunnel) (Some end.Refused) in
+    record {
+      due = told.due ∙ sym none;
+      given = given_more s.out text s.given is.given;
+      owed = told.owed ∙ ap (λ owes. owes.items ++ text) owed ∙ ap (λ (owes : List ℕ). owes ++ text) is.owed ∙ sym (owed_more s.out text s.given is.given);
+      ending = told.ending;
+      tunnels = is.tunnels ∙ ap tunnels_of (sym tunnel) ∙ ap tunnels_of (sym told.tunnel);
+      follows = follows_none (is_some new.tunnel) after none;
+      phase = subst P (sym told.phase) (ends after end.Refused);
+      closed = λ h. none;
+    }

@@ -2,13 +2,16 @@
 use Rattle.std.specs.Prelude.{◌≡◌, ◌≢◌, ℕ, ◌+◌, ◌≤◌, ◌⊎◌, Bool, true, false, List, [], ◌∷◌, ◌++◌, length, drop, Option, Some, None, Result, Ok, Err}
 use Rattle.std.specs.List.{concat}
 use Rattle.std.specs.Option.{is_some}
+use Rattle.mq_head.specs.Answers.{refusal_text}
 use Rattle.mq_head.specs.declared.reader.HeadReader.{HeadReader}
 use Rattle.mq_head.specs.Reader.{IsHeadOf}
 use Rattle.mq_wire.specs.declared.NoMemory as wire
 use Rattle.mq_talk.specs.declared.book.Call.{Call}
 use Rattle.mq_talk.specs.declared.goal.Goal.{Goal}
 use Rattle.mq_talk.specs.declared.note.End.{End}
+use Rattle.mq_talk.specs.declared.note.End.TheVariants as end
 use Rattle.mq_talk.specs.declared.note.Note.{Note}
+use Rattle.mq_talk.specs.declared.note.Note.TheVariants.{Refused}
 use Rattle.mq_machine.specs.declared.act.Act.{Act}
 use Rattle.mq_machine.specs.declared.setup.Setup.{Setup}
 use Rattle.mq_machine.specs.declared.act.Act.TheVariants as act
@@ -125,18 +128,41 @@ pub record IsConn (setup : Setup) (c : Connection) (s : spec.Conn) : Type 0 wher
   pub closed : s.ending ≢ None → s.due ≡ []
 
 -- what is next was done
-abbrev pub Wanted : Setup → ℕ → ℕ → spec.Conn → Note → Connection → Type 0
-Wanted setup conn entries s note c = (t : spec.Conn) × (calls : List Call) × next.WantNext conn entries s note t calls × IsConn setup c t
+abbrev pub Wanted : Setup → ℕ → ℕ → Bool → spec.Conn → Note → Connection → Type 0
+Wanted setup conn entries bind_fails s note c =
+    (t : spec.Conn) × (calls : List Call) × next.WantNext conn entries bind_fails s note t calls × IsConn setup c t
 
 -- that, or nothing is next
-abbrev pub Wants : Setup → ℕ → ℕ → spec.Conn → Option Note → Connection → Type 0
-Wants setup conn entries s None c = (s.due ≡ []) × (s.ending ≢ None → s.tunnels ≡ []) × IsConn setup c s
-Wants setup conn entries s (Some note) c = Wanted setup conn entries s note c
+abbrev pub Wants : Setup → ℕ → ℕ → Bool → spec.Conn → Option Note → Connection → Type 0
+Wants setup conn entries bind_fails s None c = (s.due ≡ []) × (s.ending ≢ None → s.tunnels ≡ []) × IsConn setup c s
+Wants setup conn entries bind_fails s (Some note) c = Wanted setup conn entries bind_fails s note c
 
 -- what is due was done, or nothing is
-abbrev pub DoesDue : Setup → ℕ → ℕ → spec.Conn → Option Note → Connection → Type 0
-DoesDue setup conn entries s None c = (s.due ≡ []) × IsConn setup c s
-DoesDue setup conn entries s (Some note) c = Wanted setup conn entries s note c
+abbrev pub DoesDue : Setup → ℕ → ℕ → Bool → spec.Conn → Option Note → Connection → Type 0
+DoesDue setup conn entries bind_fails s None c = (s.due ≡ []) × IsConn setup c s
+DoesDue setup conn entries bind_fails s (Some note) c = Wanted setup conn entries bind_fails s note c
+
+-- nothing is due or read any more, and the connection is ending
+pub record GivesUp (why : End) (old new : Connection) : Type 0 where
+  pub phase : new.phase ≡ Done
+  pub due : new.due.items ≡ []
+  pub ending : new.ending ≡ Some why
+  pub owed : new.owed ≡ old.owed
+  pub tunnel : new.tunnel ≡ old.tunnel
+
+-- the refusal is put for writing, and all else is given up
+pub record Refuses (conn stream status rule : ℕ) (old : Connection) (note : Note) (new : Connection) : Type 0 where
+  pub note_is : note ≡ Refused conn stream status rule
+  pub owed : new.owed.items ≡ old.owed.items ++ refusal_text status
+  pub ending : new.ending ≡ Some end.Refused
+  pub phase : new.phase ≡ Done
+  pub due : new.due.items ≡ []
+  pub tunnel : new.tunnel ≡ old.tunnel
+
+-- that, or it was refused memory, and still owes what it owed
+abbrev pub TriesRefusal : ℕ → ℕ → ℕ → ℕ → Connection → Result Note wire.NoMemory → Connection → Type 0
+TriesRefusal conn stream status rule old (Ok note) new = Refuses conn stream status rule old note new
+TriesRefusal conn stream status rule old (Err refused) new = (new.owed.items ≡ old.owed.items) × (new.tunnel ≡ old.tunnel)
 
 -- what being refused memory leaves: what is owed, and the live tunnel
 pub record Keeps (c : Connection) (s : spec.Conn) : Type 0 where
@@ -150,14 +176,18 @@ pub record Starving (c : Connection) (s : spec.Conn) : Type 0 where
   pub alive : s.ending ≡ None
   pub keeps : Keeps c s
 
-abbrev pub TriesDue : Setup → ℕ → ℕ → spec.Conn → Result (Option Note) wire.NoMemory → Connection → Type 0
-TriesDue setup conn entries s (Ok note) c = DoesDue setup conn entries s note c
-TriesDue setup conn entries s (Err refused) c = Starving c s
+-- the same, and whether a bind is still to fail
+abbrev pub TriesDue : Setup → ℕ → ℕ → Bool → spec.Conn → Result (Option Note) wire.NoMemory → Connection → Bool → Type 0
+TriesDue setup conn entries bind_fails s (Ok note) c still =
+    DoesDue setup conn entries bind_fails s note c × (still ≡ next.still_fails bind_fails s.due)
+TriesDue setup conn entries bind_fails s (Err refused) c still = Starving c s × (still ≡ bind_fails)
 
--- what is next, or being refused memory for it
-abbrev pub Acts : Setup → ℕ → ℕ → spec.Conn → Result (Option Note) wire.NoMemory → Connection → Type 0
-Acts setup conn entries s (Ok note) c = Wants setup conn entries s note c
-Acts setup conn entries s (Err refused) c = (s.due ≢ []) × (s.ending ≡ None) × IsConn setup c (next.starved s)
+-- what is next, or being refused memory for it, and whether a bind is still to fail
+abbrev pub Acts : Setup → ℕ → ℕ → Bool → spec.Conn → Result (Option Note) wire.NoMemory → Connection → Bool → Type 0
+Acts setup conn entries bind_fails s (Ok note) c still =
+    Wants setup conn entries bind_fails s note c × (still ≡ next.still_fails bind_fails s.due)
+Acts setup conn entries bind_fails s (Err refused) c still =
+    (s.due ≢ []) × (s.ending ≡ None) × IsConn setup c (next.starved s) × (still ≡ bind_fails)
 
 -- one more read, or being refused memory for it
 abbrev pub Feeds : Setup → spec.Conn → List ℕ → Result (Unit {0}) wire.NoMemory → Connection → Type 0

@@ -1,8 +1,8 @@
 //! One connection: it is fed bytes, and does what they ask for one act at a time.
-ghost use Rattle.std.specs.Prelude.{◌≡◌, ◌≢◌, ℕ, ◌++◌, ◌∷◌, List, [], IfOk, OnOk, IsTrue, ◌↔◌, MatchOption, Some, None};
+ghost use Rattle.std.specs.Prelude.{◌≡◌, ◌≢◌, ℕ, Bool, ◌++◌, ◌∷◌, List, [], IfOk, OnOk, IsTrue, ◌↔◌, MatchOption, Some, None};
 ghost use Rattle.mq_machine.specs.State.{Conn, new_conn, owed};
 ghost use Rattle.mq_machine.specs.ConnNext.{WroteNext, CanRead, goal_kind, starved};
-ghost use Rattle.mq_conn.specs.Connections.{IsConn, Acts, TriesDue, Wants, Keeps, Feeds, IsOver, LeadsTo, HeadLeadsTo, Reaches};
+ghost use Rattle.mq_conn.specs.Connections.{IsConn, Acts, TriesDue, GivesUp, TriesRefusal, Wants, Keeps, Feeds, IsOver, LeadsTo, HeadLeadsTo, Reaches};
 ghost use Rattle.mq_machine.specs.declared.act.Act.{Act};
 ghost use Rattle.mq_machine.specs.declared.setup.Setup.{Setup};
 ghost use Rattle.mq_conn.specs.declared.connection.Phase.{Phase};
@@ -64,13 +64,19 @@ impl Connection {
     }
 
     /// Does what is next, where something is: what is due, or closing the tunnel of an ending connection. `conn` is the
-    /// connection's number, `entries` how many entries the book has, which is the number of a tunnel that opens.
+    /// connection's number, `entries` how many entries the book has, which is the number of a tunnel that opens. Where
+    /// `bind_fails`, the next bind of a port fails, and the one that does takes that back.
     ///
     /// A connection that is refused memory is ending: what was due is given up.
-    pub fn act(&mut self, conn: u32, entries: u32) -> Result<Option<Note>, NoMemory>
-        ensures { (setup : Setup) (s : Conn) → IsConn setup self.old s → Acts setup conn entries s result self.new }
+    pub fn act(
+        &mut self,
+        conn: u32,
+        entries: u32,
+        bind_fails: &mut bool,
+    ) -> Result<Option<Note>, NoMemory>
+        ensures { (setup : Setup) (s : Conn) → IsConn setup self.old s → Acts setup conn entries bind_fails.old s result self.new bind_fails.new }
     {
-        match self.act_due(conn, entries) {
+        match self.act_due(conn, entries, bind_fails) {
             Ok(None) => Ok(self.abandon()),
             Ok(Some(note)) => Ok(Some(note)),
             Err(refused) => {
@@ -80,18 +86,25 @@ impl Connection {
         }
     }
 
-    /// It was refused memory: what was due is given up, nothing more is read, and it is ending.
-    fn starve(&mut self)
-        ensures { (setup : Setup) (s : Conn) → Keeps self.old s → IsConn setup self.new (starved s) }
+    /// What is due is given up, nothing more is read, and it is ending.
+    fn give_up(&mut self, why: End)
+        ensures { GivesUp why self.old self.new }
     {
         self.phase = Phase::Done;
         self.due.clear();
-        self.ending = Some(End::NoMemory);
+        self.ending = Some(why);
+    }
+
+    /// It was refused memory.
+    fn starve(&mut self)
+        ensures { (setup : Setup) (s : Conn) → Keeps self.old s → IsConn setup self.new (starved s) }
+    {
+        self.give_up(End::NoMemory);
     }
 
     /// Closes the live tunnel of an ending connection in which nothing is due.
     fn abandon(&mut self) -> Option<Note>
-        ensures { (setup : Setup) (conn entries : ℕ) (s : Conn) → IsConn setup self.old s → s.due ≡ [] → Wants setup conn entries s result self.new }
+        ensures { (setup : Setup) (conn entries : ℕ) (bind_fails : Bool) (s : Conn) → IsConn setup self.old s → s.due ≡ [] → Wants setup conn entries bind_fails s result self.new }
     {
         if self.ending.is_none() {
             return None;
@@ -105,13 +118,43 @@ impl Connection {
         })
     }
 
+    /// Refuses its request: the refusal is put for writing, and what else is due is given up.
+    fn put_refusal(
+        &mut self,
+        conn: u32,
+        stream: u32,
+        status: u16,
+        rule: u32,
+    ) -> Result<Note, NoMemory>
+        ensures { TriesRefusal conn stream status rule self.old result self.new }
+    {
+        refusal(&mut self.owed, status)?;
+        self.give_up(End::Refused);
+        Ok(Note::Refused {
+            conn,
+            stream,
+            status,
+            rule,
+        })
+    }
+
     /// Does what is due, where something is.
-    fn act_due(&mut self, conn: u32, entries: u32) -> Result<Option<Note>, NoMemory>
-        ensures { (setup : Setup) (s : Conn) → IsConn setup self.old s → TriesDue setup conn entries s result self.new }
+    fn act_due(
+        &mut self,
+        conn: u32,
+        entries: u32,
+        bind_fails: &mut bool,
+    ) -> Result<Option<Note>, NoMemory>
+        ensures { (setup : Setup) (s : Conn) → IsConn setup self.old s → TriesDue setup conn entries bind_fails.old s result self.new bind_fails.new }
     {
         match self.due.pop_front() {
             None => Ok(None),
             Some(Act::Bind { stream, goal }) => {
+                if *bind_fails {
+                    let note = self.put_refusal(conn, stream, 502, 0)?;
+                    *bind_fails = false;
+                    return Ok(Some(note));
+                }
                 self.due.push_front(Act::Open { stream, goal })?;
                 Ok(Some(Note::Ported { conn, stream }))
             }
@@ -132,16 +175,7 @@ impl Connection {
                     status,
                     rule,
                 },
-            ) => {
-                refusal(&mut self.owed, status)?;
-                self.ending = Some(End::Refused);
-                Ok(Some(Note::Refused {
-                    conn,
-                    stream,
-                    status,
-                    rule,
-                }))
-            }
+            ) => Ok(Some(self.put_refusal(conn, stream, status, rule)?)),
             // A payload is due only while its tunnel is live, and so is a malformed capsule.
             Some(Act::Payload { n, payload, .. }) => Ok(Some(Note::Sent {
                 from: From::Tunnel(self.tunnel.unwrap_or(0)),

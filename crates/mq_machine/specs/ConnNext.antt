@@ -1,5 +1,5 @@
 -- What a connection does by itself: what each of its notes is allowed by, and changes.
-use Rattle.std.specs.Prelude.{◌≡◌, ◌≢◌, ℕ, ◌<◌, List, [], ◌∷◌, ◌++◌, length, slice_get, remove, Some, None, Bool, false, not, ◌==◌}
+use Rattle.std.specs.Prelude.{◌≡◌, ◌≢◌, ℕ, ◌<◌, ◌⊎◌, List, [], ◌∷◌, ◌++◌, length, slice_get, remove, Some, None, Bool, true, false, not, ◌==◌}
 use Rattle.std.specs.List.{filter}
 use Rattle.mq_addr.specs.declared.kind.Kind.{Kind}
 use Rattle.mq_addr.specs.declared.kind.Kind.TheVariants as kind
@@ -53,17 +53,6 @@ pub record RefusedNext (old : Conn) (stream status rule : ℕ) (new : Conn) : Ty
   pub due : old.due ≡ act.Refuse stream status rule ∷ rest
   pub new_is : new ≡ record old { due = rest; out = old.out ++ refusal_text status; ending = Some end.Refused }
 
--- the payload that is due goes, unchanged, to the port of its tunnel
-pub record SentNext (old : Conn) (from : From) (n : ℕ) (packet : List ℕ) (new : Conn) : Type 0 where
-  pub stream : ℕ
-  pub rest : List Act
-  pub i : ℕ
-  pub t : Tunnel
-  pub due : old.due ≡ act.Payload stream n packet ∷ rest
-  pub has : HasTunnel old stream i t
-  pub from_is : from ≡ origin.Tunnel t.id
-  pub new_is : new ≡ record old { due = rest }
-
 -- the act belongs to the tunnel of this stream
 abbrev pub is_on : ℕ → Act → Bool
 is_on stream (act.Payload on n payload) = on == stream
@@ -75,6 +64,27 @@ is_on stream (act.Refuse on status rule) = false
 -- the acts that don't
 abbrev pub without : ℕ → List Act → List Act
 without stream acts = filter (λ a. not (is_on stream a)) acts
+
+-- No port can be bound for the request that is due: it is refused as a bad gateway, what is due behind it on its stream is gone,
+-- the refusal is put for writing, and the connection is ending.
+pub record UnboundNext (old : Conn) (stream status rule : ℕ) (new : Conn) : Type 0 where
+  pub goal : Goal
+  pub rest : List Act
+  pub due : old.due ≡ act.Bind stream goal ∷ rest
+  pub status_is : status ≡ 502
+  pub rule_is : rule ≡ 0
+  pub new_is : new ≡ record old { due = without stream rest; out = old.out ++ refusal_text 502; ending = Some end.Refused }
+
+-- the payload that is due goes, unchanged, to the port of its tunnel
+pub record SentNext (old : Conn) (from : From) (n : ℕ) (packet : List ℕ) (new : Conn) : Type 0 where
+  pub stream : ℕ
+  pub rest : List Act
+  pub i : ℕ
+  pub t : Tunnel
+  pub due : old.due ≡ act.Payload stream n packet ∷ rest
+  pub has : HasTunnel old stream i t
+  pub from_is : from ≡ origin.Tunnel t.id
+  pub new_is : new ≡ record old { due = rest }
 
 -- A malformed capsule closes its tunnel: what waits there and what is due there is gone. The connection is ending.
 pub record ClosedNext (old : Conn) (tunnel left : ℕ) (new : Conn) : Type 0 where
@@ -105,23 +115,33 @@ pub record WroteNext (old : Conn) (bytes : List ℕ) (new : Conn) : Type 0 where
   pub bytes_are : bytes ≡ owed old
   pub new_is : new ≡ record old { given = length old.out }
 
--- What connection number conn does next by itself, where the book has so many entries, and the calls by which it writes there.
-abbrev pub WantNext : ℕ → ℕ → Conn → Note → Conn → List Call → Type 0
-WantNext conn entries old (Ported c stream) new calls = (c ≡ conn) × PortedNext old stream new × (calls ≡ [])
-WantNext conn entries old (Opened tunnel c stream kind) new calls =
+-- Whether a bind is still to fail when what is due next was done: the first bind that is tried takes that back.
+abbrev pub still_fails : Bool → List Act → Bool
+still_fails bind_fails (act.Bind stream goal ∷ acts) = false
+still_fails bind_fails (act.Open stream goal ∷ acts) = bind_fails
+still_fails bind_fails (act.Refuse stream status rule ∷ acts) = bind_fails
+still_fails bind_fails (act.Payload stream n payload ∷ acts) = bind_fails
+still_fails bind_fails (act.Malformed stream ∷ acts) = bind_fails
+still_fails bind_fails [] = bind_fails
+
+-- What connection number conn does next by itself, where the book has so many entries and it was said whether the next bind
+-- fails, and the calls by which it writes into the book.
+abbrev pub WantNext : ℕ → ℕ → Bool → Conn → Note → Conn → List Call → Type 0
+WantNext conn entries bind_fails old (Ported c stream) new calls = (c ≡ conn) × (bind_fails ≡ false) × PortedNext old stream new × (calls ≡ [])
+WantNext conn entries bind_fails old (Opened tunnel c stream kind) new calls =
     (c ≡ conn) × (tunnel ≡ entries) × (goal : Goal) × (kind ≡ goal_kind goal) × OpenedNext old tunnel stream goal new
     × (calls ≡ call.Open conn stream goal ∷ [])
-WantNext conn entries old (Refused c stream status rule) new calls =
-    (c ≡ conn) × RefusedNext old stream status rule new × (calls ≡ [])
-WantNext conn entries old (Sent from n packet) new calls = SentNext old from n packet new × (calls ≡ [])
-WantNext conn entries old (Closed tunnel why.Malformed left) new calls =
+WantNext conn entries bind_fails old (Refused c stream status rule) new calls =
+    (c ≡ conn) × (RefusedNext old stream status rule new ⊎ ((bind_fails ≡ true) × UnboundNext old stream status rule new)) × (calls ≡ [])
+WantNext conn entries bind_fails old (Sent from n packet) new calls = SentNext old from n packet new × (calls ≡ [])
+WantNext conn entries bind_fails old (Closed tunnel why.Malformed left) new calls =
     ClosedNext old tunnel left new × (calls ≡ call.Close tunnel ∷ [])
-WantNext conn entries old (Closed tunnel why.Conn left) new calls =
+WantNext conn entries bind_fails old (Closed tunnel why.Conn left) new calls =
     AbandonedNext old tunnel left new × (calls ≡ call.Close tunnel ∷ [])
-WantNext conn entries old (Accepted c actor) new calls = ⊥
-WantNext conn entries old (Took c count) new calls = ⊥
-WantNext conn entries old (Wrote c bytes) new calls = ⊥
-WantNext conn entries old (Ended c reason) new calls = ⊥
+WantNext conn entries bind_fails old (Accepted c actor) new calls = ⊥
+WantNext conn entries bind_fails old (Took c count) new calls = ⊥
+WantNext conn entries bind_fails old (Wrote c bytes) new calls = ⊥
+WantNext conn entries bind_fails old (Ended c reason) new calls = ⊥
 
 -- the connection may read: nothing is due, little is owed, and it isn't ending
 pub record CanRead (c : Conn) : Type 0 where

@@ -3,7 +3,7 @@ use Rattle.std.specs.Prelude.{◌≡◌, ◌≢◌, ℕ, ◌<◌, ◌≤◌, ◌
 use Rattle.std.specs.List.{flat_map}
 use Rattle.hex.specs.Hex.{encode_lower}
 use Rattle.mq_machine.specs.declared.line.Line.{Line}
-use Rattle.mq_machine.specs.declared.line.Line.TheVariants.{Blank, Setting, Conn, Piece, Steps}
+use Rattle.mq_machine.specs.declared.line.Line.TheVariants.{Blank, Setting, Conn, Piece, FailBind, Steps}
 use Rattle.mq_machine.specs.Setting.{SaysSetting}
 use Rattle.mq_machine.specs.Text.{number}
 
@@ -36,6 +36,7 @@ Says line Blank = (line ≡ []) ⊎ ((rest : List ℕ) × (line ≡ 35 ∷ rest)
 Says line (Setting said) = SaysSetting line said
 Says line (Conn worker) = (worker ≤ 3) × (line ≡ codes "conn" ++ number worker)
 Says line (Piece conn bytes) = (conn < 2 ^ 32) × (bytes ≢ []) × SaysPiece line conn bytes
+Says line FailBind = line ≡ codes "failbind"
 Says line (Steps actor count) = (actor ≤ 3) × (1 ≤ count) × (count ≤ 1000000) × SaysSteps line actor count
 
 -- it is outside the grammar

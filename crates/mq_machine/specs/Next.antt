@@ -5,9 +5,9 @@ use Rattle.mq_talk.specs.declared.book.Entry.{Entry}
 use Rattle.mq_talk.specs.declared.note.End.{End}
 use Rattle.mq_talk.specs.declared.note.Note.{Note}
 use Rattle.mq_talk.specs.declared.note.Note.TheVariants.{Accepted, Took, Wrote, Ended}
-use Rattle.mq_machine.specs.ConnNext.{WantNext, WroteNext, TookNext, CanRead, starved, IsOver}
+use Rattle.mq_machine.specs.ConnNext.{WantNext, still_fails, WroteNext, TookNext, CanRead, starved, IsOver}
 use Rattle.mq_machine.specs.declared.setup.Setup.{Setup}
-use Rattle.mq_machine.specs.State.{Conn, new_conn, Feed, Offer, Held, Worker, Shared, State}
+use Rattle.mq_machine.specs.State.{Conn, new_conn, owed, Feed, Offer, Held, Worker, Shared, State}
 
 -- an actor writes these calls into the book
 abbrev pub entries_of : ℕ → List Call → List Entry
@@ -37,13 +37,13 @@ pub record ReadNext (setup : Setup) (old : Held) (conn count : ℕ) (new : Held)
   pub took : TookNext setup old.conn bytes after
   pub new_is : new ≡ record old { link = record old.link { pieces = pieces }; conn = after }
 
--- a connection does what is next, and may write into the book
+-- a connection does what is next, and may write into the book or try a bind
 pub record DueNext (actor : ℕ) (old : Held) (sh : Shared) (note : Note) (new : Held) (after : Shared) : Type 0 where
   pub conn : Conn
   pub calls : List Call
-  pub next : WantNext old.number (length sh.book) old.conn note conn calls
+  pub next : WantNext old.number (length sh.book) sh.bind_fails old.conn note conn calls
   pub new_is : new ≡ record old { conn = conn }
-  pub after_is : after ≡ record sh { book = sh.book ++ entries_of actor calls }
+  pub after_is : after ≡ record sh { book = sh.book ++ entries_of actor calls; bind_fails = still_fails sh.bind_fails old.conn.due }
 
 -- a connection writes to its link
 pub record WriteNext (old : Held) (conn : ℕ) (bytes : List ℕ) (new : Held) : Type 0 where
@@ -139,9 +139,9 @@ pub record WorkerTurn (old : Worker) (sh : Shared) (note : Note) (new : Worker) 
   pub first : (other : Seat) → (NoLater old.next_seat (place seat) (place other) → ⊥) → (any : Try) → IsIdle old sh other any
   pub inner : (other : Try) → order other < order try → IsIdle old sh seat other
 
--- it had something to do: an act was due, or it could read a piece
+-- it had something to do that takes memory: an act was due, or with nothing to write it could read a piece
 abbrev pub IsBusy : Held → Type 0
-IsBusy h = (h.conn.due ≢ []) ⊎ (CanRead h.conn × (h.link.pieces ≢ []))
+IsBusy h = (h.conn.due ≢ []) ⊎ ((owed h.conn ≡ []) × CanRead h.conn × (h.link.pieces ≢ []))
 
 -- The connection whose turn it is was refused memory, and nothing else changes.
 pub record WorkerStarves (old : Worker) (sh : Shared) (new : Worker) : Type 0 where

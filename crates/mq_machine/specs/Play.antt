@@ -1,10 +1,10 @@
 -- What a script prints.
-use Rattle.std.specs.Prelude.{◌≡◌, ◌≢◌, ℕ, ◌+◌, ◌<◌, ◌≤◌, ◌⊎◌, zero, suc, min, List, [], ◌∷◌, ◌++◌, length, slice_get, slice_set, Some, All}
+use Rattle.std.specs.Prelude.{◌≡◌, ◌≢◌, ℕ, ◌+◌, ◌<◌, ◌≤◌, ◌⊎◌, zero, suc, min, List, [], ◌∷◌, ◌++◌, length, slice_get, slice_set, Some, All, true}
 use Rattle.std.specs.List.{flat_map}
 use Rattle.mq_talk.specs.declared.note.Note.{Note}
 use Rattle.mq_text.specs.Cut.{Lacks}
 use Rattle.mq_machine.specs.declared.line.Line.{Line}
-use Rattle.mq_machine.specs.declared.line.Line.TheVariants.{Blank, Setting, Conn, Piece, Steps}
+use Rattle.mq_machine.specs.declared.line.Line.TheVariants.{Blank, Setting, Conn, Piece, FailBind, Steps}
 use Rattle.mq_machine.specs.Line.{Says, SaysNothing}
 use Rattle.mq_machine.specs.declared.setting.SettingLine.{SettingLine}
 use Rattle.mq_machine.specs.Setting.{MayFollow, setup_of}
@@ -70,12 +70,13 @@ pub record ArrivesLate (old : State) (number : ℕ) (new : State) : Type 0 where
 abbrev pub Arrives : State → ℕ → List ℕ → State → Type 0
 Arrives old number bytes new = ArrivesOffered old number bytes new ⊎ (ArrivesHeld old number bytes new ⊎ ArrivesLate old number new)
 
--- what a line does that offers a link or lets a piece arrive
+-- what a line does that is no setting and no step: it offers a link, lets a piece arrive, or the next bind is to fail
 abbrev pub Happens : State → Line → State → Type 0
 Happens old Blank new = ⊥
 Happens old (Setting said) new = ⊥
 Happens old (Conn worker) new = (old.links ≡ 0) × OffersLink old worker new
 Happens old (Piece conn bytes) new = (conn < old.links) × Arrives old conn bytes new
+Happens old FailBind new = new ≡ record old { shared = record old.shared { bind_fails = true } }
 Happens old (Steps actor count) new = ⊥
 
 -- It names what never was, or offers a second link: only one is served yet.
@@ -84,6 +85,7 @@ IsMissing old Blank = ⊥
 IsMissing old (Setting said) = ⊥
 IsMissing old (Conn worker) = (0 < old.links) ⊎ (length old.workers ≤ worker)
 IsMissing old (Piece conn bytes) = old.links ≤ conn
+IsMissing old FailBind = ⊥
 IsMissing old (Steps actor count) = length old.workers ≤ actor
 
 -- how far a script has come: its first lines are settings, and behind them the machine runs
@@ -238,27 +240,27 @@ pub record IsPlayedBad (script out : List ℕ) : Type 0 where
   pub bad : HasBad script before state
   pub out_is : out ≡ text ++ bad_line (length before + 1)
 
--- Up to so many steps that stop somewhere.
-abbrev pub RunsPart : State → ℕ → ℕ → List ℕ → Type 0
-RunsPart old actor zero text = text ≡ []
-RunsPart old actor (suc n) text =
-    (text ≡ [])
-    ⊎ (((note : Note) × (mid : State) × (rest : List ℕ) × Turn old actor note mid × (text ≡ note_line note ++ rest) × RunsPart mid actor n rest)
-    ⊎ (((mid : State) × SilentTurn old actor mid × RunsPart mid actor n text)
-    ⊎ (Quiet old actor × (text ≡ idle_line actor))))
+-- Up to so many steps that stop somewhere. So many of them were refused memory.
+abbrev pub RunsPart : State → ℕ → ℕ → ℕ → List ℕ → Type 0
+RunsPart old actor zero refused text = (refused ≡ 0) × (text ≡ [])
+RunsPart old actor (suc n) refused text =
+    ((refused ≡ 0) × (text ≡ []))
+    ⊎ (((note : Note) × (mid : State) × (rest : List ℕ) × Turn old actor note mid × (text ≡ note_line note ++ rest) × RunsPart mid actor n refused rest)
+    ⊎ (((mid : State) × (others : ℕ) × SilentTurn old actor mid × (refused ≡ suc others) × RunsPart mid actor n others text)
+    ⊎ (Quiet old actor × (refused ≡ 0) × (text ≡ idle_line actor))))
 
 -- what a good line printed when it stopped: only steps print anything
-abbrev pub LinePart : Stage → Line → List ℕ → Type 0
-LinePart old (Steps actor count) text = (actor < length (opened old).workers) × RunsPart (opened old) actor count text
-LinePart old said text = text ≡ []
+abbrev pub LinePart : Stage → Line → ℕ → List ℕ → Type 0
+LinePart old (Steps actor count) refused text = (actor < length (opened old).workers) × RunsPart (opened old) actor count refused text
+LinePart old said refused text = (refused ≡ 0) × (text ≡ [])
 
 -- the play stopped in the line behind these
-pub record StopsIn (script : List ℕ) (before : List (List ℕ)) (state : Stage) (text : List ℕ) : Type 0 where
+pub record StopsIn (script : List ℕ) (before : List (List ℕ)) (state : Stage) (refused : ℕ) (text : List ℕ) : Type 0 where
   pub line : List ℕ
   pub said : Line
   pub has : HasLine script before line
   pub says : Says line said
-  pub part : LinePart state said text
+  pub part : LinePart state said refused text
 
 -- the text is a front of the other
 abbrev pub IsFrontOf : List ℕ → List ℕ → Type 0
@@ -271,9 +273,11 @@ pub record IsPlayedPart (script out : List ℕ) : Type 0 where
   pub state : Stage
   pub text : List ℕ
   pub part : List ℕ
+  -- how many steps of these lines, and of the one where the play stopped, were refused memory
   pub refused : ℕ
+  pub here : ℕ
   pub plays : Plays opening before refused text state
-  pub stops : (HasFront script before [] × (part ≡ []))
-      ⊎ (StopsIn script before state part
-      ⊎ (HasBad script before state × (part ≡ bad_line (length before + 1))))
+  pub stops : (HasFront script before [] × (here ≡ 0) × (part ≡ []))
+      ⊎ (StopsIn script before state here part
+      ⊎ (HasBad script before state × (here ≡ 0) × (part ≡ bad_line (length before + 1))))
   pub front : IsFrontOf out (text ++ part)

@@ -1,5 +1,5 @@
 -- The states of the machine: a world of workers, of which each owns its links and connections, and what they share.
-use Rattle.std.specs.Prelude.{ℕ, List, [], ◌∷◌, drop, Option, None}
+use Rattle.std.specs.Prelude.{ℕ, Bool, false, List, [], ◌∷◌, drop, Option, None}
 use Rattle.mq_talk.specs.declared.book.Entry.{Entry}
 use Rattle.mq_talk.specs.declared.note.End.{End}
 use Rattle.mq_machine.specs.declared.act.Act.{Act}
@@ -60,6 +60,8 @@ pub record Worker : Type 0 where
 pub record Shared : Type 0 where
   pub setup : Setup
   pub book : List Entry
+  -- whether the next bind of a port fails
+  pub bind_fails : Bool
 
 pub record State : Type 0 where
   -- how many links were offered
@@ -72,5 +74,5 @@ abbrev pub start_with : Setup → State
 start_with setup = record {
   links = 0;
   workers = record { id = 0; offered = []; conns = []; next_seat = 0 } ∷ [];
-  shared = record { setup = setup; book = [] };
+  shared = record { setup = setup; book = []; bind_fails = false };
 }

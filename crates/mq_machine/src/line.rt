@@ -14,6 +14,8 @@ pub enum Line {
     Conn { worker: u32 },
     /// A piece arrives on this link.
     Piece { conn: u32, bytes: Bytes },
+    /// The next bind of a port fails, whichever worker tries it.
+    FailBind,
     /// Up to so many steps of this actor.
     Steps { actor: u32, count: u32 },
 }

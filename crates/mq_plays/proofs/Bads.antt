@@ -3,7 +3,7 @@ use Rattle.std.proofs.Common.{◌≡◌, ℕ, zero, suc, min, Some, slice_get, a
 use Rattle.std.proofs.lemmas.List.{length-append}
 use Rattle.mq_text.specs.Cut.{Lacks}
 use Rattle.mq_machine.specs.declared.line.Line.{Line}
-use Rattle.mq_machine.specs.declared.line.Line.TheVariants.{Blank, Setting, Conn, Piece, Steps}
+use Rattle.mq_machine.specs.declared.line.Line.TheVariants.{Blank, Setting, Conn, Piece, FailBind, Steps}
 use Rattle.mq_machine.specs.Line.{Says, SaysOne}
 use Rattle.mq_machine.specs.declared.setting.SettingLine.{SettingLine}
 use Rattle.mq_machine.specs.Setting.{MayFollow}
@@ -36,6 +36,7 @@ not_bad_here (Conn worker) s t refused text new h p bad =
     let within = at_within (opened s).workers worker p.1.1.w p.1.1.at in
     elim bad [ inl some ↦ omega arith | inr past ↦ omega arith ]
 not_bad_here (Piece conn bytes) s t refused text new h p bad = let few = p.1.0 in let same = (opened_alike s t h).links in omega arith
+not_bad_here FailBind s t refused text new h p bad = bad
 not_bad_here (Steps actor count) s t refused text new h p bad = let few = p.0 in let same = (opened_alike s t h).workers in omega arith
 
 not_wrong : SaysOne → (line : List ℕ) (said : Line) (t : Stage) → Says line said → (IsBadHere t said → ⊥) → IsBad t line → ⊥

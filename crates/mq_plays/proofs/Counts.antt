@@ -1,7 +1,7 @@
 -- Which settings were told, and how many links and workers there are, hangs on the lines alone.
 use Rattle.std.proofs.Common.{◌≡◌, ℕ, zero, suc, ◌+◌, List, [], ◌∷◌, ◌++◌, length, slice_set, refl, sym, ap, subst, ◌∙◌, arith, inl, inr, append_assoc}
 use Rattle.mq_machine.specs.declared.line.Line.{Line}
-use Rattle.mq_machine.specs.declared.line.Line.TheVariants.{Blank, Setting, Conn, Piece, Steps}
+use Rattle.mq_machine.specs.declared.line.Line.TheVariants.{Blank, Setting, Conn, Piece, FailBind, Steps}
 use Rattle.mq_machine.specs.Line.{SaysOne}
 use Rattle.mq_machine.specs.declared.setting.SettingLine.{SettingLine}
 use Rattle.mq_machine.specs.State.{Worker, State}
@@ -68,6 +68,12 @@ happens_alike (Conn worker) s t u v h p k =
     record { links = omega arith; workers = workers ∙ h.workers ∙ sym others }
 happens_alike (Piece conn bytes) s t u v h p k =
     alike_on u s v (arrives_alike s conn bytes u p.1) (alike_on s t v h (alike_back v t (arrives_alike t conn bytes v k.1)))
+happens_alike FailBind s t u v h p k =
+    let links = h.links in
+    let workers = h.workers in
+    let one = ap (λ (x : State). x.links) p in
+    let other = ap (λ (x : State). x.links) k in
+    record { links = omega arith; workers = ap (λ (x : State). length x.workers) p ∙ workers ∙ sym (ap (λ (x : State). length x.workers) k) }
 happens_alike (Steps actor count) s t u v h p k = absurd p
 
 -- The same settings were told, or the machine runs, in states that are alike.
@@ -108,6 +114,8 @@ line_alike (Conn worker) s t r q a b u v h p k =
     stage_alike_at u v (Running p.0) (Running k.0) p.2 k.2 (happens_alike (Conn worker) (opened s) (opened t) p.0 k.0 (opened_alike s t h) p.1 k.1)
 line_alike (Piece conn bytes) s t r q a b u v h p k =
     stage_alike_at u v (Running p.0) (Running k.0) p.2 k.2 (happens_alike (Piece conn bytes) (opened s) (opened t) p.0 k.0 (opened_alike s t h) p.1 k.1)
+line_alike FailBind s t r q a b u v h p k =
+    stage_alike_at u v (Running p.0) (Running k.0) p.2 k.2 (happens_alike FailBind (opened s) (opened t) p.0 k.0 (opened_alike s t h) p.1 k.1)
 line_alike (Steps actor count) s t r q a b u v h p k =
     let before = opened_alike s t h in
     let here = runs_alike actor count r (opened s) a p.1 p.2 in

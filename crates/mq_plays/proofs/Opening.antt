@@ -81,13 +81,13 @@ pub remove_length : {A : Type 0} → (xs : List A) (i : ℕ) → length (remove 
 remove_length xs i = omega (arith, length-append (take i xs) (drop (suc i) xs), length-take i xs, length-drop (suc i) xs)
 
 -- what a connection does next opens no more
-pub want_one : (setup : Setup) (conn entries : ℕ) (old : Conn) (note : Note) (new : Conn) (calls : List Call) → WantNext conn entries old note new calls → IsOne setup old → IsOne setup new
-want_one setup conn entries old (Ported c stream) new calls h one =
-    let p = h.1 in
+pub want_one : (setup : Setup) (conn entries : ℕ) (bind_fails : Bool) (old : Conn) (note : Note) (new : Conn) (calls : List Call) → WantNext conn entries bind_fails old note new calls → IsOne setup old → IsOne setup new
+want_one setup conn entries bind_fails old (Ported c stream) new calls h one =
+    let p = h.2 in
     let was = ap opens p.due in
     let next : Conn = record old { due = act.Open stream p.goal ∷ p.rest } in
     subst (IsOne setup) (sym p.new_is) (no_more setup old next refl (omega arith) one)
-want_one setup conn entries old (Opened tunnel c stream kind) new calls h one =
+want_one setup conn entries bind_fails old (Opened tunnel c stream kind) new calls h one =
     let p = h.4 in
     let was = ap opens p.due in
     let t : Tunnel = record { id = tunnel; stream = stream; waiting = [] } in
@@ -95,32 +95,41 @@ want_one setup conn entries old (Opened tunnel c stream kind) new calls h one =
     let is : next ≡ new = ap (λ (out : List ℕ). record old { due = p.rest; out = out; tunnels = old.tunnels ++ t ∷ [] }) (ap (λ (k : Conn). k.out) p.new_is) ∙ sym p.new_is in
     let more = length-append old.tunnels (t ∷ []) in
     subst (IsOne setup) is (no_more setup old next refl (omega arith) one)
-want_one setup conn entries old (Refused c stream status rule) new calls h one =
-    let p = h.1 in
-    let was = ap opens p.due in
-    let next : Conn = record old { due = p.rest; out = old.out ++ refusal_text status; ending = Some end.Refused } in
-    subst (IsOne setup) (sym p.new_is) (no_more setup old next refl (omega arith) one)
-want_one setup conn entries old (Sent from n packet) new calls h one =
+want_one setup conn entries bind_fails old (Refused c stream status rule) new calls h one =
+    elim h.1 [
+      | inl p ↦ (
+          let was = ap opens p.due in
+          let next : Conn = record old { due = p.rest; out = old.out ++ refusal_text status; ending = Some end.Refused } in
+          subst (IsOne setup) (sym p.new_is) (no_more setup old next refl (omega arith) one)
+          )
+      | inr (fails, p) ↦ (
+          let was = ap opens p.due in
+          let fewer = without_opens stream p.rest in
+          let next : Conn = record old { due = without stream p.rest; out = old.out ++ refusal_text 502; ending = Some end.Refused } in
+          subst (IsOne setup) (sym p.new_is) (no_more setup old next refl (omega arith) one)
+          )
+    ]
+want_one setup conn entries bind_fails old (Sent from n packet) new calls h one =
     let p = h.0 in
     let was = ap opens p.due in
     let next : Conn = record old { due = p.rest } in
     subst (IsOne setup) (sym p.new_is) (no_more setup old next refl (omega arith) one)
-want_one setup conn entries old (Closed tunnel why.Malformed left) new calls h one =
+want_one setup conn entries bind_fails old (Closed tunnel why.Malformed left) new calls h one =
     let p = h.0 in
     let was = ap opens p.due in
     let fewer = without_opens p.stream p.rest in
     let less = remove_length old.tunnels p.i in
     let next : Conn = record old { due = without p.stream p.rest; tunnels = remove old.tunnels p.i; ending = Some end.Tunnel } in
     subst (IsOne setup) (sym p.new_is) (no_more setup old next refl (omega arith) one)
-want_one setup conn entries old (Closed tunnel why.Conn left) new calls h one =
+want_one setup conn entries bind_fails old (Closed tunnel why.Conn left) new calls h one =
     let p = h.0 in
     let were = ap (λ (ts : List Tunnel). length ts) p.tunnels in
     let next : Conn = record old { tunnels = p.rest } in
     subst (IsOne setup) (sym p.new_is) (no_more setup old next refl (omega arith) one)
-want_one setup conn entries old (Accepted c actor) new calls h one = absurd h
-want_one setup conn entries old (Took c count) new calls h one = absurd h
-want_one setup conn entries old (Wrote c bytes) new calls h one = absurd h
-want_one setup conn entries old (Ended c reason) new calls h one = absurd h
+want_one setup conn entries bind_fails old (Accepted c actor) new calls h one = absurd h
+want_one setup conn entries bind_fails old (Took c count) new calls h one = absurd h
+want_one setup conn entries bind_fails old (Wrote c bytes) new calls h one = absurd h
+want_one setup conn entries bind_fails old (Ended c reason) new calls h one = absurd h
 
 pub wrote_one : (setup : Setup) (old : Conn) (bytes : List ℕ) (new : Conn) → WroteNext old bytes new → IsOne setup old → IsOne setup new
 wrote_one setup old bytes new w one =

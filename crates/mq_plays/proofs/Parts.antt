@@ -1,14 +1,13 @@
 -- What a play printed that stopped is a front of what the whole play prints.
-use Rattle.std.proofs.Common.{◌≡◌, ℕ, zero, suc, ◌+◌, List, [], ◌∷◌, ◌++◌, length, refl, sym, ap, subst, ◌∙◌, arith, ◌⊎◌, inl, inr, append_assoc, append-nil}
+use Rattle.std.proofs.Common.{◌≡◌, ℕ, zero, suc, List, [], ◌∷◌, ◌++◌, refl, sym, ap, subst, ◌∙◌, arith, ◌⊎◌, inl, inr, append_assoc, append-nil}
 use Rattle.mq_text.specs.Cut.{Lacks, IsCutOnce}
 use Rattle.mq_talk.specs.declared.note.Note.{Note}
 use Rattle.mq_machine.specs.declared.line.Line.{Line}
 use Rattle.mq_machine.specs.declared.line.Line.TheVariants as line
 use Rattle.mq_machine.specs.Line.{Says, SaysOne}
-use Rattle.mq_machine.specs.Text.{note_line, bad_line}
+use Rattle.mq_machine.specs.Text.{note_line}
 use Rattle.mq_machine.specs.State.{State}
-use Rattle.mq_machine.specs.Play.{Runs, Stage, opening, opened, LinePlays, Plays, text_of, AreLines, IsScript, with_tail, EndsLine, HasFront, HasBad, IsPlayed, IsPlayedPart, RunsPart, LinePart, StopsIn, IsFrontOf}
-use Rattle.mq_plays.specs.Parts.{AreShown, IsLineShown, IsAllShown}
+use Rattle.mq_machine.specs.Play.{Runs, Stage, opening, opened, LinePlays, Plays, text_of, AreLines, IsScript, with_tail, EndsLine, HasFront, IsPlayed, IsPlayedPart, RunsPart, LinePart, StopsIn, IsFrontOf}
 use Rattle.mq_plays.proofs.Requests.{Known}
 use Rattle.mq_plays.proofs.Cuts.{line_text, compare, none_more}
 use Rattle.mq_plays.proofs.Counts.{parted}
@@ -37,15 +36,15 @@ behind_front a b c x = (x.0, ap (λ (xs : List ℕ). a ++ xs) x.1 ∙ sym (appen
 
 -- ---- steps and lines
 
-runs_front : Known → (n actor : ℕ) (s : State) (a b : List ℕ) (t : State) → IsSingle s → (x : RunsPart s actor n a) → AreShown n s actor a x → Runs s actor n 0 b t → IsFrontOf a b
-runs_front known zero actor s a b t one x shown y = none_front a b x
-runs_front known (suc n) actor s a b t one (inl none) shown y = none_front a b none
-runs_front known (suc n) actor s a b t one (inr (inl (note, mid, rest, turn, is, part))) shown y =
+runs_front : Known → (n actor : ℕ) (s : State) (a b : List ℕ) (t : State) → IsSingle s → RunsPart s actor n 0 a → Runs s actor n 0 b t → IsFrontOf a b
+runs_front known zero actor s a b t one x y = none_front a b x.1
+runs_front known (suc n) actor s a b t one (inl none) y = none_front a b none.1
+runs_front known (suc n) actor s a b t one (inr (inl (note, mid, rest, turn, is, part))) y =
     elim y [
       | inl (note', mid', rest', turn', is', runs') ↦ (
           let same = one_actor_turn known s actor note note' mid mid' (λ w at. settles s actor w one at) turn turn' in
           let P : State → Type 0 = λ m. Runs m actor n 0 rest' t in
-          let later = runs_front known n actor mid rest rest' t (turn_single known s mid actor note turn one) part shown (subst P (sym same.1) runs') in
+          let later = runs_front known n actor mid rest rest' t (turn_single known s mid actor note turn one) part (subst P (sym same.1) runs') in
           let whole = behind_front (note_line note) rest rest' later in
           let Q : List ℕ → Type 0 = λ xs. IsFrontOf xs b in
           let R : List ℕ → Type 0 = λ xs. IsFrontOf (note_line note ++ rest) xs in
@@ -54,20 +53,21 @@ runs_front known (suc n) actor s a b t one (inr (inl (note, mid, rest, turn, is,
       | inr (inl (mid', others, silent, count, runs')) ↦ absurd (omega (arith, count))
       | inr (inr (quiet, none, is', same)) ↦ absurd (turn_not_quiet s mid actor note turn quiet)
     ]
-runs_front known (suc n) actor s a b t one (inr (inr (inl silent))) shown y = absurd shown
-runs_front known (suc n) actor s a b t one (inr (inr (inr (quiet, is)))) shown y =
+runs_front known (suc n) actor s a b t one (inr (inr (inl (mid, others, silent, count, part)))) y = absurd (omega (arith, count))
+runs_front known (suc n) actor s a b t one (inr (inr (inr (quiet, zero_is, is)))) y =
     elim y [
       | inl (note', mid', rest', turn', is', runs') ↦ absurd (turn_not_quiet s mid' actor note' turn' quiet)
       | inr (inl (mid', others, silent, count, runs')) ↦ absurd (omega (arith, count))
       | inr (inr (quiet', none, is', same)) ↦ same_front a b (is ∙ sym is')
     ]
 
-line_front : Known → (said : Line) (s : Stage) (a b : List ℕ) (t : Stage) → OpensSingle s → (x : LinePart s said a) → IsLineShown s said a x → LinePlays s said 0 b t → IsFrontOf a b
-line_front known line.Blank s a b t one x shown y = none_front a b x
-line_front known (line.Setting setting) s a b t one x shown y = none_front a b x
-line_front known (line.Conn worker) s a b t one x shown y = none_front a b x
-line_front known (line.Piece conn bytes) s a b t one x shown y = none_front a b x
-line_front known (line.Steps actor count) s a b t one x shown y = runs_front known count actor (opened s) a b y.1 one x.1 shown y.2
+line_front : Known → (said : Line) (s : Stage) (a b : List ℕ) (t : Stage) → OpensSingle s → LinePart s said 0 a → LinePlays s said 0 b t → IsFrontOf a b
+line_front known line.Blank s a b t one x y = none_front a b x.1
+line_front known (line.Setting setting) s a b t one x y = none_front a b x.1
+line_front known (line.Conn worker) s a b t one x y = none_front a b x.1
+line_front known (line.Piece conn bytes) s a b t one x y = none_front a b x.1
+line_front known line.FailBind s a b t one x y = none_front a b x.1
+line_front known (line.Steps actor count) s a b t one x y = runs_front known count actor (opened s) a b y.1 one x.1 y.2
 
 -- The rest of a play, behind its first lines.
 pub record Rest (state : Stage) (lines : List (List ℕ)) (text whole : List ℕ) : Type 0 where
@@ -97,8 +97,8 @@ rest_of known says before rest r q text whole state new none zero_too x y =
 
 -- the line that was cut off is the next one of the play
 pub cut_front : Known → SaysOne → (bytes : List ℕ) (lines : List (List ℕ)) (said : Line) (state : Stage) (text part whole : List ℕ) → OpensSingle state → Says bytes said
-    → (x : LinePart state said part) → IsLineShown state said part x → Rest state (bytes ∷ lines) text whole → IsFrontOf (text ++ part) whole
-cut_front known says bytes lines said state text part whole one told x shown rest =
+    → LinePart state said 0 part → Rest state (bytes ∷ lines) text whole → IsFrontOf (text ++ part) whole
+cut_front known says bytes lines said state text part whole one told x rest =
     let p = rest.plays in
     let sum = p.7 in
     let none = rest.none in
@@ -106,7 +106,7 @@ cut_front known says bytes lines said state text part whole one told x shown res
     let P : Line → Type 0 = λ l. LinePlays state l p.4 p.6 p.3 in
     let Q : ℕ → Type 0 = λ n. LinePlays state said n p.6 p.3 in
     let here = subst Q zero_here (subst P (says bytes p.1 said p.2 told) p.8) in
-    let first = line_front known said state part p.6 p.3 one x shown here in
+    let first = line_front known said state part p.6 p.3 one x here in
     let R : List ℕ → Type 0 = λ xs. IsFrontOf (text ++ part) xs in
     subst R (sym rest.is) (behind_front text part rest.more (let S : List ℕ → Type 0 = λ xs. IsFrontOf part xs in subst S (sym p.10) (front_more part p.6 p.7 first)))
 
@@ -163,28 +163,29 @@ next_line (m ∷ ms) (c ∷ cs) front more are p q ends e =
     inr (ms ++ (c ∷ cs) ∷ [], ap (λ (line : List ℕ). line ∷ (ms ++ (c ∷ cs) ∷ [])) same)
 
 -- an empty line prints nothing
-empty_part : SaysOne → (bytes : List ℕ) (said : Line) (state : Stage) (part : List ℕ) → bytes ≡ [] → Says bytes said → LinePart state said part → part ≡ []
-empty_part says bytes said state part none told x =
+empty_part : SaysOne → (bytes : List ℕ) (said : Line) (state : Stage) (here : ℕ) (part : List ℕ) → bytes ≡ [] → Says bytes said → LinePart state said here part → part ≡ []
+empty_part says bytes said state here part none told x =
     let P : List ℕ → Type 0 = λ xs. Says xs said in
-    let Q : Line → Type 0 = λ l. LinePart state l part in
-    subst Q (says [] said line.Blank (subst P none told) (inl refl)) x
+    let Q : Line → Type 0 = λ l. LinePart state l here part in
+    (subst Q (says [] said line.Blank (subst P none told) (inl refl)) x).1
 
 pub text_front : (text part whole : List ℕ) → part ≡ [] → IsFrontOf text whole → IsFrontOf (text ++ part) whole
 text_front text part whole none x = let P : List ℕ → Type 0 = λ xs. IsFrontOf xs whole in subst P (sym (append-nil text) ∙ ap (λ (xs : List ℕ). text ++ xs) (sym none)) x
 
 -- the play that stopped in a line
-stopped_front : Known → SaysOne → (script out whole : List ℕ) (p : IsPlayedPart script out) (q : IsPlayed script whole) → (s : StopsIn script p.before p.state p.part)
-    → p.refused ≡ 0 → q.refused ≡ 0 → IsLineShown p.state s.said p.part s.part → IsFrontOf (p.text ++ p.part) whole
-stopped_front known says script out whole p q s none zero_too shown =
+stopped_front : Known → SaysOne → (script out whole : List ℕ) (p : IsPlayedPart script out) (q : IsPlayed script whole) → (s : StopsIn script p.before p.state p.here p.part)
+    → p.refused ≡ 0 → p.here ≡ 0 → q.refused ≡ 0 → IsFrontOf (p.text ++ p.part) whole
+stopped_front known says script out whole p q s none here zero_too =
+    let H : ℕ → Type 0 = λ n. LinePart p.state s.said n p.part in
     let w = within known.cut script p.before q.lines s.line q.tail q.script_is s.has.has in
     let P : List (List ℕ) → Type 0 = λ ls. Plays opening ls q.refused whole q.new in
     let rest = rest_of known says p.before (with_tail w.later q.tail) p.refused q.refused p.text whole p.state q.new none zero_too p.plays (subst P w.is q.plays) in
     let one = plays_single known p.before opening p.refused p.text p.state p.plays opening_single in
     elim (next_line w.later q.tail s.line s.has.has.more w.are q.script_is.tail_is s.has.has.front_is s.has.ends w.bytes) [
-      | inl empty ↦ text_front p.text p.part whole (empty_part says s.line s.said p.state p.part empty s.says s.part) (rest.more, rest.is)
+      | inl empty ↦ text_front p.text p.part whole (empty_part says s.line s.said p.state p.here p.part empty s.says s.part) (rest.more, rest.is)
       | inr (lines, is) ↦ (
           let Q : List (List ℕ) → Type 0 = λ ls. Rest p.state ls p.text whole in
-          cut_front known says s.line lines s.said p.state p.text p.part whole one s.says s.part shown (subst Q is rest)
+          cut_front known says s.line lines s.said p.state p.text p.part whole one s.says (subst H here s.part) (subst Q is rest)
           )
     ]
 
@@ -197,15 +198,14 @@ between_front known says script out whole p q f nothing none zero_too =
     let rest = rest_of known says p.before (with_tail w.later q.tail) p.refused q.refused p.text whole p.state q.new none zero_too p.plays (subst P w.is q.plays) in
     text_front p.text p.part whole nothing (rest.more, rest.is)
 
--- where and how it stopped
-abbrev pub Stop : (script : List ℕ) (before : List (List ℕ)) (state : Stage) (part : List ℕ) → Type 0
-Stop script before state part = (HasFront script before [] × (part ≡ [])) ⊎ (StopsIn script before state part ⊎ (HasBad script before state × (part ≡ bad_line (length before + 1))))
+by_stop : Known → SaysOne → (script out whole : List ℕ) (p : IsPlayedPart script out) (q : IsPlayed script whole) → p.refused ≡ 0 → p.here ≡ 0 → q.refused ≡ 0 → IsFrontOf (p.text ++ p.part) whole
+by_stop known says script out whole p q none here zero_too =
+    elim p.stops [
+      | inl between ↦ between_front known says script out whole p q between.0 between.2 none zero_too
+      | inr (inl stop) ↦ stopped_front known says script out whole p q stop none here zero_too
+      | inr (inr bad) ↦ absurd (played_has_no_bad known.cut says script whole p.before p.refused p.text p.state q p.plays bad.0)
+    ]
 
-by_stop : Known → SaysOne → (script out whole : List ℕ) (p : IsPlayedPart script out) (q : IsPlayed script whole) → (stop : Stop script p.before p.state p.part) → p.stops ≡ stop → IsAllShown script out p → q.refused ≡ 0 → IsFrontOf (p.text ++ p.part) whole
-by_stop known says script out whole p q (inl between) is shown zero_too = between_front known says script out whole p q between.0 between.1 shown.before zero_too
-by_stop known says script out whole p q (inr (inl stop)) is shown zero_too = stopped_front known says script out whole p q stop shown.before zero_too (shown.line stop is)
-by_stop known says script out whole p q (inr (inr bad)) is shown zero_too = absurd (played_has_no_bad known.cut says script whole p.before p.refused p.text p.state q p.plays bad.0)
-
-pub part_front : Known → SaysOne → (script out whole : List ℕ) (p : IsPlayedPart script out) (q : IsPlayed script whole) → IsAllShown script out p → q.refused ≡ 0 → IsFrontOf out whole
-part_front known says script out whole p q shown zero_too =
-    front_on out (p.text ++ p.part) whole p.front (by_stop known says script out whole p q p.stops refl shown zero_too)
+pub part_front : Known → SaysOne → (script out whole : List ℕ) (p : IsPlayedPart script out) (q : IsPlayed script whole) → p.refused ≡ 0 → p.here ≡ 0 → q.refused ≡ 0 → IsFrontOf out whole
+part_front known says script out whole p q none here zero_too =
+    front_on out (p.text ++ p.part) whole p.front (by_stop known says script out whole p q none here zero_too)

@@ -140,6 +140,7 @@ one_line known line.Blank s a b t u one x y = (x.2 ∙ sym y.2, x.0 ∙ sym y.0)
 one_line known (line.Setting said) s a b t u one x y = (x.2 ∙ sym y.2, one_set said s t u x.0 y.0)
 one_line known (line.Conn worker) s a b t u one x y = (x.4 ∙ sym y.4, same_running t u x.0 y.0 x.2 y.2 (one_offer (opened s) x.0 y.0 worker x.1.1 y.1.1))
 one_line known (line.Piece conn bytes) s a b t u one x y = (x.4 ∙ sym y.4, same_running t u x.0 y.0 x.2 y.2 (one_arrival (opened s) conn bytes x.0 y.0 one x.1.1 y.1.1))
+one_line known line.FailBind s a b t u one x y = (x.4 ∙ sym y.4, same_running t u x.0 y.0 x.2 y.2 (x.1 ∙ sym y.1))
 one_line known (line.Steps actor count) s a b t u one x y =
     let same = one_runs known count actor (opened s) a b x.1 y.1 one x.2 y.2 in
     (same.0, same_running t u x.1 y.1 x.3 y.3 same.1)

@@ -1,5 +1,5 @@
 -- The states that lines lead to: one worker, one link at most, one tunnel at most, and a template that a text tells.
-use Rattle.std.proofs.Common.{◌≡◌, ℕ, zero, suc, ◌+◌, ◌≤◌, List, [], ◌∷◌, ◌++◌, length, slice_get, slice_set, remove, Some, refl, sym, ap, subst, ◌∙◌, arith, ◌⊎◌, inl, inr}
+use Rattle.std.proofs.Common.{◌≡◌, ℕ, true, zero, suc, ◌+◌, ◌≤◌, List, [], ◌∷◌, ◌++◌, length, slice_get, slice_set, remove, Some, refl, sym, ap, subst, ◌∙◌, arith, ◌⊎◌, inl, inr}
 use Rattle.std.proofs.lemmas.List.{length-append}
 use Rattle.mq_talk.specs.declared.note.Note.{Note}
 use Rattle.mq_machine.specs.declared.line.Line.{Line}
@@ -86,7 +86,7 @@ settled setup w links told one holds =
 held_one : Known → (actor : ℕ) (old : Held) (sh : Shared) → IsTold sh.setup → (try : Try) (note : Note) (new : Held) (after : Shared) → HeldNext actor old sh try note new after → IsOne sh.setup old.conn → IsOne sh.setup new.conn
 held_one known actor old sh told Want note new after h one =
     let P : Held → Type 0 = λ g. IsOne sh.setup g.conn in
-    subst P (sym h.new_is) (want_one sh.setup old.number (length sh.book) old.conn note h.conn h.calls h.next one)
+    subst P (sym h.new_is) (want_one sh.setup old.number (length sh.book) sh.bind_fails old.conn note h.conn h.calls h.next one)
 held_one known actor old sh told Write note new after h one =
     let w = writes actor old sh note new after h in
     let P : Held → Type 0 = λ g. IsOne sh.setup g.conn in
@@ -240,6 +240,10 @@ arrives_single s t number bytes x one =
       | inr (inr l) ↦ same_single s t l.new_is one
     ]
 
+fails_single : (s t : State) → t ≡ record s { shared = record s.shared { bind_fails = true } } → IsSingle s → IsSingle t
+fails_single s t is one =
+    same_single (record s { shared = record s.shared { bind_fails = true } }) t is (record { told = one.told; w = one.w; workers = one.workers; links = one.links; holds = one.holds })
+
 -- ---- a script
 
 start_single : (setup : Setup) → IsTold setup → IsSingle (start_with setup)
@@ -273,6 +277,7 @@ line_single known bytes line.Blank s refused text t says x one = single_at s t x
 line_single known bytes (line.Setting said) s refused text t says x one = sets_single bytes said s t says x.0 one
 line_single known bytes (line.Conn worker) s refused text t says x one = single_at (Running x.0) t x.2 (offers_single (opened s) x.0 worker x.1.0 x.1.1 one)
 line_single known bytes (line.Piece conn piece) s refused text t says x one = single_at (Running x.0) t x.2 (arrives_single (opened s) x.0 conn piece x.1.1 one)
+line_single known bytes line.FailBind s refused text t says x one = single_at (Running x.0) t x.2 (fails_single (opened s) x.0 x.1 one)
 line_single known bytes (line.Steps actor count) s refused text t says x one = single_at (Running x.1) t x.3 (runs_single known count actor refused (opened s) text x.1 x.2 one)
 
 pub plays_single : Known → (lines : List (List ℕ)) (s : Stage) (refused : ℕ) (text : List ℕ) (t : Stage) → Plays s lines refused text t → OpensSingle s → OpensSingle t

@@ -1,5 +1,5 @@
 -- A connection is refused memory once at most, since it is ending from then on.
-use Rattle.std.proofs.Common.{◌≡◌, ℕ, zero, suc, ◌+◌, ◌≤◌, List, [], ◌∷◌, ◌++◌, length, slice_get, slice_set, remove, Option, Some, None, sym, ap, subst, ◌∙◌, arith, inl, inr}
+use Rattle.std.proofs.Common.{◌≡◌, ℕ, Bool, zero, suc, ◌+◌, ◌≤◌, List, [], ◌∷◌, ◌++◌, length, slice_get, slice_set, remove, Option, Some, None, sym, ap, subst, ◌∙◌, arith, inl, inr}
 use Rattle.std.proofs.lemmas.List.{length-append}
 use Rattle.mq_talk.specs.declared.book.Call.{Call}
 use Rattle.mq_talk.specs.declared.note.End.{End}
@@ -54,22 +54,26 @@ alive_left (h ∷ hs) (suc i) = let rest = alive_left hs i in omega arith
 same_living : (old new : Conn) → new.ending ≡ old.ending → living new.ending ≤ living old.ending
 same_living old new is = let same = ap living is in omega arith
 
-want_living : (conn entries : ℕ) (old : Conn) (note : Note) (new : Conn) (calls : List Call) → WantNext conn entries old note new calls → living new.ending ≤ living old.ending
-want_living conn entries old (Ported c stream) new calls h = same_living old new (ap (λ (k : Conn). k.ending) h.1.new_is)
-want_living conn entries old (Opened tunnel c stream kind) new calls h = same_living old new (ap (λ (k : Conn). k.ending) h.4.new_is)
-want_living conn entries old (Refused c stream status rule) new calls h = let none = ap (λ (k : Conn). living k.ending) h.1.new_is in omega arith
-want_living conn entries old (Sent from n packet) new calls h = same_living old new (ap (λ (k : Conn). k.ending) h.0.new_is)
-want_living conn entries old (Closed tunnel why.Malformed left) new calls h = let none = ap (λ (k : Conn). living k.ending) h.0.new_is in omega arith
-want_living conn entries old (Closed tunnel why.Conn left) new calls h = same_living old new (ap (λ (k : Conn). k.ending) h.0.new_is)
-want_living conn entries old (Accepted c actor) new calls h = absurd h
-want_living conn entries old (Took c count) new calls h = absurd h
-want_living conn entries old (Wrote c bytes) new calls h = absurd h
-want_living conn entries old (Ended c reason) new calls h = absurd h
+want_living : (conn entries : ℕ) (bind_fails : Bool) (old : Conn) (note : Note) (new : Conn) (calls : List Call) → WantNext conn entries bind_fails old note new calls → living new.ending ≤ living old.ending
+want_living conn entries bind_fails old (Ported c stream) new calls h = same_living old new (ap (λ (k : Conn). k.ending) h.2.new_is)
+want_living conn entries bind_fails old (Opened tunnel c stream kind) new calls h = same_living old new (ap (λ (k : Conn). k.ending) h.4.new_is)
+want_living conn entries bind_fails old (Refused c stream status rule) new calls h =
+    elim h.1 [
+      | inl refused ↦ (let none = ap (λ (k : Conn). living k.ending) refused.new_is in omega arith)
+      | inr unbound ↦ (let none = ap (λ (k : Conn). living k.ending) unbound.1.new_is in omega arith)
+    ]
+want_living conn entries bind_fails old (Sent from n packet) new calls h = same_living old new (ap (λ (k : Conn). k.ending) h.0.new_is)
+want_living conn entries bind_fails old (Closed tunnel why.Malformed left) new calls h = let none = ap (λ (k : Conn). living k.ending) h.0.new_is in omega arith
+want_living conn entries bind_fails old (Closed tunnel why.Conn left) new calls h = same_living old new (ap (λ (k : Conn). k.ending) h.0.new_is)
+want_living conn entries bind_fails old (Accepted c actor) new calls h = absurd h
+want_living conn entries bind_fails old (Took c count) new calls h = absurd h
+want_living conn entries bind_fails old (Wrote c bytes) new calls h = absurd h
+want_living conn entries bind_fails old (Ended c reason) new calls h = absurd h
 
 held_living : (actor : ℕ) (old : Held) (sh : Shared) (try : Try) (note : Note) (new : Held) (after : Shared) → HeldNext actor old sh try note new after → living new.conn.ending ≤ living old.conn.ending
 held_living actor old sh Want note new after h =
     let same = ap (λ (k : Held). living k.conn.ending) h.new_is in
-    let less = want_living old.number (length sh.book) old.conn note h.conn h.calls h.next in
+    let less = want_living old.number (length sh.book) sh.bind_fails old.conn note h.conn h.calls h.next in
     omega arith
 held_living actor old sh Write note new after h =
     let w = writes actor old sh note new after h in
@@ -211,6 +215,12 @@ line_bounds (line.Conn worker) before refused s text t x bounds =
 line_bounds (line.Piece conn bytes) before refused s text t x bounds =
     let none = x.3 in
     let here = stage_bounds_at before (Running x.0) t x.2 (arrives_bounds before (opened s) conn bytes x.0 x.1.1 bounds) in
+    omega arith
+line_bounds line.FailBind before refused s text t x bounds =
+    let none = x.3 in
+    let same = ap (λ (u : State). u.links) x.1 in
+    let workers = ap (λ (u : State). all_hopes u.workers) x.1 in
+    let here = stage_bounds_at before (Running x.0) t x.2 (omega arith) in
     omega arith
 line_bounds (line.Steps actor count) before refused s text t x bounds =
     stage_bounds_at (before + refused) (Running x.1) t x.3 (runs_bounds count actor refused before (opened s) text x.1 x.2 bounds)

@@ -8,7 +8,7 @@ use Rattle.mq_talk.specs.declared.note.Note.TheVariants.{Accepted, Took, Wrote, 
 use Rattle.mq_machine.specs.declared.act.Act.{Act}
 use Rattle.mq_machine.specs.declared.setup.Setup.{Setup}
 use Rattle.mq_machine.specs.State.{Conn, Offer, Held, Worker, Shared, State}
-use Rattle.mq_machine.specs.ConnNext.{TookNext, IsOver}
+use Rattle.mq_machine.specs.ConnNext.{TookNext, still_fails, IsOver}
 use Rattle.mq_machine.specs.Next.{Takes, without_empty, entries_of, ReadNext, DueNext, WriteNext, HasConn, AcceptNext, EndNext, OfNext, HeldNext, Try, Want, Write, Read, order, Seat, Offers, Of, place, SeatNext, NoLater, WorkerTurn, Turn, Quiet}
 use Rattle.mq_plays.specs.Setups.{IsTold}
 use Rattle.mq_plays.proofs.Requests.{Known}
@@ -27,10 +27,10 @@ pub record Settled (setup : Setup) (w : Worker) : Type 0 where
 
 one_due : (actor : ℕ) (old : Held) (sh : Shared) (n m : Note) (g h : Held) (a b : Shared) → IsOne sh.setup old.conn → DueNext actor old sh n g a → DueNext actor old sh m h b → (n ≡ m) × (g ≡ h) × (a ≡ b)
 one_due actor old sh n m g h a b one x y =
-    let same = one_want old.number (length sh.book) old.conn n m x.conn y.conn x.calls y.calls (few_tunnels sh.setup old.conn one) x.next y.next in (
+    let same = one_want old.number (length sh.book) sh.bind_fails old.conn n m x.conn y.conn x.calls y.calls (few_tunnels sh.setup old.conn one) x.next y.next in (
       same.0,
       x.new_is ∙ ap (λ (c : Conn). record old { conn = c }) same.1 ∙ sym y.new_is,
-      x.after_is ∙ ap (λ (calls : List Call). record sh { book = sh.book ++ entries_of actor calls }) same.2 ∙ sym y.after_is,
+      x.after_is ∙ ap (λ (calls : List Call). record sh { book = sh.book ++ entries_of actor calls; bind_fails = still_fails sh.bind_fails old.conn.due }) same.2 ∙ sym y.after_is,
     )
 
 one_took : Known → (setup : Setup) → IsTold setup → (old : Conn) (bytes : List ℕ) (a b : Conn) → TookNext setup old bytes a → TookNext setup old bytes b → a ≡ b
@@ -183,7 +183,7 @@ ends_or_wants w sh c n m u v a b s x y =
     let p = x.next in
     let same = s.one c p.i y.i p.h y.h p.has y.has in
     let P : Held → Type 0 = λ h. IsOver h.conn x.reason in
-    over_wants_none y.h.number (length sh.book) y.h.conn x.reason m y.next.conn y.next.calls (subst P same.1 p.over) y.next.next
+    over_wants_none y.h.number (length sh.book) sh.bind_fails y.h.conn x.reason m y.next.conn y.next.calls (subst P same.1 p.over) y.next.next
 
 pub one_seat : Known → (w : Worker) (sh : Shared) (seat : Seat) (try : Try) (n m : Note) (u v : Worker) (a b : Shared) → Settled sh.setup w → SeatNext w sh seat try n u a → SeatNext w sh seat try m v b → (n ≡ m) × (u ≡ v) × (a ≡ b)
 one_seat known w sh Offers try n m u v a b s x y = one_accept w sh n m u v a b (accepts w sh try n u a x) (accepts w sh try m v b y)

@@ -8,7 +8,6 @@ use Rattle.mq_machine.specs.State.{State}
 use Rattle.mq_machine.specs.Next.{Turn, Quiet}
 use Rattle.mq_machine.specs.Play.{Stage, opening, opened, Plays, IsScript, IsPlayed, IsPlayedSoFar, IsPlayedBad, IsPlayedPart, IsFrontOf}
 use Rattle.mq_plays.specs.Setups.{IsTold}
-use Rattle.mq_plays.specs.Parts.{IsAllShown}
 
 -- the reads of a connection ask for one list of acts, where the setup's template is one that a text tells
 abbrev pub IsAskedOnce : Type 0
@@ -59,10 +58,10 @@ HasOneBadPlay = (script a b : List ℕ) (p : IsPlayedBad script a) (q : IsPlayed
 
 -- What was printed when a play stopped is a front of what the whole script prints, where no step was refused memory.
 abbrev pub IsPartFront : Type 0
-IsPartFront = (script out whole : List ℕ) (p : IsPlayedPart script out) (q : IsPlayed script whole) → IsAllShown script out p → q.refused ≡ 0 → IsFrontOf out whole
+IsPartFront = (script out whole : List ℕ) (p : IsPlayedPart script out) (q : IsPlayed script whole) → p.refused ≡ 0 → p.here ≡ 0 → q.refused ≡ 0 → IsFrontOf out whole
 
 abbrev pub IsPartFrontOfBad : Type 0
-IsPartFrontOfBad = (script out whole : List ℕ) (p : IsPlayedPart script out) (q : IsPlayedBad script whole) → IsAllShown script out p → q.refused ≡ 0 → IsFrontOf out whole
+IsPartFrontOfBad = (script out whole : List ℕ) (p : IsPlayedPart script out) (q : IsPlayedBad script whole) → p.refused ≡ 0 → p.here ≡ 0 → q.refused ≡ 0 → IsFrontOf out whole
 
 -- So is what the whole lines of a script's front print, whatever follows it.
 abbrev pub IsSoFarFront : Type 0

@@ -1,3 +1,2 @@
 pub mod Setups
 pub mod Laws
-pub mod Parts

@@ -6,12 +6,12 @@ use Rattle.hex.specs.Hex.{encode_lower}
 use Rattle.std.proofs.lemmas.Fmt.{decimal_injective}
 use Rattle.mq_machine.specs.Text.{number}
 use Rattle.mq_machine.specs.declared.line.Line.{Line}
-use Rattle.mq_machine.specs.declared.line.Line.TheVariants.{Blank, Setting, Conn, Piece, Steps}
+use Rattle.mq_machine.specs.declared.line.Line.TheVariants.{Blank, Setting, Conn, Piece, FailBind, Steps}
 use Rattle.mq_text.specs.Cut.{Lacks, IsCut, IsCutOnce}
 use Rattle.mq_machine.specs.Line.{Says, SaysNothing, SaysOne, SaysSteps, said}
 use Rattle.mq_machine.specs.Setting.{SaysOneSetting}
 use Rattle.mq_script.specs.Told.{setting_word}
-use Rattle.mq_script.specs.Words.{IsParsed, IsConn, IsHexOf, IsTextOf, SaysPieceBy, SaysStep, SaysBehind, SaysInWords, word_text}
+use Rattle.mq_script.specs.Words.{IsParsed, IsConn, IsHexOf, IsTextOf, SaysPieceBy, SaysStep, SaysBehind, SaysInWords, SaysAlone, SaysSome, word_text}
 use Rattle.mq_script.specs.declared.fault.LineFault.{LineFault}
 use Rattle.mq_script.specs.declared.fault.LineFault.TheVariants.{Syntax, NoMemory}
 use Rattle.mq_script.specs.declared.setting_word.SettingWord.{SettingWord}
@@ -95,26 +95,27 @@ not_blank line w rest is blank =
 in_words : (line : List ℕ) (said : Line) (w : Word) (rest : List ℕ) → line ≡ word_text w ++ 32 ∷ rest → SaysBehind w rest said → SaysInWords line said
 in_words line said w rest is says = record { word = w; rest = rest; is = is; says = says }
 
--- what a line says is nothing, or stands behind its word
-pub say_words : (line : List ℕ) (said : Line) → Says line said → ((said ≡ Blank) × IsBlank line) ⊎ SaysInWords line said
+-- what a line says is nothing, or one word, or stands behind its word
+pub say_words : (line : List ℕ) (said : Line) → Says line said → ((said ≡ Blank) × IsBlank line) ⊎ SaysSome line said
 say_words line Blank h = inl (refl, h)
+say_words line FailBind h = inr (inl (h, refl))
 say_words line (Setting told) h =
     let t = say_told line told h in
-    inr (in_words line (Setting told) (word.Setting t.value) t.behind (join_first line t.part (setting_word t.value) t.behind t.is t.says) (told, t.tells, refl))
-say_words line (Conn worker) h = inr (in_words line (Conn worker) word.Conn (decimal worker) h.1 (worker, h.0, refl, refl))
+    inr (inr (in_words line (Setting told) (word.Setting t.value) t.behind (join_first line t.part (setting_word t.value) t.behind t.is t.says) (told, t.tells, refl)))
+say_words line (Conn worker) h = inr (inr (in_words line (Conn worker) word.Conn (decimal worker) h.1 (worker, h.0, refl, refl)))
 say_words line (Piece conn bytes) h =
     elim h.2 [
       | inl hex ↦ (
           let rest = decimal conn ++ 32 ∷ encode_lower bytes in
           let is : IsConn rest conn (encode_lower bytes) = record { small = h.0; is = refl } in
           let piece : SaysPieceBy IsHexOf rest (Piece conn bytes) = record { conn = conn; behind = encode_lower bytes; bytes = bytes; is = is; some = h.1; says = (hex.0, refl); line_is = refl } in
-          inr (in_words line (Piece conn bytes) word.Bytes rest hex.1 piece)
+          inr (inr (in_words line (Piece conn bytes) word.Bytes rest hex.1 piece))
           )
       | inr text ↦ (
           let rest = decimal conn ++ 32 ∷ flat_map said bytes in
           let is : IsConn rest conn (flat_map said bytes) = record { small = h.0; is = refl } in
           let piece : SaysPieceBy IsTextOf rest (Piece conn bytes) = record { conn = conn; behind = flat_map said bytes; bytes = bytes; is = is; some = h.1; says = (text.0, refl); line_is = refl } in
-          inr (in_words line (Piece conn bytes) word.Text rest text.1 piece)
+          inr (inr (in_words line (Piece conn bytes) word.Text rest text.1 piece))
           )
     ]
 say_words line (Steps actor count) h =
@@ -122,11 +123,11 @@ say_words line (Steps actor count) h =
       | inl two ↦ (
           let rest = decimal actor ++ number count in
           let step : SaysStep rest (Steps actor count) = record { actor = actor; count = count; last = h.0; some = h.1; most = h.2; is = inl refl; line_is = refl } in
-          inr (in_words line (Steps actor count) word.Step rest two step)
+          inr (inr (in_words line (Steps actor count) word.Step rest two step))
           )
       | inr alone ↦ (
           let step : SaysStep (decimal actor) (Steps actor count) = record { actor = actor; count = count; last = h.0; some = h.1; most = h.2; is = inr (alone.0, refl); line_is = refl } in
-          inr (in_words line (Steps actor count) word.Step (decimal actor) alone.1 step)
+          inr (inr (in_words line (Steps actor count) word.Step (decimal actor) alone.1 step))
           )
     ]
 
@@ -206,42 +207,87 @@ word_cut once line before behind w rest cut is =
     let other : IsCut 32 line (word_text w) rest = record { is = is; first = word_lacks w } in
     once 32 line before behind (word_text w) rest cut other
 
--- a line without a space has no word
-pub no_word : (line : List ℕ) (said : Line) → Lacks 32 line → SaysInWords line said → ⊥
-no_word line said lacks h = holds_separator 32 (word_text h.word) h.rest (subst (Lacks 32) h.is lacks)
+-- what a line says that isn't blank, it says
+pub some_say : (line : List ℕ) (said : Line) → SaysSome line said → Says line said
+some_say line said (inl alone) = subst (Says line) (sym alone.1) alone.0
+some_say line said (inr words) = words_say line words.word words.rest said words.is words.says
+
+-- one word has no space, and is no comment
+alone_lacks : (line : List ℕ) (said : Line) → SaysAlone line said → Lacks 32 line
+alone_lacks line said alone = subst (Lacks 32) (sym alone.0) (letter 102 (omega arith), (letter 97 (omega arith), (letter 105 (omega arith), (letter 108 (omega arith), (letter 98 (omega arith), (letter 105 (omega arith), (letter 110 (omega arith), (letter 100 (omega arith), tt))))))))
+
+alone_not_blank : (line : List ℕ) (said : Line) → SaysAlone line said → IsBlank line → ⊥
+alone_not_blank line said alone blank =
+    let other : (first line == 35) ≡ false = ap (λ (xs : List ℕ). first xs == 35) alone.0 in
+    let same : (first line == 35) ≡ true = ap (λ (b : ℕ). b == 35) (blank_first line blank) in
+    cc
+
+some_not_blank : (line : List ℕ) (said : Line) → SaysSome line said → IsBlank line → ⊥
+some_not_blank line said (inl alone) blank = alone_not_blank line said alone blank
+some_not_blank line said (inr words) blank = not_blank line words.word words.rest words.is blank
+
+-- a line without a space is one word, where it is any
+pub no_word : (line : List ℕ) (r : Result Line LineFault) → Lacks 32 line → IsParsed (SaysAlone line) r → IsParsed (SaysSome line) r
+no_word line r lacks h =
+    parsed_same (SaysAlone line) (SaysSome line) r
+    (λ said alone. inl alone)
+    (λ said some. elim some [
+      | inl alone ↦ alone
+      | inr words ↦ absurd (holds_separator 32 (word_text words.word) words.rest (subst (Lacks 32) words.is lacks))
+    ])
+    h
+
+-- one word isn't a word and what stands behind it
+alone_no_word : (line before behind : List ℕ) (said : Line) → IsCut 32 line before behind → SaysAlone line said → ⊥
+alone_no_word line before behind said cut alone = holds_separator 32 before behind (subst (Lacks 32) cut.is (alone_lacks line said alone))
 
 -- a line whose first word is another says nothing
-pub other_word : (once : IsCutOnce) (line before behind : List ℕ) → IsCut 32 line before behind → ((w : Word) → before ≡ word_text w → ⊥) → (said : Line) → SaysInWords line said → ⊥
-other_word once line before behind cut none said h = none h.word (word_cut once line before behind h.word h.rest cut h.is).0
+pub other_word : (once : IsCutOnce) (line before behind : List ℕ) → IsCut 32 line before behind → ((w : Word) → before ≡ word_text w → ⊥) → (said : Line) → SaysSome line said → ⊥
+other_word once line before behind cut none said (inl alone) = alone_no_word line before behind said cut alone
+other_word once line before behind cut none said (inr h) = none h.word (word_cut once line before behind h.word h.rest cut h.is).0
 
 -- the reader of what stands behind the word reads the line
-pub word_read : (once : IsCutOnce) (line before behind : List ℕ) (w : Word) (r : Result Line LineFault) → IsCut 32 line before behind → before ≡ word_text w → IsParsed (SaysBehind w behind) r → IsParsed (SaysInWords line) r
+pub word_read : (once : IsCutOnce) (line before behind : List ℕ) (w : Word) (r : Result Line LineFault) → IsCut 32 line before behind → before ≡ word_text w → IsParsed (SaysBehind w behind) r → IsParsed (SaysSome line) r
 word_read once line before behind w r cut is h =
-    parsed_same (SaysBehind w behind) (SaysInWords line) r
-    (λ said s. in_words line said w behind (cut.is ∙ ap (λ (xs : List ℕ). xs ++ 32 ∷ behind) is) s)
-    (λ said s.
-    let same = word_cut once line before behind s.word s.rest cut s.is in
-    let word_is : s.word ≡ w = one_word s.word w (sym same.0 ∙ is) in
-    let says = subst (λ (text : List ℕ). SaysBehind s.word text said) (sym same.1) s.says in
-    subst (λ (v : Word). SaysBehind v behind said) word_is says)
+    parsed_same (SaysBehind w behind) (SaysSome line) r
+    (λ said s. inr (in_words line said w behind (cut.is ∙ ap (λ (xs : List ℕ). xs ++ 32 ∷ behind) is) s))
+    (λ said some. elim some [
+      | inl alone ↦ absurd (alone_no_word line before behind said cut alone)
+      | inr s ↦ (
+          let same = word_cut once line before behind s.word s.rest cut s.is in
+          let word_is : s.word ≡ w = one_word s.word w (sym same.0 ∙ is) in
+          let says = subst (λ (text : List ℕ). SaysBehind s.word text said) (sym same.1) s.says in
+          subst (λ (v : Word). SaysBehind v behind said) word_is says)
+    ])
     h
+
+words_once : (once : IsCutOnce) (one : SaysOneSetting) (line : List ℕ) (a b : Line) → SaysInWords line a → SaysInWords line b → a ≡ b
+words_once once one line a b h k =
+    let same = word_cut once line (word_text h.word) h.rest k.word k.rest (record { is = h.is; first = word_lacks h.word }) k.is in
+    let word_is : h.word ≡ k.word = one_word h.word k.word same.0 in
+    let says = subst (λ (v : Word). SaysBehind v h.rest a) word_is h.says in
+    let again = subst (λ (text : List ℕ). SaysBehind k.word text a) same.1 says in
+    behind_once once one k.word k.rest a b again k.says
+
+alone_or_words : (line : List ℕ) (a b : Line) → SaysAlone line a → SaysInWords line b → ⊥
+alone_or_words line a b alone words = holds_separator 32 (word_text words.word) words.rest (subst (Lacks 32) words.is (alone_lacks line a alone))
+
+some_once : (once : IsCutOnce) (one : SaysOneSetting) (line : List ℕ) (a b : Line) → SaysSome line a → SaysSome line b → a ≡ b
+some_once once one line a b (inl alone) (inl also) = alone.1 ∙ sym also.1
+some_once once one line a b (inl alone) (inr words) = absurd (alone_or_words line a b alone words)
+some_once once one line a b (inr words) (inl alone) = absurd (alone_or_words line b a alone words)
+some_once once one line a b (inr words) (inr also) = words_once once one line a b words also
 
 pub says_once : (once : IsCutOnce) (one : SaysOneSetting) (line : List ℕ) (a b : Line) → Says line a → Says line b → a ≡ b
 says_once once one line a b h k =
     elim (say_words line a h) [
       | inl blank ↦ elim (say_words line b k) [
         | inl also ↦ blank.0 ∙ sym also.0
-        | inr words ↦ absurd (not_blank line words.word words.rest words.is blank.1)
+        | inr some ↦ absurd (some_not_blank line b some blank.1)
       ]
-      | inr words ↦ elim (say_words line b k) [
-        | inl blank ↦ absurd (not_blank line words.word words.rest words.is blank.1)
-        | inr also ↦ (
-            let same = word_cut once line (word_text words.word) words.rest also.word also.rest (record { is = words.is; first = word_lacks words.word }) also.is in
-            let word_is : words.word ≡ also.word = one_word words.word also.word same.0 in
-            let says = subst (λ (v : Word). SaysBehind v words.rest a) word_is words.says in
-            let again = subst (λ (text : List ℕ). SaysBehind also.word text a) same.1 says in
-            behind_once once one also.word also.rest a b again also.says
-            )
+      | inr some ↦ elim (say_words line b k) [
+        | inl blank ↦ absurd (some_not_blank line a some blank.1)
+        | inr also ↦ some_once once one line a b some also
       ]
     ]
 
@@ -257,15 +303,15 @@ blank_answers line blank = record {
   syntax = λ e. cc e;
   found = λ said h. elim (say_words line said h) [
     | inl also ↦ inl (ap Ok (sym also.0))
-    | inr words ↦ absurd (not_blank line words.word words.rest words.is blank)
+    | inr some ↦ absurd (some_not_blank line said some blank)
   ];
 }
 
-pub words_answer : (one : SaysOne) (line : List ℕ) (r : Result Line LineFault) → (IsBlank line → ⊥) → IsParsed (SaysInWords line) r → Answers line r
+pub words_answer : (one : SaysOne) (line : List ℕ) (r : Result Line LineFault) → (IsBlank line → ⊥) → IsParsed (SaysSome line) r → Answers line r
 words_answer one line (Ok value) other h =
-    let says = words_say line h.word h.rest value h.is h.says in
+    let says = some_say line value h in
     record { ok = says; syntax = λ e. cc e; found = λ said k. inl (ap Ok (one line value said says k)) }
 words_answer one line (Err Syntax) other h =
-    let none : SaysNothing line = λ said k. elim (say_words line said k) [ inl blank ↦ other blank.1 | inr words ↦ h said words ] in
+    let none : SaysNothing line = λ said k. elim (say_words line said k) [ inl blank ↦ other blank.1 | inr some ↦ h said some ] in
     record { ok = tt; syntax = λ e. none; found = λ said k. absurd (none said k) }
 words_answer one line (Err NoMemory) other h = record { ok = tt; syntax = λ e. cc e; found = λ said k. inr refl }

@@ -1,17 +1,13 @@
 -- A settings line by its parts.
-use Rattle.std.proofs.Common.{◌≡◌, ℕ, Bool, true, false, List, ◌∷◌, ◌++◌, codes, decimal, refl, sym, ◌∙◌, ap, subst, append_assoc, Result, Ok, Err}
+use Rattle.std.proofs.Common.{◌≡◌, ℕ, Bool, true, false, List, ◌∷◌, ◌++◌, codes, decimal, refl, sym, ◌∙◌, ap, subst, append_assoc}
 use Rattle.mq_addr.specs.declared.kind.Kind.{Kind}
 use Rattle.mq_addr.specs.declared.kind.Kind.TheVariants as kind
 use Rattle.mq_policy.specs.declared.rule.Rule.TheVariants as rule
 use Rattle.mq_machine.specs.declared.setting.SettingLine.{SettingLine}
 use Rattle.mq_machine.specs.declared.setting.SettingLine.TheVariants.{Template, Name, Rule}
-use Rattle.mq_machine.specs.Setting.{IsBlockText, SaysNoSetting, SaysSetting, verb}
+use Rattle.mq_machine.specs.Setting.{IsBlockText, SaysSetting, verb}
 use Rattle.mq_machine.specs.Text.{kind_text, number}
 use Rattle.mq_script.specs.Told.{IsKindText, IsNamed, IsSettingWord, Tells, TellsAddr, TellsBehind, TellsBlock, TellsPorts, TellsProtocol, TellsTemplate, setting_word}
-use Rattle.std.specs.Result.{IfOk}
-use Rattle.mq_script.specs.Words.{IsParsed}
-use Rattle.mq_script.specs.declared.fault.LineFault.{LineFault}
-use Rattle.mq_script.specs.declared.fault.LineFault.TheVariants.{Syntax, NoMemory}
 use Rattle.mq_script.specs.declared.setting_word.SettingWord.{SettingWord}
 use Rattle.mq_script.specs.declared.setting_word.SettingWord.TheVariants as word
 
@@ -141,17 +137,3 @@ behind_says line word.Name rest said is h =
     subst (SaysSetting line) (sym t.2) (h.part, h.behind, h.says.0, h.says.1, t.1, join_rest line (setting_word word.Name) rest (h.part ++ 32 ∷ h.behind) is h.is)
 behind_says line word.Allow rest said is h = verb_says line true rest said is h
 behind_says line word.Deny rest said is h = verb_says line false rest said is h
-
--- what the parts tell, the line says
-pub told_say : (line : List ℕ) (said : SettingLine) → TellsLine line said → SaysSetting line said
-told_say line said h = behind_says line h.value h.behind said (join_first line h.part (setting_word h.value) h.behind h.is h.says) h.tells
-
--- what the reader of the parts answers of the line
-pub setting_ok : (line : List ℕ) (r : Result SettingLine LineFault) → IsParsed (TellsLine line) r → IfOk r (SaysSetting line)
-setting_ok line (Ok said) h = told_say line said h
-setting_ok line (Err e) h = tt
-
-pub setting_syntax : (line : List ℕ) (r : Result SettingLine LineFault) → IsParsed (TellsLine line) r → r ≡ Err Syntax → SaysNoSetting line
-setting_syntax line (Ok said) h e = cc e
-setting_syntax line (Err Syntax) h e = λ said says. h said (say_told line said says)
-setting_syntax line (Err NoMemory) h e = cc e

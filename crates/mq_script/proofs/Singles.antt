@@ -1,5 +1,5 @@
 -- A line says at most one setting.
-use Rattle.std.proofs.Common.{◌≡◌, ◌≢◌, ℕ, ◌+◌, ◌<◌, ◌≤◌, ◌^◌, ◌%◌, Bool, true, false, List, [], ◌∷◌, ◌++◌, codes, decimal, refl, sym, ◌∙◌, ap, subst, arith, Option, Some, None, Result, Ok, Err, ◌⊎◌, inl, inr}
+use Rattle.std.proofs.Common.{◌≡◌, ◌≢◌, ℕ, ◌+◌, ◌<◌, ◌≤◌, ◌^◌, ◌%◌, Bool, true, false, List, [], ◌∷◌, ◌++◌, codes, decimal, refl, sym, ◌∙◌, ap, subst, arith, Option, Some, None}
 use Rattle.std.proofs.lemmas.Fmt.{decimal_by_steps, decimal_injective}
 use Rattle.mq_text.specs.Cut.{Lacks, IsCut, IsCutOnce}
 use Rattle.mq_addr.specs.declared.addr.Addr.{Addr}
@@ -12,15 +12,12 @@ use Rattle.mq_policy.specs.declared.rule.Rule.TheVariants as rule
 use Rattle.mq_target.specs.Template.{Shape}
 use Rattle.mq_machine.specs.declared.setting.SettingLine.{SettingLine}
 use Rattle.mq_machine.specs.declared.setting.SettingLine.TheVariants.{Template, Name, Rule}
-use Rattle.mq_machine.specs.Setting.{IsBlockText, IsProtocolText, SaysOneSetting, SaysSetting}
+use Rattle.mq_machine.specs.Setting.{IsBlockText, IsProtocolText, SaysSetting}
 use Rattle.mq_script.specs.Told.{IsKindText, IsNamed, IsSettingWord, TellsAddr, TellsBehind, TellsBlock, TellsPorts, TellsProtocol, TellsTemplate}
-use Rattle.mq_script.specs.Words.{IsParsed}
-use Rattle.mq_script.specs.declared.fault.LineFault.{LineFault}
-use Rattle.mq_script.specs.declared.fault.LineFault.TheVariants.{Syntax, NoMemory}
 use Rattle.mq_script.specs.declared.setting_word.SettingWord.{SettingWord}
 use Rattle.mq_script.specs.declared.setting_word.SettingWord.TheVariants as word
 use Rattle.mq_script.proofs.Numbers.{lacks_decimal}
-use Rattle.mq_script.proofs.Sayings.{TellsLine, say_told, told_say}
+use Rattle.mq_script.proofs.Sayings.{say_told}
 use Rattle.mq_script.proofs.Templates.{one_template}
 use Rattle.mq_script.proofs.Told.{IsSingle, tells_once}
 use Rattle.mq_script.proofs.Tokens.{blocks_lack, block_single, kinds_lack, kind_single, names_lack, name_single, port_fits, ports_cut, words_lack, word_single}
@@ -82,10 +79,3 @@ module _ (once : IsCutOnce) (bytes : HasAddrBytes) (addr : HasOneAddr) (prefix :
 
   pub one_setting : (line : List ℕ) (a b : SettingLine) → SaysSetting line a → SaysSetting line b → a ≡ b
   one_setting line a b h k = tells_once IsSettingWord TellsBehind once words_lack word_single behind_single line a b (say_told line a h) (say_told line b k)
-
--- the reader answers what the line says, or memory ran out
-pub setting_found : SaysOneSetting → (line : List ℕ) (r : Result SettingLine LineFault) → IsParsed (TellsLine line) r → (said : SettingLine) → SaysSetting line said
-    → (r ≡ Ok said) ⊎ (r ≡ Err NoMemory)
-setting_found one line (Ok value) h said says = inl (ap Ok (one line value said (told_say line value h) says))
-setting_found one line (Err Syntax) h said says = absurd (h said (say_told line said says))
-setting_found one line (Err NoMemory) h said says = inr refl

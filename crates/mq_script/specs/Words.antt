@@ -5,7 +5,7 @@ use Rattle.std.specs.List.{flat_map}
 use Rattle.hex.specs.Hex.{encode_lower}
 use Rattle.mq_machine.specs.Text.{number}
 use Rattle.mq_machine.specs.declared.line.Line.{Line}
-use Rattle.mq_machine.specs.declared.line.Line.TheVariants.{Setting, Conn, Piece, Steps}
+use Rattle.mq_machine.specs.declared.line.Line.TheVariants.{Setting, Conn, Piece, FailBind, Steps}
 use Rattle.mq_machine.specs.declared.setting.SettingLine.{SettingLine}
 use Rattle.mq_machine.specs.Line.{IsSayable, said}
 use Rattle.mq_script.specs.declared.fault.LineFault.{LineFault}
@@ -90,9 +90,17 @@ SaysBehind word.Text rest line = SaysPieceBy IsTextOf rest line
 SaysBehind word.Step rest line = SaysStep rest line
 SaysBehind (word.Setting w) rest line = (setting : SettingLine) × TellsBehind w rest setting × (line ≡ Setting setting)
 
--- what a line says that isn't blank
+-- what a line says that begins with a word and a space
 pub record SaysInWords (text : List ℕ) (line : Line) : Type 0 where
   pub word : Word
   pub rest : List ℕ
   pub is : text ≡ word_text word ++ 32 ∷ rest
   pub says : SaysBehind word rest line
+
+-- what a line says that is one word
+abbrev pub SaysAlone : List ℕ → Line → Type 0
+SaysAlone text line = (text ≡ codes "failbind") × (line ≡ FailBind)
+
+-- what a line says that isn't blank
+abbrev pub SaysSome : List ℕ → Line → Type 0
+SaysSome text line = SaysAlone text line ⊎ SaysInWords text line

@@ -19,7 +19,7 @@ mod word;
 pub use fault::LineFault;
 pub use line::{parse_line, says_one};
 pub use print::{print_bad_line, print_idle, print_note};
-pub use setting::{parse_setting, says_one_setting};
+pub use setting::says_one_setting;
 pub use settings::Settings;
 
 #[cfg(test)]

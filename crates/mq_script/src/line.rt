@@ -2,7 +2,7 @@
 ghost use Rattle.std.specs.Prelude.{◌≡◌, ◌⊎◌, ◌↔◌, IfOk, IsTrue};
 ghost use Rattle.mq_machine.specs.declared.line.Line.{Line};
 ghost use Rattle.mq_machine.specs.Line.{Says, SaysNothing, SaysOne};
-ghost use Rattle.mq_script.specs.Words.{IsParsed, SaysBehind, SaysInWords};
+ghost use Rattle.mq_script.specs.Words.{IsParsed, SaysAlone, SaysBehind, SaysSome};
 
 use crate::behind::{parse_bytes, parse_conn, parse_said, parse_step};
 use crate::fault::LineFault;
@@ -35,13 +35,23 @@ fn parse_behind(alloc: Global, word: Word, rest: &[u8]) -> Result<Line, LineFaul
     }
 }
 
-/// A line that begins with a word.
+/// A line that is one word.
+fn parse_alone(line: &[u8]) -> Result<Line, LineFault>
+    ensures { IsParsed (SaysAlone line.now) result }
+{
+    match line {
+        b"failbind" => Ok(Line::FailBind),
+        _ => Err(LineFault::Syntax),
+    }
+}
+
+/// A line that is one word, or begins with one.
 fn parse_words(alloc: Global, line: &[u8]) -> Result<Line, LineFault>
-    ensures { IsParsed (SaysInWords line.now) result }
+    ensures { IsParsed (SaysSome line.now) result }
 {
     cut_once();
     let Some((text, rest)) = cut(b' ', line) else {
-        return Err(LineFault::Syntax);
+        return parse_alone(line);
     };
     let Some(word) = parse_word(text) else {
         return Err(LineFault::Syntax);

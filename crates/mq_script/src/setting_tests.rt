@@ -134,10 +134,6 @@ fn templates_are_read(rt: HostRuntime) {
     ];
     for (line, want) in lines {
         assert!(rt;
-            meets(rt.alloc(), parse_setting(rt.alloc(), line), want),
-            "{line:?}"
-        );
-        assert!(rt;
             meets(rt.alloc(), as_setting(parse_line(rt.alloc(), line)), want),
             "{line:?}"
         );
@@ -175,10 +171,6 @@ fn names_are_read(rt: HostRuntime) {
         (b"names a 192.0.2.6", Want::Bad),
     ];
     for (line, want) in lines {
-        assert!(rt;
-            meets(rt.alloc(), parse_setting(rt.alloc(), line), want),
-            "{line:?}"
-        );
         assert!(rt;
             meets(rt.alloc(), as_setting(parse_line(rt.alloc(), line)), want),
             "{line:?}"
@@ -240,10 +232,6 @@ fn rules_for_udp_are_read(rt: HostRuntime) {
     ];
     for (line, want) in lines {
         assert!(rt;
-            meets(rt.alloc(), parse_setting(rt.alloc(), line), want),
-            "{line:?}"
-        );
-        assert!(rt;
             meets(rt.alloc(), as_setting(parse_line(rt.alloc(), line)), want),
             "{line:?}"
         );
@@ -287,10 +275,6 @@ fn rules_for_ip_are_read(rt: HostRuntime) {
     ];
     for (line, want) in lines {
         assert!(rt;
-            meets(rt.alloc(), parse_setting(rt.alloc(), line), want),
-            "{line:?}"
-        );
-        assert!(rt;
             meets(rt.alloc(), as_setting(parse_line(rt.alloc(), line)), want),
             "{line:?}"
         );
@@ -317,15 +301,23 @@ fn name_len(got: &Result<SettingLine, LineFault>) -> usize {
 #[test]
 fn a_name_has_up_to_253_bytes(rt: HostRuntime) -> Result<(), Fail> {
     let longest = long_name(rt.alloc(), 253)?;
-    assert_eq!(rt; name_len(&parse_setting(rt.alloc(), &longest)), 253);
+    assert_eq!(rt;
+        name_len(&as_setting(parse_line(rt.alloc(), &longest))),
+        253
+    );
     let longer = long_name(rt.alloc(), 254)?;
-    assert!(rt; matches!(parse_setting(rt.alloc(), &longer), Err(LineFault::Syntax)));
+    assert!(rt;
+        matches!(
+            as_setting(parse_line(rt.alloc(), &longer)),
+            Err(LineFault::Syntax)
+        )
+    );
     Ok(())
 }
 
 /// Whether a line is read and put behind the others.
 fn told(alloc: Global, settings: &mut Settings, line: &[u8]) -> bool {
-    match parse_setting(alloc, line) {
+    match as_setting(parse_line(alloc, line)) {
         Ok(said) => matches!(settings.add(alloc, said), Ok(true)),
         Err(_) => false,
     }
@@ -333,7 +325,7 @@ fn told(alloc: Global, settings: &mut Settings, line: &[u8]) -> bool {
 
 /// Whether a line is read, and is one too many.
 fn is_too_many(alloc: Global, settings: &mut Settings, line: &[u8]) -> bool {
-    match parse_setting(alloc, line) {
+    match as_setting(parse_line(alloc, line)) {
         Ok(said) => matches!(settings.add(alloc, said), Ok(false)),
         Err(_) => false,
     }

@@ -17,6 +17,7 @@ enum Want {
     Rule(Rule),
     Conn(u32),
     Piece(u32, &'static [u8]),
+    FailBind,
     Steps(u32, u32),
 }
 
@@ -28,6 +29,7 @@ fn meets(got: &Result<Line, LineFault>, want: Want) -> bool {
         Ok(Line::Piece { conn, bytes }) => {
             matches!(want, Want::Piece(number, text) if *conn == number && bytes.as_slice() == text)
         }
+        Ok(Line::FailBind) => matches!(want, Want::FailBind),
         Ok(Line::Steps { actor, count }) => {
             matches!(want, Want::Steps(number, most) if *actor == number && *count == most)
         }
@@ -125,6 +127,18 @@ const CONN_LINES: [(&[u8], Want); 18] = [
     (b"conns 0", Want::Bad),
 ];
 
+const FAIL_LINES: [(&[u8], Want); 9] = [
+    (b"failbind", Want::FailBind),
+    (b"failbind ", Want::Bad),
+    (b" failbind", Want::Bad),
+    (b"failbind 0", Want::Bad),
+    (b"failbind\r", Want::Bad),
+    (b"failbin", Want::Bad),
+    (b"failbinds", Want::Bad),
+    (b"Failbind", Want::Bad),
+    (b"fail bind", Want::Bad),
+];
+
 const STEP_LINES: [(&[u8], Want); 20] = [
     (b"step 0", Want::Steps(0, 1)),
     (b"step 3", Want::Steps(3, 1)),
@@ -211,6 +225,9 @@ fn lines_are_read_as_the_grammar_says(rt: HostRuntime) {
         assert!(rt; meets(&parse_line(rt.alloc(), line), want), "{line:?}");
     }
     for (line, want) in CONN_LINES {
+        assert!(rt; meets(&parse_line(rt.alloc(), line), want), "{line:?}");
+    }
+    for (line, want) in FAIL_LINES {
         assert!(rt; meets(&parse_line(rt.alloc(), line), want), "{line:?}");
     }
     for (line, want) in STEP_LINES {

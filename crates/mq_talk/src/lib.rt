@@ -4,8 +4,10 @@
 mod book;
 mod goal;
 mod note;
+mod place;
 
 pub use book::{Call, Entry};
 pub use goal::Goal;
-pub use mq_addr::Kind;
+pub use mq_addr::{Asked, Given, Kind};
 pub use note::{End, From, Note, Why};
+pub use place::{Cause, Place};

@@ -23,8 +23,9 @@ bad_unsaid whole text number b = record {
   text = text;
   part = bad_line (length b.before + 1);
   refused = b.refused;
+  here = 0;
   plays = b.plays;
-  stops = inr (inr (b.bad, refl));
+  stops = inr (inr (b.bad, refl, refl));
   front = (bad_line (length b.before + 1), refl);
 }
 
@@ -59,8 +60,9 @@ bad_part whole out b = record {
   text = b.text;
   part = bad_line (length b.before + 1);
   refused = b.refused;
+  here = 0;
   plays = b.plays;
-  stops = inr (inr (b.bad, refl));
+  stops = inr (inr (b.bad, refl, refl));
   front = ([], sym b.out_is ∙ sym (append-nil out));
 }
 
@@ -115,6 +117,7 @@ part_front whole text shown written owes e p = record {
   text = p.text;
   part = p.part;
   refused = p.refused;
+  here = p.here;
   plays = p.plays;
   stops = p.stops;
   front = (owes ++ p.front.0, p.front.1 ∙ ap (λ (xs : List ℕ). xs ++ p.front.0) (ap (λ (xs : List ℕ). text ++ xs) e ∙ sym (append_assoc text written owes)) ∙ append_assoc (text ++ written) owes p.front.0);

@@ -2,7 +2,7 @@
 use Rattle.std.proofs.Common.{◌≡◌, ℕ, true, List, [], ◌∷◌, ◌++◌, Option, Some, None, Result, Ok, Err, refl, sym, subst, inl, inr}
 use Rattle.mq_machine.specs.Line.{Says}
 use Rattle.mq_machine.specs.Play as spec
-use Rattle.mq_machine.specs.Play.{Settings, Running, opened, LinePlays, IsBadHere, RunsPart}
+use Rattle.mq_machine.specs.Play.{Settings, Running, opened, LinePlays, IsBadHere}
 use Rattle.mq_machine.specs.State.{State}
 use Rattle.mq_machine.specs.declared.line.Line.{Line}
 use Rattle.mq_machine.specs.declared.line.Line.TheVariants as line
@@ -13,14 +13,14 @@ use Rattle.mq_machine.specs.Next.{Turn}
 use Rattle.mq_machine.specs.Text.{note_line}
 use Rattle.mq_talk.specs.declared.note.Note.{Note}
 use Rattle.mq_script.specs.Settings as script
-use Rattle.mq_top.specs.Playing.{StepTo, RunsTo, StageRunsTo, Answers, EventTo, SilentTo, LineTo}
+use Rattle.mq_top.specs.Playing.{StepTo, RunsTo, Answers, EventTo, SilentTo, LineTo}
 use Rattle.mq_top.specs.Printing.{Spills}
-use Rattle.mq_top.specs.Stages.{MayRun, SetTo}
+use Rattle.mq_top.specs.Stages.{MayRun, IsStage, SetTo}
 use Rattle.mq_top.specs.declared.stage.Stage.{Stage}
 use Rattle.mq_top.specs.declared.status.Stop.{Stop}
 use Rattle.mq_top.specs.declared.status.Stop.TheVariants.{BadLine, WriteFault, NoMemory}
 use Rattle.mq_world.specs.declared.event.Event.{Event}
-use Rattle.mq_world.specs.declared.event.Event.TheVariants.{Conn, Piece, Step}
+use Rattle.mq_world.specs.declared.event.Event.TheVariants.{Conn, Piece, FailBind, Step}
 use Rattle.mq_world.specs.declared.event.Stepped.{Stepped}
 use Rattle.mq_world.specs.declared.event.Stepped.TheVariants.{Done, Did, Idle, Refused}
 use Rattle.mq_world.specs.declared.event.WorldFault.{WorldFault}
@@ -49,18 +49,18 @@ setting_line s bytes said (Err NoMemory) x says told = inl refl
 
 -- a line of steps
 pub steps_line : (s : spec.Stage) (bytes : List ℕ) (actor count : ℕ) (shown : List ℕ) (answer : Result (Unit {0}) Stop) (x : Stage) → Says bytes (Steps actor count)
-    → StageRunsTo s actor count shown answer x → LineTo s bytes shown answer x
+    → RunsTo (λ t. IsStage x (Running t)) (opened s) actor count shown answer → LineTo s bytes shown answer x
 steps_line s bytes actor count shown (Ok done) x says told = (Steps actor count, Running told.0, told.1, says, (told.2, told.0, told.3, refl), told.4)
 steps_line s bytes actor count shown (Err BadLine) x says told = (inr (Steps actor count, says, told.0), told.1)
 steps_line s bytes actor count shown (Err WriteFault) x says told =
-    elim told.1 [
+    elim told.2 [
       | inl none ↦ inl none
-      | inr within ↦ inr (Steps actor count, says, (within, told.0))
+      | inr within ↦ inr (Steps actor count, told.0, says, (within, told.1))
     ]
 steps_line s bytes actor count shown (Err NoMemory) x says told =
-    elim told.1 [
+    elim told.2 [
       | inl none ↦ inl none
-      | inr within ↦ inr (Steps actor count, says, (within, told.0))
+      | inr within ↦ inr (Steps actor count, told.0, says, (within, told.1))
     ]
 
 -- one more setting stands, where the world hasn't begun
@@ -72,18 +72,6 @@ setting_stands x new found (Settings lines) said none runs adds =
     let added = adds lines (subst P none runs) in
     (Settings (lines ++ said ∷ []), (added.0, refl), subst Q (sym none) added.1)
 setting_stands x new found (Running state) said none runs adds = let P : Option World → Type 0 = λ o. MayRun x o (Running state) in absurd (subst P none runs)
-
--- steps of a world are steps of its stage
-pub stage_runs : (s : spec.Stage) (actor count : ℕ) (shown : List ℕ) (answer : Result (Unit {0}) Stop) (settings : script.Made) (w : World)
-    → RunsTo settings.setup (opened s) actor count shown answer w → StageRunsTo s actor count shown answer (running settings w)
-stage_runs s actor count shown (Ok done) settings w told = told
-stage_runs s actor count shown (Err BadLine) settings w told = told
-stage_runs s actor count shown (Err WriteFault) settings w told = told
-stage_runs s actor count shown (Err NoMemory) settings w told = told
-
--- nothing was shown yet
-pub stage_none : (s : spec.Stage) (actor count : ℕ) (x : Stage) → RunsPart (opened s) actor count [] → StageRunsTo s actor count [] (Err NoMemory) x
-stage_none s actor count x part = (part, inl refl)
 
 -- the world that has begun
 pub world_of : (x : script.Made) (found : Option World) (w : World) (s : State) → found ≡ Some w → MayRun x found (Running s) → IsWorld x.setup w s
@@ -100,17 +88,23 @@ event_done s (Piece conn bytes) Done settings w told = (Running told.0, (told.0,
 event_done s (Piece conn bytes) (Did note) settings w told = absurd told
 event_done s (Piece conn bytes) Idle settings w told = absurd told
 event_done s (Piece conn bytes) Refused settings w told = absurd told
+event_done s FailBind Done settings w told = (Running told.0, (told.0, told.1, refl, refl, refl), told.2)
+event_done s FailBind (Did note) settings w told = absurd told
+event_done s FailBind Idle settings w told = absurd told
+event_done s FailBind Refused settings w told = absurd told
 event_done s (Step actor) stepped settings w told = tt
 
 pub event_missing : (s : spec.Stage) (event : Event) (settings : script.Made) (w : World) (x : Stage) → world.Happens settings.setup (opened s) event (Err fault.Missing) w
     → EventTo s event (Err BadLine) x
 event_missing s (Conn actor) settings w x told = told.0
 event_missing s (Piece conn bytes) settings w x told = told.0
+event_missing s FailBind settings w x told = absurd told
 event_missing s (Step actor) settings w x told = tt
 
 pub event_unknown : (s : spec.Stage) (event : Event) (x : Stage) → EventTo s event (Err NoMemory) x
 event_unknown s (Conn actor) x = tt
 event_unknown s (Piece conn bytes) x = tt
+event_unknown s FailBind x = tt
 event_unknown s (Step actor) x = tt
 
 -- what the world answers, by what happened to it

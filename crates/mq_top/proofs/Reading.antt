@@ -5,7 +5,7 @@ use Rattle.mq_machine.specs.Line.{Says}
 use Rattle.mq_machine.specs.State.{State}
 use Rattle.mq_machine.specs.Play.{Stage, opening, opened, Plays, Runs, RunsPart, LinePlays, LinePart, IsScript, HasFront, HasLine, HasBad, IsPlayed, IsPlayedPart, text_of, line_limit, script_limit}
 use Rattle.mq_machine.specs.declared.line.Line.{Line}
-use Rattle.mq_machine.specs.declared.line.Line.TheVariants.{Blank, Setting, Conn, Piece, Steps}
+use Rattle.mq_machine.specs.declared.line.Line.TheVariants.{Blank, Setting, Conn, Piece, FailBind, Steps}
 use Rattle.mq_text.specs.Cut.{Lacks}
 use Rattle.mq_top.proofs.Cutting.{begun_more, begun_ended, parts_length, has_front, no_front, has_line, has_last, has_long, has_past}
 use Rattle.mq_top.specs.Playing.{LineTo, IsCutLine}
@@ -38,8 +38,9 @@ nothing_yet whole = record {
   text = [];
   part = [];
   refused = 0;
+  here = 0;
   plays = (refl, refl, refl);
-  stops = inl (record { more = whole; is = refl; before_are = tt; fits = omega arith; front_is = tt }, refl);
+  stops = inl (record { more = whole; is = refl; before_are = tt; fits = omega arith; front_is = tt }, refl, refl);
   front = ([], refl);
 }
 
@@ -51,8 +52,9 @@ stops_before whole lines state refused text shown front plays has none = record 
   text = text;
   part = [];
   refused = refused;
+  here = 0;
   plays = plays;
-  stops = inl (no_front whole lines front has, refl);
+  stops = inl (no_front whole lines front has, refl, refl);
   front = ([], ap (λ (xs : List ℕ). text ++ xs) (sym none) ∙ sym (append-nil (text ++ shown)));
 }
 
@@ -65,8 +67,9 @@ stops_in whole lines state refused text shown line plays has (inr in_line) = rec
   text = text;
   part = shown;
   refused = refused;
+  here = in_line.1;
   plays = plays;
-  stops = inr (inl (record { line = line; said = in_line.0; has = has; says = in_line.1; part = in_line.2 }));
+  stops = inr (inl (record { line = line; said = in_line.0; has = has; says = in_line.2; part = in_line.3 }));
   front = ([], sym (append-nil (text ++ shown)));
 }
 
@@ -250,17 +253,18 @@ ends_empty x script lines text none r =
     )
 
 -- what is played whole is played in part
-runs_part : (old : State) (actor n refused : ℕ) (text : List ℕ) (new : State) → Runs old actor n refused text new → RunsPart old actor n text
-runs_part old actor zero refused text new r = r.1
+runs_part : (old : State) (actor n refused : ℕ) (text : List ℕ) (new : State) → Runs old actor n refused text new → RunsPart old actor n refused text
+runs_part old actor zero refused text new r = (r.0, r.1)
 runs_part old actor (suc n) refused text new (inl r) = inr (inl (r.0, r.1, r.2, r.3, r.4, runs_part r.1 actor n refused r.2 new r.5))
-runs_part old actor (suc n) refused text new (inr (inl r)) = inr (inr (inl (r.0, r.2, runs_part r.0 actor n r.1 text new r.4)))
-runs_part old actor (suc n) refused text new (inr (inr r)) = inr (inr (inr (r.0, r.2)))
+runs_part old actor (suc n) refused text new (inr (inl r)) = inr (inr (inl (r.0, r.1, r.2, r.3, runs_part r.0 actor n r.1 text new r.4)))
+runs_part old actor (suc n) refused text new (inr (inr r)) = inr (inr (inr (r.0, r.1, r.2)))
 
-line_part : (old : Stage) (said : Line) (refused : ℕ) (text : List ℕ) (new : Stage) → LinePlays old said refused text new → LinePart old said text
-line_part old Blank refused text new p = p.2
-line_part old (Setting said) refused text new p = p.2
-line_part old (Conn worker) refused text new p = p.4
-line_part old (Piece conn bytes) refused text new p = p.4
+line_part : (old : Stage) (said : Line) (refused : ℕ) (text : List ℕ) (new : Stage) → LinePlays old said refused text new → LinePart old said refused text
+line_part old Blank refused text new p = (p.1, p.2)
+line_part old (Setting said) refused text new p = (p.1, p.2)
+line_part old (Conn worker) refused text new p = (p.3, p.4)
+line_part old (Piece conn bytes) refused text new p = (p.3, p.4)
+line_part old FailBind refused text new p = (p.3, p.4)
 line_part old (Steps actor count) refused text new p = (p.0, runs_part (opened old) actor count refused text p.1 p.2)
 
 -- the last line, with no newline
@@ -274,7 +278,7 @@ pub ends_line : (x y : Session) (script : List ℕ) (lines : List (List ℕ)) (t
 ends_line x y script lines text shown (Ok done) some r number told = (
   last_played script lines x.begun.items (r.refused + told.2) (text ++ shown) told.1 some r.script_is r.fits
       (plays_more opening lines r.refused text r.state x.begun.items shown told.0 told.2 told.1 r.plays r.begun_fits told.3 told.4),
-  stops_in script lines r.state r.refused text shown x.begun.items r.plays (has_last script lines x.begun.items r.begun_fits r.fits r.script_is) (inr (told.0, told.3, line_part r.state told.0 told.2 shown told.1 told.4)),
+  stops_in script lines r.state r.refused text shown x.begun.items r.plays (has_last script lines x.begun.items r.begun_fits r.fits r.script_is) (inr (told.0, told.2, told.3, line_part r.state told.0 told.2 shown told.1 told.4)),
 )
 ends_line x y script lines text shown (Err why) some r number told =
     line_stops script lines r.state r.refused text shown x.begun.items why y.stage y.number r.plays (has_last script lines x.begun.items r.begun_fits r.fits r.script_is) (number ∙ r.number) told

@@ -23,7 +23,7 @@ got_within (y ∷ ys) (suc i) x e = let h = got_within ys i x e in omega (arith,
 pub record Far (s : State) (actor count : ℕ) (shown : List ℕ) (t : State) (left : ℕ) : Type 0 where
   pub refused : ℕ
   pub runs : (more : ℕ) (rest : List ℕ) (new : State) → Runs t actor left more rest new → Runs s actor count (refused + more) (shown ++ rest) new
-  pub part : (rest : List ℕ) → RunsPart t actor left rest → RunsPart s actor count (shown ++ rest)
+  pub part : (more : ℕ) (rest : List ℕ) → RunsPart t actor left more rest → RunsPart s actor count (refused + more) (shown ++ rest)
   pub some : ((shown ≡ []) × (left ≡ count)) ⊎ (actor < length s.workers)
   pub same : length t.workers ≡ length s.workers
 
@@ -34,7 +34,10 @@ far_none s actor count = record {
       let Q : ℕ → Type 0 = λ n. Runs s actor count n rest new in
       let sum : more ≡ 0 + more = omega arith in
       subst Q sum r;
-  part = λ rest r. r;
+  part = λ more rest r.
+      let Q : ℕ → Type 0 = λ n. RunsPart s actor count n rest in
+      let sum : more ≡ 0 + more = omega arith in
+      subst Q sum r;
   some = inl (refl, refl);
   same = refl;
 }
@@ -57,10 +60,10 @@ far_more s t u actor count left less shown note e far turn = record {
       let Q : ℕ → Type 0 = λ n. Runs t actor n more (note_line note ++ rest) new in
       let R : List ℕ → Type 0 = λ text. Runs s actor count (far.refused + more) text new in
       subst R (sym (append_assoc shown (note_line note) rest)) (far.runs more (note_line note ++ rest) new (subst Q (sym e) (inl (note, u, rest, turn, refl, r))));
-  part = λ rest r.
-      let Q : ℕ → Type 0 = λ n. RunsPart t actor n (note_line note ++ rest) in
-      let R : List ℕ → Type 0 = λ text. RunsPart s actor count text in
-      subst R (sym (append_assoc shown (note_line note) rest)) (far.part (note_line note ++ rest) (subst Q (sym e) (inr (inl (note, u, rest, turn, refl, r)))));
+  part = λ more rest r.
+      let Q : ℕ → Type 0 = λ n. RunsPart t actor n more (note_line note ++ rest) in
+      let R : List ℕ → Type 0 = λ text. RunsPart s actor count (far.refused + more) text in
+      subst R (sym (append_assoc shown (note_line note) rest)) (far.part more (note_line note ++ rest) (subst Q (sym e) (inr (inl (note, u, rest, turn, refl, r)))));
   some = inr (within_start s t actor far.same (turn_within t actor note u turn));
   same = turn_same t actor note u turn ∙ far.same;
 }
@@ -80,9 +83,12 @@ far_silent s t u actor count left less shown e far turn = record {
       let one : 1 + more ≡ suc more = omega arith in
       let sum : far.refused + (1 + more) ≡ (far.refused + 1) + more = omega arith in
       subst R sum (far.runs (1 + more) rest new (subst Q (sym e) (inr (inl (u, more, turn, one, r)))));
-  part = λ rest r.
-      let Q : ℕ → Type 0 = λ n. RunsPart t actor n rest in
-      far.part rest (subst Q (sym e) (inr (inr (inl (u, turn, r)))));
+  part = λ more rest r.
+      let Q : ℕ → Type 0 = λ n. RunsPart t actor n (1 + more) rest in
+      let R : ℕ → Type 0 = λ n. RunsPart s actor count n (shown ++ rest) in
+      let one : 1 + more ≡ suc more = omega arith in
+      let sum : far.refused + (1 + more) ≡ (far.refused + 1) + more = omega arith in
+      subst R sum (far.part (1 + more) rest (subst Q (sym e) (inr (inr (inl (u, more, turn, one, r))))));
   some = inr (within_start s t actor far.same (got_within t.workers actor turn.worker turn.at));
   same = silent_same t actor u turn ∙ far.same;
 }
@@ -97,13 +103,13 @@ far_moves setup s t actor count left less shown more w e far (inr silent) =
     let P : List ℕ → Type 0 = λ text. Far s actor count text silent.0 less in
     (silent.0, silent.3, subst P (sym (ap (λ (text : List ℕ). shown ++ text) silent.2 ∙ append-nil shown)) (far_silent s t silent.0 actor count left less shown e far silent.1))
 
-pub runs_none : (s : State) (actor n : ℕ) → RunsPart s actor n []
-runs_none s actor zero = refl
-runs_none s actor (suc n) = inl refl
+pub runs_none : (s : State) (actor n : ℕ) → RunsPart s actor n 0 []
+runs_none s actor zero = (refl, refl)
+runs_none s actor (suc n) = inl (refl, refl)
 
 -- no step is left
 pub far_done : (setup : Setup) (s t : State) (actor count left : ℕ) (shown : List ℕ) (w : World) → left ≡ 0 → 1 ≤ count → Far s actor count shown t left → (stands : IsWorld setup w t)
-    → RunsTo setup s actor count shown (Ok tt) w
+    → RunsTo (λ u. IsWorld setup w u) s actor count shown (Ok tt)
 far_done setup s t actor count left shown w none some far stands =
     let Q : ℕ → Type 0 = λ n. Runs t actor n 0 [] t in
     let P : List ℕ → Type 0 = λ text. Runs s actor count (far.refused + 0) text t in
@@ -115,7 +121,7 @@ far_done setup s t actor count left shown w none some far stands =
 
 -- the actor has no step
 pub far_idle : (setup : Setup) (s t : State) (actor count left less : ℕ) (shown idle : List ℕ) (w : World) → left ≡ suc less → Far s actor count shown t left → Quiet t actor → idle ≡ idle_line actor
-    → (stands : IsWorld setup w t) → RunsTo setup s actor count (shown ++ idle) (Ok tt) w
+    → (stands : IsWorld setup w t) → RunsTo (λ u. IsWorld setup w u) s actor count (shown ++ idle) (Ok tt)
 far_idle setup s t actor count left less shown idle w e far quiet is stands =
     let Q : ℕ → Type 0 = λ n. Runs t actor n 0 (idle_line actor) t in
     let P : List ℕ → Type 0 = λ text. Runs s actor count (far.refused + 0) (shown ++ text) t in
@@ -131,24 +137,26 @@ still_actor s t actor count left shown more none far =
     ]
 
 -- the step stopped
-pub far_stopped : (setup : Setup) (s t : State) (actor count left less : ℕ) (shown more : List ℕ) (why : Stop) (w v : World) → left ≡ suc less → Far s actor count shown t left
-    → StepTo setup t actor more (Err why) w → RunsTo setup s actor count (shown ++ more) (Err why) v
-far_stopped setup s t actor count left less shown more BadLine w v e far step =
+pub far_stopped : (setup : Setup) (s t : State) (actor count left less : ℕ) (shown more : List ℕ) (why : Stop) (w : World) (Stands : State → Type 0) → left ≡ suc less → Far s actor count shown t left
+    → StepTo setup t actor more (Err why) w → RunsTo Stands s actor count (shown ++ more) (Err why)
+far_stopped setup s t actor count left less shown more BadLine w Stands e far step =
     let P : List ℕ → Type 0 = λ text. text ≡ [] in
     elim far.some [
       | inl none ↦ (omega (arith, far.same, step.0), ap (λ (xs : List ℕ). xs ++ more) none.0 ∙ step.1)
       | inr within ↦ absurd (omega (arith, far.same, step.0, within))
     ]
-far_stopped setup s t actor count left less shown more WriteFault w v e far step =
+far_stopped setup s t actor count left less shown more WriteFault w Stands e far step =
     let note = step.0 in
     let line = note_line note in
     let is : more ≡ line ++ [] = step.3 ∙ sym (append-nil line) in
-    let Q : ℕ → Type 0 = λ n. RunsPart t actor n more in (
-      far.part more (subst Q (sym e) (inr (inl (note, step.1, [], step.2, is, runs_none step.1 actor less)))),
+    let Q : ℕ → Type 0 = λ n. RunsPart t actor n 0 more in (
+      far.refused + 0,
+      far.part 0 more (subst Q (sym e) (inr (inl (note, step.1, [], step.2, is, runs_none step.1 actor less)))),
       inr (within_start s t actor far.same (turn_within t actor note step.1 step.2)),
     )
-far_stopped setup s t actor count left less shown more NoMemory w v e far step =
-    let Q : List ℕ → Type 0 = λ text. RunsPart t actor left text in (
-      far.part more (subst Q (sym step) (runs_none t actor left)),
+far_stopped setup s t actor count left less shown more NoMemory w Stands e far step =
+    let Q : List ℕ → Type 0 = λ text. RunsPart t actor left 0 text in (
+      far.refused + 0,
+      far.part 0 more (subst Q (sym step) (runs_none t actor left)),
       still_actor s t actor count left shown more step far,
     )

@@ -15,7 +15,7 @@ use Rattle.mq_top.specs.declared.play.Moved.TheVariants.{Acted, Idle}
 use Rattle.mq_top.specs.declared.status.Stop.{Stop}
 use Rattle.mq_top.specs.declared.status.Stop.TheVariants.{BadLine, WriteFault, NoMemory}
 use Rattle.mq_world.specs.declared.event.Event.{Event}
-use Rattle.mq_world.specs.declared.event.Event.TheVariants.{Conn, Piece, Step}
+use Rattle.mq_world.specs.declared.event.Event.TheVariants.{Conn, Piece, FailBind, Step}
 use Rattle.mq_world.specs.declared.event.Stepped.{Stepped}
 use Rattle.mq_world.specs.declared.event.WorldFault.{WorldFault}
 use Rattle.mq_world.specs.declared.event.WorldFault.TheVariants as fault
@@ -42,20 +42,12 @@ StepTo setup s actor shown (Err NoMemory) w = shown ≡ []
 abbrev pub IsActor : State → ℕ → List ℕ → Type 0
 IsActor s actor shown = (shown ≡ []) ⊎ (actor < length s.workers)
 
--- up to so many steps, and what they showed
-abbrev pub RunsTo : Setup → State → ℕ → ℕ → List ℕ → Result (Unit {0}) Stop → World → Type 0
-RunsTo setup s actor count shown (Ok done) w = (t : State) × (refused : ℕ) × (actor < length s.workers) × Runs s actor count refused shown t × IsWorld setup w t
-RunsTo setup s actor count shown (Err BadLine) w = (length s.workers ≤ actor) × (shown ≡ [])
-RunsTo setup s actor count shown (Err WriteFault) w = RunsPart s actor count shown × IsActor s actor shown
-RunsTo setup s actor count shown (Err NoMemory) w = RunsPart s actor count shown × IsActor s actor shown
-
--- the same from a stage on
-abbrev pub StageRunsTo : spec.Stage → ℕ → ℕ → List ℕ → Result (Unit {0}) Stop → Stage → Type 0
-StageRunsTo s actor count shown (Ok done) x =
-    (t : State) × (refused : ℕ) × (actor < length (spec.opened s).workers) × Runs (spec.opened s) actor count refused shown t × IsStage x (spec.Running t)
-StageRunsTo s actor count shown (Err BadLine) x = (length (spec.opened s).workers ≤ actor) × (shown ≡ [])
-StageRunsTo s actor count shown (Err WriteFault) x = RunsPart (spec.opened s) actor count shown × IsActor (spec.opened s) actor shown
-StageRunsTo s actor count shown (Err NoMemory) x = RunsPart (spec.opened s) actor count shown × IsActor (spec.opened s) actor shown
+-- Up to so many steps, what they showed, and what stands for the state behind them.
+abbrev pub RunsTo : (State → Type 0) → State → ℕ → ℕ → List ℕ → Result (Unit {0}) Stop → Type 0
+RunsTo Stands s actor count shown (Ok done) = (t : State) × (refused : ℕ) × (actor < length s.workers) × Runs s actor count refused shown t × Stands t
+RunsTo Stands s actor count shown (Err BadLine) = (length s.workers ≤ actor) × (shown ≡ [])
+RunsTo Stands s actor count shown (Err WriteFault) = (refused : ℕ) × RunsPart s actor count refused shown × IsActor s actor shown
+RunsTo Stands s actor count shown (Err NoMemory) = (refused : ℕ) × RunsPart s actor count refused shown × IsActor s actor shown
 
 -- whether the play goes on behind what is no step
 abbrev pub Answers : Result Stepped WorldFault → Result (Unit {0}) Stop → Type 0
@@ -74,11 +66,12 @@ SilentTo s said (Err NoMemory) x = Unit {0}
 abbrev pub EventTo : spec.Stage → Event → Result (Unit {0}) Stop → Stage → Type 0
 EventTo s (Conn actor) answer x = SilentTo s (line.Conn actor) answer x
 EventTo s (Piece conn bytes) answer x = SilentTo s (line.Piece conn bytes) answer x
+EventTo s FailBind answer x = SilentTo s line.FailBind answer x
 EventTo s (Step actor) answer x = Unit {0}
 
 -- a line was cut off: before it, or in what it says
 abbrev pub IsCutLine : spec.Stage → List ℕ → List ℕ → Type 0
-IsCutLine s bytes shown = (shown ≡ []) ⊎ ((said : Line) × Says bytes said × LinePart s said shown)
+IsCutLine s bytes shown = (shown ≡ []) ⊎ ((said : Line) × (refused : ℕ) × Says bytes said × LinePart s said refused shown)
 
 -- a whole line within its limit, and what it showed
 abbrev pub LineTo : spec.Stage → List ℕ → List ℕ → Result (Unit {0}) Stop → Stage → Type 0

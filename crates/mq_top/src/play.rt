@@ -4,7 +4,7 @@ ghost use Rattle.mq_machine.specs.State.{State};
 ghost use Rattle.mq_world.specs.Worlds.{IsWorld};
 ghost use Rattle.mq_top.specs.Printing.{Prints, StopCounts, IsSilent};
 ghost use Rattle.mq_machine.specs.Play as spec;
-ghost use Rattle.mq_top.specs.Playing.{StepTo, RunsTo, StageRunsTo, Answers, EventTo, LineTo};
+ghost use Rattle.mq_top.specs.Playing.{StepTo, RunsTo, Answers, EventTo, LineTo};
 ghost use Rattle.mq_top.specs.Stages.{IsStage};
 
 use crate::print::spill;
@@ -66,7 +66,7 @@ fn take_steps<K: Sink>(
     sink: &mut K,
 ) -> Result<(), Stop>
     ensures runs { (shown : List ℕ) × Prints (K.taken sink.old) (K.taken sink.new) owed.old.items owed.new.items shown
-        × ((s : State) → IsWorld setup.now world.old s → 1 ≤ count → RunsTo setup.now s actor count shown result world.new) }
+        × ((s : State) → IsWorld setup.now world.old s → 1 ≤ count → RunsTo (λ t. IsWorld setup.now world.new t) s actor count shown result) }
     ensures counts { StopCounts (K.faults sink.old) (K.faults sink.new) result }
 {
     let mut left = count;
@@ -89,7 +89,7 @@ fn run_steps<K: Sink>(
     sink: &mut K,
 ) -> Result<(), Stop>
     ensures runs { (shown : List ℕ) × Prints (K.taken sink.old) (K.taken sink.new) owed.old.items owed.new.items shown
-        × ((s : spec.Stage) → IsStage stage.old s → 1 ≤ count → StageRunsTo s actor count shown result stage.new) }
+        × ((s : spec.Stage) → IsStage stage.old s → 1 ≤ count → RunsTo (λ t. IsStage stage.new (spec.Running t)) (spec.opened s) actor count shown result) }
     ensures counts { StopCounts (K.faults sink.old) (K.faults sink.new) result }
 {
     stage.open();
@@ -148,6 +148,7 @@ pub fn play_line<K: Sink>(
         Ok(Line::Setting(said)) => stage.set(alloc, said),
         Ok(Line::Conn { worker }) => happen(alloc, stage, Event::Conn { actor: worker }),
         Ok(Line::Piece { conn, bytes }) => happen(alloc, stage, Event::Piece { conn, bytes }),
+        Ok(Line::FailBind) => happen(alloc, stage, Event::FailBind),
         Ok(Line::Steps { actor, count }) => run_steps(alloc, stage, actor, count, owed, sink),
         Err(LineFault::Syntax) => Err(Stop::BadLine),
         Err(LineFault::NoMemory) => Err(Stop::NoMemory),

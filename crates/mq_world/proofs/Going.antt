@@ -1,11 +1,12 @@
 -- What a connection does where nothing is due.
-use Rattle.std.proofs.Common.{◌≡◌, ◌≢◌, ℕ, List, [], ◌∷◌, length, Option, Some, None, Result, Ok, Err, refl, ap, arith, inr}
+use Rattle.std.proofs.Common.{◌≡◌, ◌≢◌, ℕ, Bool, List, [], ◌∷◌, length, Option, Some, None, Result, Ok, Err, refl, ap, ◌∙◌, arith, inr}
 use Rattle.mq_wire.specs.declared.NoMemory.{NoMemory}
 use Rattle.mq_talk.specs.declared.note.End.{End}
 use Rattle.mq_talk.specs.declared.note.Note.{Note}
 use Rattle.mq_machine.specs.State.{Conn, owed}
 use Rattle.mq_machine.specs.declared.setup.Setup.{Setup}
-use Rattle.mq_machine.specs.ConnNext.{CanRead}
+use Rattle.mq_machine.specs.ConnNext.{CanRead, still_fails}
+use Rattle.mq_machine.specs.declared.act.Act.{Act}
 use Rattle.mq_conn.specs.declared.connection.Connection.{Connection}
 use Rattle.mq_world.specs.Links.{TriesRead, Tries, NotOver}
 
@@ -24,8 +25,9 @@ can_read s due live owes not_over =
     let none : length (owed s) ≡ 0 = ap length owes in
     record { due = due; owed = omega arith; ending = over_of s s.ending refl due live owes not_over }
 
-pub reads_last : (setup : Setup) (conn entries : ℕ) (pieces left : List (List ℕ)) (s : Conn) (c : Connection) (result : Result (Option Note) NoMemory) → owed s ≡ [] → CanRead s
-    → TriesRead setup conn pieces s result left c → Tries setup conn entries pieces s result left c
-reads_last setup conn entries pieces left s c (Ok None) owes can r = record { due = can.due; owed = owes; ending = can.ending; none = r.0; left_is = r.1; is = r.2 }
-reads_last setup conn entries pieces left s c (Ok (Some note)) owes can r = inr (inr (record { owed = owes; did = r }))
-reads_last setup conn entries pieces left s c (Err refused) owes can r = record { alive = can.ending; busy = inr (can, r.some); left_is = r.left_is; is = r.is }
+pub reads_last : (setup : Setup) (conn entries : ℕ) (bind_fails still : Bool) (pieces left : List (List ℕ)) (s : Conn) (c : Connection) (result : Result (Option Note) NoMemory) → owed s ≡ [] → CanRead s
+    → still ≡ still_fails bind_fails s.due → TriesRead setup conn pieces s result left c → Tries setup conn entries bind_fails pieces s result still left c
+reads_last setup conn entries bind_fails still pieces left s c (Ok None) owes can is r = (record { due = can.due; owed = owes; ending = can.ending; none = r.0; left_is = r.1; is = r.2 }, is)
+reads_last setup conn entries bind_fails still pieces left s c (Ok (Some note)) owes can is r = (inr (inr (record { owed = owes; did = r })), is)
+reads_last setup conn entries bind_fails still pieces left s c (Err refused) owes can is r =
+    (record { alive = can.ending; busy = inr (owes, can, r.some); left_is = r.left_is; is = r.is }, is ∙ ap (λ (acts : List Act). still_fails bind_fails acts) can.due)

@@ -1,5 +1,5 @@
 -- The turn of the one worker with its one link.
-use Rattle.std.proofs.Common.{◌≡◌, ◌≢◌, ℕ, zero, suc, ◌+◌, ◌<◌, List, [], ◌∷◌, ◌++◌, length, Some, None, slice_get, slice_set, remove, refl, sym, ap, subst, ◌∙◌, arith}
+use Rattle.std.proofs.Common.{◌≡◌, ◌≢◌, ℕ, Bool, inl, inr, zero, suc, ◌+◌, ◌<◌, List, [], ◌∷◌, ◌++◌, length, Some, None, slice_get, slice_set, remove, refl, sym, ap, subst, ◌∙◌, arith}
 use Rattle.mq_talk.specs.declared.book.Call.{Call}
 use Rattle.mq_talk.specs.declared.note.End.{End}
 use Rattle.mq_talk.specs.declared.note.Note.{Note}
@@ -78,20 +78,25 @@ abbrev pub WantsNothing : Conn → Type 0
 WantsNothing s = (s.due ≡ []) × (s.ending ≢ None → s.tunnels ≡ [])
 
 -- nothing is next
-pub want_none : (conn entries : ℕ) (s t : Conn) (note : Note) (calls : List Call) → WantsNothing s → WantNext conn entries s note t calls → ⊥
-want_none conn entries s t (Accepted c actor) calls none h = h
-want_none conn entries s t (Took c count) calls none h = h
-want_none conn entries s t (Ported c stream) calls none h = let due = none.0 in let is = h.1.due in cc
-want_none conn entries s t (Opened tunnel c stream kind) calls none h = let due = none.0 in let is = h.4.due in cc
-want_none conn entries s t (Refused c stream status rule) calls none h = let due = none.0 in let is = h.1.due in cc
-want_none conn entries s t (Sent from n packet) calls none h = let due = none.0 in let is = h.0.due in cc
-want_none conn entries s t (Wrote c bytes) calls none h = h
-want_none conn entries s t (Closed tunnel why.Malformed left) calls none h = let due = none.0 in let is = h.0.due in cc
-want_none conn entries s t (Closed tunnel why.Conn left) calls none h = let left = none.1 h.0.ending in let is = h.0.tunnels in cc
-want_none conn entries s t (Ended c reason) calls none h = h
+pub want_none : (conn entries : ℕ) (bind_fails : Bool) (s t : Conn) (note : Note) (calls : List Call) → WantsNothing s → WantNext conn entries bind_fails s note t calls → ⊥
+want_none conn entries bind_fails s t (Accepted c actor) calls none h = h
+want_none conn entries bind_fails s t (Took c count) calls none h = h
+want_none conn entries bind_fails s t (Ported c stream) calls none h = let due = none.0 in let is = h.2.due in cc
+want_none conn entries bind_fails s t (Opened tunnel c stream kind) calls none h = let due = none.0 in let is = h.4.due in cc
+want_none conn entries bind_fails s t (Refused c stream status rule) calls none h =
+    let due = none.0 in
+    elim h.1 [
+      | inl refused ↦ (let is = refused.due in cc)
+      | inr unbound ↦ (let is = unbound.1.due in cc)
+    ]
+want_none conn entries bind_fails s t (Sent from n packet) calls none h = let due = none.0 in let is = h.0.due in cc
+want_none conn entries bind_fails s t (Wrote c bytes) calls none h = h
+want_none conn entries bind_fails s t (Closed tunnel why.Malformed left) calls none h = let due = none.0 in let is = h.0.due in cc
+want_none conn entries bind_fails s t (Closed tunnel why.Conn left) calls none h = let left = none.1 h.0.ending in let is = h.0.tunnels in cc
+want_none conn entries bind_fails s t (Ended c reason) calls none h = h
 
 due_none : (actor : ℕ) (h : Held) (sh : Shared) (note : Note) (g : Held) (after : Shared) → WantsNothing h.conn → DueNext actor h sh note g after → ⊥
-due_none actor h sh note g after due d = want_none h.number (length sh.book) h.conn d.conn note d.calls due d.next
+due_none actor h sh note g after due d = want_none h.number (length sh.book) sh.bind_fails h.conn d.conn note d.calls due d.next
 
 conn_is : (w : Worker) (h : Held) (c : ℕ) → w.conns ≡ h ∷ [] → (i : ℕ) (g : Held) → HasConn w c i g → h.conn ≡ g.conn
 conn_is w h c is i g has = sym (ap (λ (x : Held). x.conn) (only_conn w h c is i g has).0)

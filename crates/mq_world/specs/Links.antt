@@ -1,11 +1,11 @@
 -- What one step of a connection on its link does.
-use Rattle.std.specs.Prelude.{◌≡◌, ◌≢◌, ℕ, ◌⊎◌, List, [], length, Option, Some, None, Result, Ok, Err}
+use Rattle.std.specs.Prelude.{◌≡◌, ◌≢◌, ℕ, Bool, ◌⊎◌, List, [], length, Option, Some, None, Result, Ok, Err}
 use Rattle.mq_wire.specs.declared.NoMemory.{NoMemory}
 use Rattle.mq_talk.specs.declared.book.Call.{Call}
 use Rattle.mq_talk.specs.declared.note.End.{End}
 use Rattle.mq_talk.specs.declared.note.Note.{Note}
 use Rattle.mq_talk.specs.declared.note.Note.TheVariants.{Accepted, Took, Ported, Opened, Refused, Sent, Wrote, Closed, Ended}
-use Rattle.mq_machine.specs.ConnNext.{WantNext, WroteNext, TookNext, CanRead, starved, IsOver}
+use Rattle.mq_machine.specs.ConnNext.{WantNext, still_fails, WroteNext, TookNext, CanRead, starved, IsOver}
 use Rattle.mq_machine.specs.Next.{Takes}
 use Rattle.mq_machine.specs.State.{Conn, owed}
 use Rattle.mq_machine.specs.declared.setup.Setup.{Setup}
@@ -51,10 +51,10 @@ TriesRead setup conn pieces s (Ok note) left c = Reads setup conn pieces s note 
 TriesRead setup conn pieces s (Err refused) left c = StarvedReading setup pieces s left c
 
 -- what is next
-pub record DidWant (setup : Setup) (conn entries : ℕ) (pieces : List (List ℕ)) (s : Conn) (note : Note) (left : List (List ℕ)) (c : Connection) : Type 0 where
+pub record DidWant (setup : Setup) (conn entries : ℕ) (bind_fails : Bool) (pieces : List (List ℕ)) (s : Conn) (note : Note) (left : List (List ℕ)) (c : Connection) : Type 0 where
   pub t : Conn
   pub calls : List Call
-  pub next : WantNext conn entries s note t calls
+  pub next : WantNext conn entries bind_fails s note t calls
   pub left_is : left ≡ pieces
   pub is : IsConn setup c t
 
@@ -84,18 +84,20 @@ pub record DidNothing (setup : Setup) (pieces : List (List ℕ)) (s : Conn) (lef
   pub left_is : left ≡ []
   pub is : IsConn setup c s
 
-abbrev pub Does : Setup → ℕ → ℕ → List (List ℕ) → Conn → Option Note → List (List ℕ) → Connection → Type 0
-Does setup conn entries pieces s None left c = DidNothing setup pieces s left c
-Does setup conn entries pieces s (Some note) left c =
-    DidWant setup conn entries pieces s note left c ⊎ (DidWrite setup conn pieces s note left c ⊎ ReadLast setup conn pieces s note left c)
+abbrev pub Does : Setup → ℕ → ℕ → Bool → List (List ℕ) → Conn → Option Note → List (List ℕ) → Connection → Type 0
+Does setup conn entries bind_fails pieces s None left c = DidNothing setup pieces s left c
+Does setup conn entries bind_fails pieces s (Some note) left c =
+    DidWant setup conn entries bind_fails pieces s note left c ⊎ (DidWrite setup conn pieces s note left c ⊎ ReadLast setup conn pieces s note left c)
 
--- the connection was refused memory for what is due, or for a read
+-- the connection was refused memory for what is due, or for a read where nothing is owed
 pub record Starves (setup : Setup) (pieces : List (List ℕ)) (s : Conn) (left : List (List ℕ)) (c : Connection) : Type 0 where
   pub alive : s.ending ≡ None
-  pub busy : (s.due ≢ []) ⊎ (CanRead s × (pieces ≢ []))
+  pub busy : (s.due ≢ []) ⊎ ((owed s ≡ []) × CanRead s × (pieces ≢ []))
   pub left_is : left ≡ pieces
   pub is : IsConn setup c (starved s)
 
-abbrev pub Tries : Setup → ℕ → ℕ → List (List ℕ) → Conn → Result (Option Note) NoMemory → List (List ℕ) → Connection → Type 0
-Tries setup conn entries pieces s (Ok note) left c = Does setup conn entries pieces s note left c
-Tries setup conn entries pieces s (Err refused) left c = Starves setup pieces s left c
+-- one of these, and whether a bind is still to fail
+abbrev pub Tries : Setup → ℕ → ℕ → Bool → List (List ℕ) → Conn → Result (Option Note) NoMemory → Bool → List (List ℕ) → Connection → Type 0
+Tries setup conn entries bind_fails pieces s (Ok note) still left c =
+    Does setup conn entries bind_fails pieces s note left c × (still ≡ still_fails bind_fails s.due)
+Tries setup conn entries bind_fails pieces s (Err refused) still left c = Starves setup pieces s left c × (still ≡ bind_fails)

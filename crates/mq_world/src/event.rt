@@ -10,6 +10,8 @@ pub enum Event {
     Conn { actor: u32 },
     /// A piece, which isn't empty, arrives on this link.
     Piece { conn: u32, bytes: Bytes },
+    /// The next bind of a port fails, whichever worker tries it.
+    FailBind,
     /// One step of this actor.
     Step { actor: u32 },
 }

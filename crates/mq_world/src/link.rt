@@ -58,18 +58,20 @@ fn read(
     Ok(Some(Note::Took { conn, count }))
 }
 
-/// One step of a connection that isn't over: what is next, a write, or a read. Where it is refused memory, it is ending.
+/// One step of a connection that isn't over: what is next, a write, or a read. Where `bind_fails`, the next bind fails, and
+/// takes that back. Where the connection is refused memory, it is ending.
 pub fn go_on(
     alloc: Global,
     setup: &Setup,
     conn: u32,
     entries: u32,
+    bind_fails: &mut bool,
     pieces: &mut Pieces,
     connection: &mut Connection,
 ) -> Result<Option<Note>, NoMemory>
-    ensures { (s : Conn) → IsConn setup.now connection.old s → NotOver s → Tries setup.now conn entries pieces.old s result pieces.new connection.new }
+    ensures { (s : Conn) → IsConn setup.now connection.old s → NotOver s → Tries setup.now conn entries bind_fails.old pieces.old s result bind_fails.new pieces.new connection.new }
 {
-    if let Some(note) = connection.act(conn, entries)? {
+    if let Some(note) = connection.act(conn, entries, bind_fails)? {
         return Ok(Some(note));
     }
     if connection.owes() {

@@ -1,5 +1,5 @@
-//! The world: one worker, its link and the number of entries in the book.
-ghost use Rattle.std.specs.Prelude.{◌≡◌, ℕ, ◌+◌, OnOk, IfOk};
+//! The world: one worker, its link, the number of entries in the book, and whether the next bind fails.
+ghost use Rattle.std.specs.Prelude.{◌≡◌, ℕ, Bool, ◌+◌, OnOk, IfOk};
 ghost use Rattle.mq_machine.specs.State.{State, start_with};
 ghost use Rattle.mq_machine.specs.declared.setup.Setup.{Setup};
 ghost use Rattle.mq_world.specs.Links.{written};
@@ -14,11 +14,12 @@ use mq_talk::Note;
 use mq_wire::{Bytes, NoMemory};
 use std::alloc::Global;
 
-/// One worker with its link, once it was made, and the number of entries in the book.
+/// One worker with its link, once it was made, the number of entries in the book, and whether the next bind fails.
 #[derive(Drop)]
 pub struct World {
     link: Option<Link>,
     entries: u32,
+    bind_fails: bool,
 }
 
 /// One step of the worker on its link.
@@ -26,9 +27,10 @@ fn step_link(
     alloc: Global,
     setup: &Setup,
     entries: u32,
+    bind_fails: &mut bool,
     link: &mut Link,
 ) -> Result<Option<Note>, NoMemory>
-    ensures { (s : State) → IsLinked setup.now link.old s entries → LinkSteps setup.now s entries result link.new }
+    ensures { (s : State) → IsLinked setup.now link.old s entries bind_fails.old → LinkSteps setup.now s entries result link.new bind_fails.new }
 {
     match &mut link.seat {
         Seat::Gone => Ok(None),
@@ -41,7 +43,15 @@ fn step_link(
                 link.seat = Seat::Gone;
                 return Ok(Some(Note::Ended { conn: 0, why }));
             }
-            go_on(alloc, setup, 0, entries, &mut link.pieces, connection)
+            go_on(
+                alloc,
+                setup,
+                0,
+                entries,
+                bind_fails,
+                &mut link.pieces,
+                connection,
+            )
         }
     }
 }
@@ -55,7 +65,7 @@ fn with_written(entries: u32, note: &Note) -> Result<u32, NoMemory>
 
 /// A piece arrives on a link. One for a connection that has ended is let go.
 fn arrive_on(link: &mut Link, bytes: Bytes) -> Result<(), NoMemory>
-    ensures { (setup : Setup) (s : State) (entries : ℕ) → IsLinked setup link.old s entries → OnOk result (ArrivedOn setup s bytes link.new entries) }
+    ensures { (setup : Setup) (s : State) (entries : ℕ) (bind_fails : Bool) → IsLinked setup link.old s entries bind_fails → OnOk result (ArrivedOn setup s bytes link.new entries bind_fails) }
 {
     match &link.seat {
         Seat::Gone => Ok(()),
@@ -72,6 +82,7 @@ impl World {
         World {
             link: None,
             entries: 0,
+            bind_fails: false,
         }
     }
 
@@ -87,6 +98,10 @@ impl World {
         match event {
             Event::Conn { actor } => self.offer(alloc, actor),
             Event::Piece { conn, bytes } => self.arrive(conn, bytes),
+            Event::FailBind => {
+                self.bind_fails = true;
+                Ok(Stepped::Done)
+            }
             Event::Step { actor } => self.step_actor(alloc, setup, actor),
         }
     }
@@ -139,7 +154,7 @@ impl World {
         let Some(link) = &mut self.link else {
             return Ok(Stepped::Idle);
         };
-        match step_link(alloc, setup, self.entries, link) {
+        match step_link(alloc, setup, self.entries, &mut self.bind_fails, link) {
             Ok(None) => Ok(Stepped::Idle),
             Ok(Some(note)) => {
                 self.entries = with_written(self.entries, &note)?;

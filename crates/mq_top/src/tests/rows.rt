@@ -27,6 +27,26 @@ pub const DENIED: &[u8] =
 pub const DENIED_PRINTS: &[u8] =
     b"accepted 0 0\ntook 0 158\nrefused 0 0 403 rule 1\nwrote 0 485454502f312e312034303320466f7262696464656e0d0a436f6e6e656374696f6e3a20636c6f73650d0a436f6e74656e742d4c656e6774683a20300d0a0d0a\nended 0 Refused\nidle 0\n";
 
+/// A request that names no protocol to upgrade to.
+pub const NO_UPGRADE: &[u8] = b"conn 0\ntext 0 GET / HTTP/1.1\\r\\nHost: p\\r\\n\\r\\n\nstep 0 9\n";
+
+pub const NO_UPGRADE_PRINTS: &[u8] =
+    b"accepted 0 0\ntook 0 27\nrefused 0 0 501\nwrote 0 485454502f312e3120353031204e6f7420496d706c656d656e7465640d0a436f6e6e656374696f6e3a20636c6f73650d0a436f6e74656e742d4c656e6774683a20300d0a0d0a\nended 0 Refused\nidle 0\n";
+
+/// The example request, whose port can't be bound, and a capsule that isn't read.
+pub const BIND_FAILS: &[u8] =
+    b"conn 0\nfailbind\ntext 0 GET https://example.org/.well-known/masque/udp/192.0.2.6/443/ HTTP/1.1\\r\\nHost: example.org\\r\\nConnection: Upgrade\\r\\nUpgrade: connect-udp\\r\\nCapsule-Protocol: ?1\\r\\n\\r\\n\nbytes 0 0003006869\nstep 0 8\n";
+
+pub const BIND_FAILS_PRINTS: &[u8] =
+    b"accepted 0 0\ntook 0 158\nrefused 0 0 502\nwrote 0 485454502f312e31203530322042616420476174657761790d0a436f6e6e656374696f6e3a20636c6f73650d0a436f6e74656e742d4c656e6774683a20300d0a0d0a\nended 0 Refused\nidle 0\n";
+
+/// A request whose port can't be bound, in one piece with a capsule and the front of another.
+pub const UNBOUND: &[u8] =
+    b"conn 0\nfailbind\nbytes 0 474554202f2e77656c6c2d6b6e6f776e2f6d61737175652f7564702f3139322e302e322e362f3434332f20485454502f312e310d0a486f73743a20700d0a436f6e6e656374696f6e3a20557067726164650d0a557067726164653a20636f6e6e6563742d7564700d0a0d0a00030068690001\nstep 0 9\n";
+
+pub const UNBOUND_PRINTS: &[u8] =
+    b"accepted 0 0\ntook 0 114\nrefused 0 0 502\nwrote 0 485454502f312e31203530322042616420476174657761790d0a436f6e6e656374696f6e3a20636c6f73650d0a436f6e74656e742d4c656e6774683a20300d0a0d0a\nended 0 Refused\nidle 0\n";
+
 /// A second line that names a link that never was.
 pub const BAD: &[u8] = b"conn 0\nbytes 1 00\n";
 

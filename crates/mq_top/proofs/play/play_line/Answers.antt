@@ -1,6 +1,6 @@
 use Rattle.std.proofs.Common.{[], Err, refl, ap, inl}
 use Rattle.mq_script.specs.declared.fault.LineFault.{LineFault}
-use Rattle.mq_machine.specs.declared.line.Line.TheVariants.{Blank, Conn, Piece}
+use Rattle.mq_machine.specs.declared.line.Line.TheVariants.{Blank, Conn, Piece, FailBind}
 use Rattle.mq_top.proofs.Playing.{silent_line, setting_line, steps_line}
 use Rattle.mq_top.proofs.Shown.{prints_none, silent_counts}
 use Rattle.mq_top.proofs.play.play_line.Goals as goal
@@ -37,6 +37,16 @@ returns-in-Ok-Piece-clause-line g c = (
 
 pub returns-in-Ok-Piece-clause-counts : goal.returns-in-Ok-Piece-clause-counts
 returns-in-Ok-Piece-clause-counts g c = silent_counts _ _ c.happen-in-Ok-Piece.result refl c.happen-in-Ok-Piece.ensures.silent
+
+pub returns-in-Ok-FailBind-clause-line : goal.returns-in-Ok-FailBind-clause-line
+returns-in-Ok-FailBind-clause-line g c = (
+  [],
+  prints_none _ _,
+  λ s is. silent_line s c.args.line.now FailBind c.happen-in-Ok-FailBind.result c.happen-in-Ok-FailBind.new.stage (rw c.in-Ok-FailBind.field-0-is at c.in-Ok-FailBind.ensures.ok) (c.happen-in-Ok-FailBind.ensures.happens s is),
+)
+
+pub returns-in-Ok-FailBind-clause-counts : goal.returns-in-Ok-FailBind-clause-counts
+returns-in-Ok-FailBind-clause-counts g c = silent_counts _ _ c.happen-in-Ok-FailBind.result refl c.happen-in-Ok-FailBind.ensures.silent
 
 pub returns-in-Ok-Steps-clause-line : goal.returns-in-Ok-Steps-clause-line
 returns-in-Ok-Steps-clause-line g c =

@@ -3,6 +3,7 @@ use Rattle.std.proofs.lemmas.Result.{err_from_is_err_and}
 use Rattle.mq_top.proofs.Shown.{prints_none, prints_more}
 use Rattle.mq_top.proofs.Steps.{far_none, far_moves, far_done, far_idle, far_stopped}
 use Rattle.mq_top.proofs.play.take_steps.Goals as goal
+use Rattle.mq_world.specs.Worlds.{IsWorld}
 
 pub returns-in_err-take_step-clause-runs : goal.returns-in_err-take_step-clause-runs
 returns-in_err-take_step-clause-runs g c =
@@ -16,7 +17,7 @@ returns-in_err-take_step-clause-runs g c =
           let far = inv.2 s is in
           let p = err_from_is_err_and c.from_residual.result c.from_residual.ensures.1 in
           let w = c.take_step.new.world in
-          rw (p.1, p.2) (far_stopped c.args.setup.now s far.0 c.args.actor c.args.count left (left - 1) inv.0 step.0 c.in_err-take_step.field-0.0 w w e far.2 (step.2 far.0 far.1)),
+          rw (p.1, p.2) (far_stopped c.args.setup.now s far.0 c.args.actor c.args.count left (left - 1) inv.0 step.0 c.in_err-take_step.field-0.0 w (λ t. IsWorld c.args.setup.now w t) e far.2 (step.2 far.0 far.1)),
     )
 
 pub loop-left-init : goal.loop-left-init

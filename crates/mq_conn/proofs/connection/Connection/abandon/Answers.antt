@@ -8,7 +8,7 @@ use Rattle.mq_conn.proofs.Doing.{abandons, follows_none}
 use Rattle.mq_conn.proofs.connection.Connection.abandon.Goals as goal
 
 pub returns : goal.returns
-returns c = λ setup conn entries s is due.
+returns c = λ setup conn entries bind_fails s is due.
     let R : Option End → Type 0 = λ e. is_some e ≡ true in
     let ending : s.ending ≢ None = λ none. let no : is_some {T = End} None ≡ true = subst R (is.ending ∙ none) c.if-is_none.ensures in cc in
     let was : c.args.self.now.tunnel ≡ Some c.in_ok-tunnel.tunnel = sym (c.in_ok-tunnel.ensures).value in
