@@ -2,6 +2,7 @@
 //! The scripts under `bench/` time it from outside.
 #![tactic(auto)]
 
+mod capsules;
 mod frames;
 mod head;
 mod hpack;
@@ -17,6 +18,9 @@ use std::process::ExitCode;
 /// The checksum of a piece of work, where there is one of this name and it found its memory.
 fn checksum(alloc: Global, word: &str, count: u32) -> Option<u64> {
     match word {
+        "capsules_1" => capsules::checksum(alloc, count, 1).ok(),
+        "capsules_100" => capsules::checksum(alloc, count, 100).ok(),
+        "capsules_16384" => capsules::checksum(alloc, count, 16_384).ok(),
         "frames_1" => frames::checksum(alloc, count, 1).ok(),
         "frames_100" => frames::checksum(alloc, count, 100).ok(),
         "frames_16384" => frames::checksum(alloc, count, 16_384).ok(),

@@ -6,9 +6,10 @@ use Rattle.mq_head.specs.Answers.{refusal_text}
 use Rattle.mq_talk.specs.declared.note.End.{End}
 use Rattle.mq_talk.specs.declared.note.End.TheVariants as end
 use Rattle.mq_talk.specs.declared.note.Note.{Note}
+use Rattle.mq_talk.specs.declared.place.Cause.{Cause}
 use Rattle.mq_machine.specs.declared.act.Act.{Act}
 use Rattle.mq_machine.specs.declared.setup.Setup.{Setup}
-use Rattle.mq_machine.specs.declared.act.Act.TheVariants.{Bind, Open, Refuse, Payload, Malformed}
+use Rattle.mq_machine.specs.declared.act.Act.TheVariants.{Bind, Open, Refuse, Payload, Drop, Malformed}
 use Rattle.mq_machine.specs.State.{Conn, Tunnel}
 use Rattle.mq_talk.specs.declared.goal.Goal.{Goal}
 use Rattle.mq_machine.specs.ConnNext.{HasTunnel, AbandonedNext, without}
@@ -25,13 +26,14 @@ ends (Refuse stream status rule ∷ acts) why = tt
 ends (Open stream goal ∷ acts) why = ends acts why
 ends (Bind stream goal ∷ acts) why = ends acts why
 ends (Payload stream n payload ∷ acts) why = ends acts why
+ends (Drop stream n cause ∷ acts) why = ends acts why
 
 -- the phase stays when the first act is done
 pub done : (setup : Setup) (phase : Phase) (reads : List (List ℕ)) (due : List Act) (first : Act) (rest after : List Act) (live lives : Bool) (ending later : Option End)
     → due ≡ first ∷ rest → (WillEnd (first ∷ rest) ending → WillEnd after later) → (WillServe live (first ∷ rest) → WillServe lives after)
     → IsPhase setup phase reads due live ending → IsPhase setup phase reads after lives later
 done setup (Head reader) reads due first rest after live lives ending later e f g p = let none = p.2 in absurd cc
-done setup (InCapsules pending n) reads due first rest after live lives ending later e f g p =
+done setup (InCapsules reader limit n) reads due first rest after live lives ending later e f g p =
     let P : List Act → Type 0 = λ acts. WillServe live acts in
     (p.0, g (subst P e p.1))
 done setup Done reads due first rest after live lives ending later e f g p = let P : List Act → Type 0 = λ acts. WillEnd acts ending in f (subst P e p)
@@ -81,6 +83,10 @@ pub serves_on : (live : Bool) (stream n : ℕ) (payload : List ℕ) (rest : List
 serves_on true stream n payload rest w = w
 serves_on false stream n payload rest w = absurd w
 
+pub serves_past : (live : Bool) (stream n : ℕ) (cause : Cause) (rest : List Act) → WillServe live (Drop stream n cause ∷ rest) → WillServe live rest
+serves_past true stream n cause rest w = w
+serves_past false stream n cause rest w = absurd w
+
 pub serves_no_end : (live lives : Bool) (stream : ℕ) (rest after : List Act) → WillServe live (Malformed stream ∷ rest) → WillServe lives after
 serves_no_end true lives stream rest after w = absurd w
 serves_no_end false lives stream rest after w = absurd w
@@ -121,6 +127,7 @@ gone stream acts is follows = let P : ℕ → Type 0 = λ on. without on acts �
   on_first (Open on goal ∷ acts) h = let no = h.0 in absurd cc
   on_first (Refuse on status rule ∷ acts) h = let no = h.0 in absurd cc
   on_first (Payload on n payload ∷ acts) h = let P : ℕ → Type 0 = λ k. without 0 (Payload k n payload ∷ acts) ≡ [] in subst P (sym h.1) (on_first acts h.2)
+  on_first (Drop on n cause ∷ acts) h = let P : ℕ → Type 0 = λ k. without 0 (Drop k n cause ∷ acts) ≡ [] in subst P (sym h.1) (on_first acts h.2)
   on_first (Malformed on ∷ acts) h =
       let P : ℕ → Type 0 = λ k. without 0 (Malformed k ∷ acts) ≡ [] in
       let Q : List Act → Type 0 = λ rest. without 0 rest ≡ [] in

@@ -1,5 +1,4 @@
 pub mod Doing
 pub mod HeadsRead
-pub mod Integers
+pub mod Items
 pub mod Phases
-pub mod Streams

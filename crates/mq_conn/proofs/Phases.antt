@@ -1,49 +1,25 @@
 -- The phase after one more piece.
 use Rattle.std.proofs.Common.{◌≡◌, ℕ, ◌+◌, Bool, true, false, List, [], ◌∷◌, ◌++◌, length, drop, Option, None, refl, sym, ap, subst, ◌∙◌, arith, append_assoc, append-nil, inl, inr}
 use Rattle.std.specs.List.{concat}
-use Rattle.std.proofs.lemmas.List.{length-append}
 use Rattle.std.proofs.lemmas.List.Folds.{concat-append}
 use Rattle.std.proofs.Math.Seq.{drop-append-add}
+use Rattle.mq_capsule.specs.declared.item.Item.{Item}
+use Rattle.mq_capsule.specs.declared.reader.Reader.{Reader}
+use Rattle.mq_capsule.specs.Items.{ItemsOf}
+use Rattle.mq_capsule.specs.Readers.{Stands, StandsOn, GivesItems}
 use Rattle.mq_head.specs.declared.reader.State.{State}
 use Rattle.mq_head.specs.declared.reader.State.TheVariants.{Fresh, Begun, Spent}
 use Rattle.mq_head.specs.Reader.{IsBegun, StandsFor, IsHeadOf}
 use Rattle.mq_talk.specs.declared.note.End.{End}
 use Rattle.mq_machine.specs.declared.act.Act.{Act}
 use Rattle.mq_machine.specs.declared.setup.Setup.{Setup}
-use Rattle.mq_machine.specs.declared.act.Act.TheVariants.{Bind, Open, Refuse, Payload, Malformed}
-use Rattle.mq_machine.specs.Capsule.{More, Broken, front_of, Reads}
+use Rattle.mq_machine.specs.declared.act.Act.TheVariants.{Bind}
+use Rattle.mq_machine.specs.Capsule.{limit_of, acts_of, payload_count}
 use Rattle.mq_machine.specs.Request.{AreBegun, Asks, AsksTunnel}
 use Rattle.mq_conn.specs.declared.connection.Phase.{Phase}
 use Rattle.mq_conn.specs.declared.connection.Phase.TheVariants.{Head, Tunnel as InCapsules, Done}
 use Rattle.mq_conn.specs.Connections.{Reaches, BeginsTunnel, BeginsNone, Waits, LeadsTo, Follows, WillEnd, WillServe, InTunnel, IsPhase}
-use Rattle.mq_conn.proofs.Streams.{Reads-on}
-
--- what ends in a malformed capsule ends the connection
-will_end : (stream n : ℕ) (bytes : List ℕ) (acts : List Act) (left : List ℕ) (ending : Option End) → Reads stream n bytes acts left → front_of left ≡ Broken → WillEnd acts ending
-will_end stream n bytes [] left ending reads broken = let is = ap front_of reads.1 in let more = reads.0 in absurd cc
-will_end stream n bytes (Payload on k payload ∷ acts) left ending reads broken = will_end stream (n + 1) reads.2 acts left ending reads.4 broken
-will_end stream n bytes (Malformed on ∷ acts) left ending reads broken = tt
-will_end stream n bytes (Bind on goal ∷ acts) left ending reads broken = absurd reads
-will_end stream n bytes (Open on goal ∷ acts) left ending reads broken = absurd reads
-will_end stream n bytes (Refuse on status rule ∷ acts) left ending reads broken = tt
-
--- what ends in less than a capsule is payloads
-will_serve : (stream n : ℕ) (bytes : List ℕ) (acts : List Act) (left : List ℕ) → Reads stream n bytes acts left → front_of left ≡ More → WillServe true acts
-will_serve stream n bytes [] left reads more = tt
-will_serve stream n bytes (Payload on k payload ∷ acts) left reads more = will_serve stream (n + 1) reads.2 acts left reads.4 more
-will_serve stream n bytes (Malformed on ∷ acts) left reads more = let is = ap front_of reads.3 in let broken = reads.1 in absurd cc
-will_serve stream n bytes (Bind on goal ∷ acts) left reads more = absurd reads
-will_serve stream n bytes (Open on goal ∷ acts) left reads more = absurd reads
-will_serve stream n bytes (Refuse on status rule ∷ acts) left reads more = absurd reads
-
--- the acts of a data stream follow its request
-reads_follow : (n : ℕ) (bytes : List ℕ) (acts : List Act) (left : List ℕ) → Reads 0 n bytes acts left → Follows true acts
-reads_follow n bytes [] left reads = tt
-reads_follow n bytes (Payload on k payload ∷ acts) left reads = (refl, reads.0, reads_follow (n + 1) reads.2 acts left reads.4)
-reads_follow n bytes (Malformed on ∷ acts) left reads = (refl, reads.0, reads.2)
-reads_follow n bytes (Bind on goal ∷ acts) left reads = absurd reads
-reads_follow n bytes (Open on goal ∷ acts) left reads = absurd reads
-reads_follow n bytes (Refuse on status rule ∷ acts) left reads = absurd reads
+use Rattle.mq_conn.proofs.Items.{broken, acts_more, sound_both, payloads_both, follows_acts, serves, ends_stream}
 
 state_begun : (state : State) (bytes : List ℕ) → StandsFor state bytes → IsBegun bytes
 state_begun Fresh bytes s = inl s
@@ -71,52 +47,65 @@ pub record Fed (setup : Setup) (reads : List (List ℕ)) (bytes : List ℕ) (act
   pub follows : Follows live acts
 
 -- a head that ends here asks for a tunnel
-asks_here : (setup : Setup) (reads : List (List ℕ)) (bytes : List ℕ) (acts : List Act) (phase : Phase) (left : List ℕ) → AreBegun [] reads
-    → (b : BeginsTunnel setup (concat reads) bytes acts phase) → Reads 0 0 (drop b.used bytes) b.payloads left → AsksTunnel setup (reads ++ bytes ∷ []) acts
-asks_here setup reads bytes acts phase left begun b r =
-    let P : List ℕ → Type 0 = λ rest. Reads 0 0 rest b.payloads left in
-    let same : drop (length (concat reads) + b.used) (concat reads ++ bytes) ++ [] ≡ drop b.used bytes =
-    append-nil (drop (length (concat reads) + b.used) (concat reads ++ bytes)) ∙ drop-append-add (concat reads) bytes b.used in
+same_behind : (reads : List (List ℕ)) (bytes : List ℕ) (used : ℕ) → drop (length (concat reads) + used) (concat reads ++ bytes) ++ [] ≡ drop used bytes
+same_behind reads bytes used = append-nil (drop (length (concat reads) + used) (concat reads ++ bytes)) ∙ drop-append-add (concat reads) bytes used
+
+asks_here : (setup : Setup) (reads : List (List ℕ)) (bytes : List ℕ) (acts : List Act) (phase : Phase) → AreBegun [] reads
+    → BeginsTunnel setup (concat reads) bytes acts phase → AsksTunnel setup (reads ++ bytes ∷ []) acts
+asks_here setup reads bytes acts phase begun b =
+    let P : List ℕ → Type 0 = λ all. ItemsOf false all b.items in
     record {
       before = reads;
       last = bytes;
       after = [];
       goal = b.goal;
       used = length (concat reads) + b.used;
-      payloads = b.payloads;
-      left = left;
+      items = b.items;
       decides = record { is = refl; begun = begun };
       request = b.request;
-      capsules = subst P (sym same) r;
+      capsules = subst P (sym (same_behind reads bytes b.used)) b.capsules;
       acts_are = b.acts_are;
     }
 
 begins_tunnel : (setup : Setup) (phase : Phase) (reads : List (List ℕ)) (bytes : List ℕ) (acts : List Act) (ending : Option End) → AreBegun [] reads
     → BeginsTunnel setup (concat reads) bytes acts phase → Fed setup reads bytes acts phase false ending
 unfolding asks_here
-begins_tunnel setup (Head reader) reads bytes acts ending begun b = absurd b.reaches
-begins_tunnel setup (InCapsules pending n) reads bytes acts ending begun b =
-    let asks = asks_here setup reads bytes acts (InCapsules pending n) pending.items begun b b.reaches.0 in
+begins_tunnel setup (Head reader) reads bytes acts ending begun b = absurd b.begins
+begins_tunnel setup (InCapsules reader limit n) reads bytes acts ending begun b =
     let P : List Act → Type 0 = λ xs. WillServe false xs in
     let Q : List Act → Type 0 = λ xs. Follows false xs in
-    let count = b.reaches.2 in
+    let R : List ℕ → Type 0 = λ all. Stands reader false all in
+    let S : ℕ → Type 0 = λ most. broken (acts_of most 0 0 b.items) ≡ false in
+    let asked = acts_of (limit_of b.goal) 0 0 b.items in
+    let follows = follows_acts (limit_of b.goal) 0 b.items in
     record {
       before = [];
       asked = inr (inr (record { begun = begun; acts_are = refl }));
-      asks = inl asks;
-      phase_is = (record { acts = acts; asks = asks; left_is = refl; partial = b.reaches.1; count = omega arith }, subst P (sym b.acts_are) (will_serve 0 0 (drop b.used bytes) b.payloads pending.items b.reaches.0 b.reaches.1));
-      follows = subst Q (sym b.acts_are) (refl, refl, reads_follow 0 (drop b.used bytes) b.payloads pending.items b.reaches.0);
+      asks = inl (asks_here setup reads bytes acts (InCapsules reader limit n) begun b);
+      phase_is = (
+        record {
+          acts = acts;
+          asks = asks_here setup reads bytes acts (InCapsules reader limit n) begun b;
+          stands = subst R (sym (same_behind reads bytes b.used)) b.begins.1;
+          limit_is = b.begins.2;
+          none_malformed = subst S (sym b.begins.2) b.begins.0;
+          next = b.begins.3;
+        },
+        subst P (sym b.acts_are) (serves asked follows b.begins.0),
+      );
+      follows = subst Q (sym b.acts_are) (refl, refl, follows);
     }
 begins_tunnel setup Done reads bytes acts ending begun b =
-    let left = b.reaches.0 in
     let P : List Act → Type 0 = λ xs. WillEnd xs ending in
     let Q : List Act → Type 0 = λ xs. Follows false xs in
+    let asked = acts_of (limit_of b.goal) 0 0 b.items in
+    let follows = follows_acts (limit_of b.goal) 0 b.items in
     record {
       before = [];
       asked = inr (inr (record { begun = begun; acts_are = refl }));
-      asks = inl (asks_here setup reads bytes acts Done left begun b b.reaches.1);
-      phase_is = subst P (sym b.acts_are) (will_end 0 0 (drop b.used bytes) b.payloads left ending b.reaches.1 b.reaches.2);
-      follows = subst Q (sym b.acts_are) (refl, refl, reads_follow 0 (drop b.used bytes) b.payloads left b.reaches.1);
+      asks = inl (asks_here setup reads bytes acts Done begun b);
+      phase_is = subst P (sym b.acts_are) (ends_stream asked ending follows b.begins);
+      follows = subst Q (sym b.acts_are) (refl, refl, follows);
     }
 
 begins_none : (setup : Setup) (phase : Phase) (reads : List (List ℕ)) (bytes : List ℕ) (acts : List Act) (ending : Option End) → AreBegun [] reads
@@ -146,66 +135,91 @@ waits setup (Head reader) reads bytes acts ending begun w =
       phase_is = (subst P (sym (concat_more reads bytes)) w.0, more, w.1, refl);
       follows = subst R (sym w.1) tt;
     }
-waits setup (InCapsules pending n) reads bytes acts ending begun w = absurd w
+waits setup (InCapsules reader limit n) reads bytes acts ending begun w = absurd w
 waits setup Done reads bytes acts ending begun w = absurd w
 
 -- one more read of a data stream
-asks_more : (setup : Setup) (reads : List (List ℕ)) (pending bytes : List ℕ) (n : ℕ) (acts : List Act) (left : List ℕ) (t : InTunnel setup reads pending n)
-    → Reads 0 n (pending ++ bytes) acts left → AsksTunnel setup (reads ++ bytes ∷ []) (t.acts ++ acts)
-asks_more setup reads pending bytes n acts left t r =
+joined : (setup : Setup) (reads : List (List ℕ)) (acts : List Act) (bytes : List ℕ) (a : AsksTunnel setup reads acts)
+    → (drop a.used (concat a.before ++ a.last) ++ concat a.after) ++ bytes ≡ drop a.used (concat a.before ++ a.last) ++ concat (a.after ++ bytes ∷ [])
+joined setup reads acts bytes a =
+    append_assoc (drop a.used (concat a.before ++ a.last)) (concat a.after) bytes ∙ ap (λ (xs : List ℕ). drop a.used (concat a.before ++ a.last) ++ xs) (sym (concat_more a.after bytes))
+
+asks_more : (setup : Setup) (reads : List (List ℕ)) (reader : Reader) (bytes : List ℕ) (limit n : ℕ) (given : List Item) (t : InTunnel setup reads reader limit n)
+    → GivesItems reader bytes given → AsksTunnel setup (reads ++ bytes ∷ []) (t.acts ++ acts_of limit 0 n given)
+asks_more setup reads reader bytes limit n given t g =
     let a = t.asks in
-    let head = concat a.before ++ a.last in
-    let first = drop a.used head ++ concat a.after in
-    let P : ℕ → Type 0 = λ m. Reads 0 m (pending ++ bytes) acts left in
-    let Q : List ℕ → Type 0 = λ p. Reads 0 (0 + length a.payloads) (p ++ bytes) acts left in
-    let R : List ℕ → Type 0 = λ all. Reads 0 0 all (a.payloads ++ acts) left in
-    let S : List ℕ → Type 0 = λ p. front_of p ≡ More in
-    let count = t.count in
-    let from : n ≡ 0 + length a.payloads = omega arith in
-    let later = subst Q (sym t.left_is) (subst P from r) in
-    let on = Reads-on 0 0 first bytes a.payloads a.left a.capsules (subst S (sym t.left_is) t.partial) acts left later in
-    let joined : first ++ bytes ≡ drop a.used head ++ concat (a.after ++ bytes ∷ []) =
-    append_assoc (drop a.used head) (concat a.after) bytes ∙ ap (λ (xs : List ℕ). drop a.used head ++ xs) (sym (concat_more a.after bytes)) in
+    let items = a.items in
+    let later : ℕ → List Act = λ k. acts_of limit 0 k given in
+    let P : List ℕ → Type 0 = λ all. ItemsOf false all (items ++ given) in
+    let count = t.next in
+    let from : n ≡ 0 + payload_count items = omega arith in
     record {
       before = a.before;
       last = a.last;
       after = a.after ++ bytes ∷ [];
       goal = a.goal;
       used = a.used;
-      payloads = a.payloads ++ acts;
-      left = left;
+      items = items ++ given;
       decides = record {
         is = ap (λ (all : List (List ℕ)). all ++ bytes ∷ []) a.decides.is ∙ append_assoc a.before (a.last ∷ a.after) (bytes ∷ []);
         begun = a.decides.begun;
       };
       request = a.request;
-      capsules = subst R joined on;
-      acts_are = ap (λ (all : List Act). all ++ acts) a.acts_are;
+      capsules = subst P (joined setup reads t.acts bytes a) (g false _ items t.stands a.capsules);
+      acts_are = ap (λ (all : List Act). all ++ later n) a.acts_are
+          ∙ ap (λ (most : ℕ). (Bind 0 a.goal ∷ acts_of most 0 0 items) ++ later n) (sym t.limit_is)
+          ∙ ap (λ (k : ℕ). (Bind 0 a.goal ∷ acts_of limit 0 0 items) ++ later k) from
+          ∙ ap (λ (all : List Act). Bind 0 a.goal ∷ all) (sym (acts_more limit 0 items given t.none_malformed))
+          ∙ ap (λ (most : ℕ). Bind 0 a.goal ∷ acts_of most 0 0 (items ++ given)) t.limit_is;
     }
 
-later_phase : (setup : Setup) (phase : Phase) (reads : List (List ℕ)) (pending bytes : List ℕ) (n : ℕ) (acts : List Act) (ending : Option End)
-    → InTunnel setup reads pending n → Reaches n (pending ++ bytes) acts phase → Fed setup reads bytes acts phase true ending
+later_tunnel : (setup : Setup) (reads : List (List ℕ)) (reader after : Reader) (bytes : List ℕ) (limit n most next : ℕ) (given : List Item) (t : InTunnel setup reads reader limit n) → (g : GivesItems reader bytes given)
+    → broken (acts_of limit 0 n given) ≡ false → StandsOn reader after bytes → most ≡ limit → next ≡ n + payload_count given → InTunnel setup (reads ++ bytes ∷ []) after most next
 unfolding asks_more
-later_phase setup (Head reader) reads pending bytes n acts ending t r = absurd r
-later_phase setup (InCapsules rest m) reads pending bytes n acts ending t r =
-    let asks = asks_more setup reads pending bytes n acts rest.items t r.0 in
-    let count = r.2 in
-    let before = t.count in
+later_tunnel setup reads reader after bytes limit n most next given t g sound stands same sum =
+    let items = t.asks.items in
+    let count = t.next in
+    let both = payloads_both items given in
+    let R : List ℕ → Type 0 = λ all. Stands after false all in
+    let S : ℕ → Type 0 = λ m. broken (acts_of m 0 0 (items ++ given)) ≡ false in
+    let from : 0 + payload_count items ≡ n = omega arith in
     record {
+      acts = t.acts ++ acts_of limit 0 n given;
+      asks = asks_more setup reads reader bytes limit n given t g;
+      stands = subst R (joined setup reads t.acts bytes t.asks) (stands false _ t.stands);
+      limit_is = same ∙ t.limit_is;
+      none_malformed = subst S (sym same) (sound_both limit 0 items given t.none_malformed ∙ ap (λ (k : ℕ). broken (acts_of limit 0 k given)) from ∙ sound);
+      next = omega arith;
+    }
+
+later_phase : (setup : Setup) (phase : Phase) (reads : List (List ℕ)) (reader : Reader) (bytes : List ℕ) (limit n : ℕ) (acts : List Act) (ending : Option End)
+    → InTunnel setup reads reader limit n → Reaches reader limit n bytes acts phase → Fed setup reads bytes acts phase true ending
+later_phase setup (Head head) reads reader bytes limit n acts ending t r = absurd r
+later_phase setup (InCapsules after most next) reads reader bytes limit n acts ending t (given, g, is, sound, stands, same, sum) =
+    let asked = acts_of limit 0 n given in
+    let P : List Act → Type 0 = λ xs. Fed setup reads bytes xs (InCapsules after most next) true ending in
+    let Q : List Act → Type 0 = λ xs. broken xs ≡ false in
+    let good = subst Q is sound in
+    let follows = follows_acts limit n given in
+    subst P (sym is) (record {
       before = t.acts;
       asked = inl t.asks;
-      asks = inl asks;
-      phase_is = (record { acts = t.acts ++ acts; asks = asks; left_is = refl; partial = r.1; count = omega (arith, length-append t.asks.payloads acts) }, will_serve 0 n (pending ++ bytes) acts rest.items r.0 r.1);
-      follows = reads_follow n (pending ++ bytes) acts rest.items r.0;
-    }
-later_phase setup Done reads pending bytes n acts ending t r =
-    record {
+      asks = inl (asks_more setup reads reader bytes limit n given t g);
+      phase_is = (later_tunnel setup reads reader after bytes limit n most next given t g good stands same sum, serves asked follows good);
+      follows = follows;
+    })
+later_phase setup Done reads reader bytes limit n acts ending t (given, g, is, stops) =
+    let asked = acts_of limit 0 n given in
+    let P : List Act → Type 0 = λ xs. Fed setup reads bytes xs Done true ending in
+    let Q : List Act → Type 0 = λ xs. broken xs ≡ true in
+    let follows = follows_acts limit n given in
+    subst P (sym is) (record {
       before = t.acts;
       asked = inl t.asks;
-      asks = inl (asks_more setup reads pending bytes n acts r.0 t r.1);
-      phase_is = will_end 0 n (pending ++ bytes) acts r.0 ending r.1 r.2;
-      follows = reads_follow n (pending ++ bytes) acts r.0 r.1;
-    }
+      asks = inl (asks_more setup reads reader bytes limit n given t g);
+      phase_is = ends_stream asked ending follows (subst Q is stops);
+      follows = follows;
+    })
 
 pub fed : (setup : Setup) (old new : Phase) (reads : List (List ℕ)) (bytes : List ℕ) (acts : List Act) (live : Bool) (ending : Option End)
     → IsPhase setup old reads [] live ending → ending ≡ None → LeadsTo setup old bytes acts new → Fed setup reads bytes acts new live ending
@@ -216,6 +230,6 @@ fed setup (Head reader) new reads bytes acts false ending p going leads =
       | inr (inl b) ↦ begins_none setup new reads bytes acts ending p.1 b
       | inr (inr w) ↦ waits setup new reads bytes acts ending p.1 w
     ]
-fed setup (InCapsules pending n) new reads bytes acts true ending p going leads = later_phase setup new reads pending.items bytes n acts ending p.0 leads
-fed setup (InCapsules pending n) new reads bytes acts false ending p going leads = absurd p.1
+fed setup (InCapsules reader limit n) new reads bytes acts true ending p going leads = later_phase setup new reads reader bytes limit n acts ending p.0 leads
+fed setup (InCapsules reader limit n) new reads bytes acts false ending p going leads = absurd p.1
 fed setup Done new reads bytes acts live ending p going leads = absurd (p going)

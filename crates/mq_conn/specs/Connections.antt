@@ -1,11 +1,15 @@
 -- What the core of a connection stands for.
 use Rattle.std.specs.Prelude.{◌≡◌, ◌≢◌, ℕ, ◌+◌, ◌≤◌, ◌⊎◌, Bool, true, false, List, [], ◌∷◌, ◌++◌, length, drop, Option, Some, None, Result, Ok, Err}
-use Rattle.std.specs.List.{concat}
+use Rattle.std.specs.List.{concat, list_any}
 use Rattle.std.specs.Option.{is_some}
 use Rattle.mq_head.specs.Answers.{refusal_text}
 use Rattle.mq_head.specs.declared.reader.HeadReader.{HeadReader}
 use Rattle.mq_head.specs.Reader.{IsHeadOf}
 use Rattle.mq_wire.specs.declared.NoMemory as wire
+use Rattle.mq_capsule.specs.declared.item.Item.{Item}
+use Rattle.mq_capsule.specs.declared.reader.Reader.{Reader}
+use Rattle.mq_capsule.specs.Items.{ItemsOf}
+use Rattle.mq_capsule.specs.Readers.{Stands, StandsOn, GivesItems}
 use Rattle.mq_talk.specs.declared.book.Call.{Call}
 use Rattle.mq_talk.specs.declared.goal.Goal.{Goal}
 use Rattle.mq_talk.specs.declared.note.End.{End}
@@ -15,7 +19,7 @@ use Rattle.mq_talk.specs.declared.note.Note.TheVariants.{Refused}
 use Rattle.mq_machine.specs.declared.act.Act.{Act}
 use Rattle.mq_machine.specs.declared.setup.Setup.{Setup}
 use Rattle.mq_machine.specs.declared.act.Act.TheVariants as act
-use Rattle.mq_machine.specs.Capsule.{More, Broken, front_of, Reads}
+use Rattle.mq_machine.specs.Capsule.{is_malformed, limit_of, acts_of, payload_count}
 use Rattle.mq_machine.specs.Request.{IsRequest, IsRefusedRequest, AreBegun, AsksTunnel}
 use Rattle.mq_machine.specs.State as spec
 use Rattle.mq_machine.specs.State.{Tunnel, owed}
@@ -24,21 +28,32 @@ use Rattle.mq_conn.specs.declared.connection.Connection.{Connection}
 use Rattle.mq_conn.specs.declared.connection.Phase.{Phase}
 use Rattle.mq_conn.specs.declared.connection.Phase.TheVariants.{Head, Tunnel as InCapsules, Done}
 
--- from payload n on the bytes ask for these acts, and lead to the phase
-abbrev pub Reaches : ℕ → List ℕ → List Act → Phase → Type 0
-Reaches n bytes acts (Head reader) = ⊥
-Reaches n bytes acts (InCapsules pending m) = Reads 0 n bytes acts pending.items × (front_of pending.items ≡ More) × (m ≡ n + length acts)
-Reaches n bytes acts Done = (left : List ℕ) × Reads 0 n bytes acts left × (front_of left ≡ Broken)
+-- More bytes of the data stream that the reader was fed ask for these acts, from payload n on, and lead to the phase.
+abbrev pub Reaches : Reader → ℕ → ℕ → List ℕ → List Act → Phase → Type 0
+Reaches reader limit n bytes acts (Head head) = ⊥
+Reaches reader limit n bytes acts (InCapsules after limit_after next) =
+    (given : List Item) × GivesItems reader bytes given × (acts ≡ acts_of limit 0 n given) × (list_any is_malformed acts ≡ false)
+    × StandsOn reader after bytes × (limit_after ≡ limit) × (next ≡ n + payload_count given)
+Reaches reader limit n bytes acts Done =
+    (given : List Item) × GivesItems reader bytes given × (acts ≡ acts_of limit 0 n given) × (list_any is_malformed acts ≡ true)
+
+-- the same of the first bytes of a data stream, that say these items
+abbrev pub Begins : ℕ → List ℕ → List Item → Phase → Type 0
+Begins limit bytes items (Head head) = ⊥
+Begins limit bytes items (InCapsules reader limit_after next) =
+    (list_any is_malformed (acts_of limit 0 0 items) ≡ false) × Stands reader false bytes × (limit_after ≡ limit) × (next ≡ payload_count items)
+Begins limit bytes items Done = list_any is_malformed (acts_of limit 0 0 items) ≡ true
 
 -- behind a front in which nothing is decided, a piece ends a head that asks for a tunnel
 pub record BeginsTunnel (setup : Setup) (front bytes : List ℕ) (acts : List Act) (phase : Phase) : Type 0 where
   pub goal : Goal
   pub used : ℕ
-  pub payloads : List Act
+  pub items : List Item
   pub request : IsRequest setup (front ++ bytes) goal (length front + used)
   pub within : used ≤ length bytes
-  pub acts_are : acts ≡ act.Bind 0 goal ∷ payloads
-  pub reaches : Reaches 0 (drop used bytes) payloads phase
+  pub capsules : ItemsOf false (drop used bytes) items
+  pub acts_are : acts ≡ act.Bind 0 goal ∷ acts_of (limit_of goal) 0 0 items
+  pub begins : Begins (limit_of goal) (drop used bytes) items phase
 
 -- it is refused
 pub record BeginsNone (setup : Setup) (front bytes : List ℕ) (acts : List Act) (phase : Phase) : Type 0 where
@@ -51,7 +66,7 @@ pub record BeginsNone (setup : Setup) (front bytes : List ℕ) (acts : List Act)
 -- nothing is decided yet
 abbrev pub Waits : List ℕ → List ℕ → List Act → Phase → Type 0
 Waits front bytes acts (Head reader) = IsHeadOf reader (front ++ bytes) × (acts ≡ [])
-Waits front bytes acts (InCapsules pending m) = ⊥
+Waits front bytes acts (InCapsules reader limit next) = ⊥
 Waits front bytes acts Done = ⊥
 
 -- what a piece of a head leads to
@@ -62,16 +77,18 @@ HeadLeadsTo setup reader bytes acts new = (front : List ℕ) → IsHeadOf reader
 -- one more piece leads from phase to phase
 abbrev pub LeadsTo : Setup → Phase → List ℕ → List Act → Phase → Type 0
 LeadsTo setup (Head reader) bytes acts new = HeadLeadsTo setup reader bytes acts new
-LeadsTo setup (InCapsules pending n) bytes acts new = Reaches n (pending.items ++ bytes) acts new
+LeadsTo setup (InCapsules reader limit n) bytes acts new = Reaches reader limit n bytes acts new
 LeadsTo setup Done bytes acts new = (acts ≡ []) × (new ≡ Done)
 
--- Acts come in this order: a request; behind it, while its tunnel is live, payloads; a refusal or a malformed capsule last.
+-- Acts come in this order: a request; behind it, while its tunnel is live, payloads that are to be sent or dropped; a refusal or
+-- a malformed stream last.
 abbrev pub Follows : Bool → List Act → Type 0
 Follows live [] = Unit {0}
 Follows live (act.Bind stream goal ∷ acts) = (live ≡ false) × (stream ≡ 0) × Follows true acts
 Follows live (act.Open stream goal ∷ acts) = (live ≡ false) × (stream ≡ 0) × Follows true acts
 Follows live (act.Refuse stream status rule ∷ acts) = (live ≡ false) × (acts ≡ [])
 Follows live (act.Payload stream n payload ∷ acts) = (live ≡ true) × (stream ≡ 0) × Follows true acts
+Follows live (act.Drop stream n cause ∷ acts) = (live ≡ true) × (stream ≡ 0) × Follows true acts
 Follows live (act.Malformed stream ∷ acts) = (live ≡ true) × (stream ≡ 0) × (acts ≡ [])
 
 -- the acts will end the connection, or it is ending
@@ -82,13 +99,16 @@ WillEnd (act.Refuse stream status rule ∷ acts) ending = Unit {0}
 WillEnd (act.Open stream goal ∷ acts) ending = WillEnd acts ending
 WillEnd (act.Bind stream goal ∷ acts) ending = WillEnd acts ending
 WillEnd (act.Payload stream n payload ∷ acts) ending = WillEnd acts ending
+WillEnd (act.Drop stream n cause ∷ acts) ending = WillEnd acts ending
 
--- payloads alone are due, behind the request where the tunnel isn't live
+-- payloads alone are due, to be sent or dropped, behind the request where the tunnel isn't live
 abbrev pub WillServe : Bool → List Act → Type 0
 WillServe true [] = Unit {0}
 WillServe false [] = ⊥
 WillServe true (act.Payload stream n payload ∷ acts) = WillServe true acts
 WillServe false (act.Payload stream n payload ∷ acts) = ⊥
+WillServe true (act.Drop stream n cause ∷ acts) = WillServe true acts
+WillServe false (act.Drop stream n cause ∷ acts) = ⊥
 WillServe true (act.Bind stream goal ∷ acts) = ⊥
 WillServe false (act.Bind stream goal ∷ acts) = WillServe true acts
 WillServe true (act.Open stream goal ∷ acts) = ⊥
@@ -96,18 +116,19 @@ WillServe false (act.Open stream goal ∷ acts) = WillServe true acts
 WillServe live (act.Refuse stream status rule ∷ acts) = ⊥
 WillServe live (act.Malformed stream ∷ acts) = ⊥
 
--- the reads lead into a tunnel, with these bytes of an unfinished capsule, behind n payloads
-pub record InTunnel (setup : Setup) (reads : List (List ℕ)) (pending : List ℕ) (n : ℕ) : Type 0 where
+-- the reads lead into a tunnel, whose data stream the reader was fed: it goes on, with payload n
+pub record InTunnel (setup : Setup) (reads : List (List ℕ)) (reader : Reader) (limit n : ℕ) : Type 0 where
   pub acts : List Act
   pub asks : AsksTunnel setup reads acts
-  pub left_is : asks.left ≡ pending
-  pub partial : front_of pending ≡ More
-  pub count : n ≡ length asks.payloads
+  pub stands : Stands reader false (drop asks.used (concat asks.before ++ asks.last) ++ concat asks.after)
+  pub limit_is : limit ≡ limit_of asks.goal
+  pub none_malformed : list_any is_malformed (acts_of limit 0 0 asks.items) ≡ false
+  pub next : n ≡ payload_count asks.items
 
 -- the phase after these reads, with what is due, whether a tunnel is live, and why the connection is ending
 abbrev pub IsPhase : Setup → Phase → List (List ℕ) → List Act → Bool → Option End → Type 0
 IsPhase setup (Head reader) reads due live ending = IsHeadOf reader (concat reads) × AreBegun [] reads × (due ≡ []) × (live ≡ false)
-IsPhase setup (InCapsules pending n) reads due live ending = InTunnel setup reads pending.items n × WillServe live due
+IsPhase setup (InCapsules reader limit n) reads due live ending = InTunnel setup reads reader limit n × WillServe live due
 IsPhase setup Done reads due live ending = WillEnd due ending
 
 -- the live tunnel

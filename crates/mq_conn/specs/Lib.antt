@@ -1,4 +1,3 @@
-pub mod Fronts
-pub mod Lefts
+pub mod Items
 pub mod Connections
 pub mod Verdicts

@@ -1,142 +1,127 @@
-//! Capsules (RFC 9297, section 3.2), within the limits of a first server.
-ghost use Rattle.std.specs.Prelude.{◌≡◌, ◌≤◌, ◌-◌, ◌+◌, ◌++◌, ◌<◌, ◌^◌, List, length, take, IfOk};
-ghost use Rattle.mq_wire.specs.Integer.{int_of};
-ghost use Rattle.mq_machine.specs.Capsule.{front_of, by_length, by_context};
-ghost use Rattle.mq_machine.specs.declared.act.Act.{Act};
-ghost use Rattle.mq_conn.specs.Fronts.{IsFront, RestIsUpTo, RestIsBelow};
-ghost use Rattle.mq_conn.specs.Lefts.{ReadsTo};
+//! What the capsules of a tunnel for UDP ask for (RFC 9298, section 5).
+ghost use Rattle.std.specs.Prelude.{◌≡◌, ◌∷◌, [], IfOk};
+ghost use Rattle.mq_machine.specs.Capsule.{limit_of, context_act, payload_act};
+ghost use Rattle.mq_conn.specs.Items.{PutsAct, Puts};
 
+use mq_addr::Addr;
+use mq_capsule::Item;
 use mq_machine::Act;
-use mq_wire::{Bytes, NoMemory, Varint, read_varint};
-use std::alloc::Global;
+use mq_talk::{Cause, Goal};
+use mq_wire::{Bytes, NoMemory};
 use std::collections::VecDeque;
 
-/// What stands at the front of a data stream.
-#[derive(Clone, Copy)]
-pub enum Front<'b> {
-    /// Less than a capsule.
-    More,
-    /// A malformed capsule.
-    Broken,
-    /// A whole capsule: its payload, and the bytes after it.
-    Whole { payload: &'b [u8], rest: &'b [u8] },
+/// The longest payload of UDP.
+const MAX_UDP: usize = 65_527;
+
+/// The longest payload that the port of a tunnel takes: what fits into one packet, behind the headers of UDP and, in
+/// IPv4, of IP. A tunnel for IP packets has no port.
+pub fn limit_of(goal: Goal) -> u16
+    ensures { result ≡ limit_of goal }
+{
+    match goal {
+        Goal::Udp {
+            addr: Addr::V4(_),
+            ..
+        } => 65_507,
+        Goal::Udp {
+            addr: Addr::V6(_),
+            ..
+        } => 65_527,
+        Goal::Ip { .. } => 0,
+    }
 }
 
-/// What stands at the front.
-#[tactic(auto, unfolding(mq_machine::specs::Capsule::front_of))]
-pub fn read_front(bytes: &[u8]) -> Front<'_>
-    ensures front { IsFront (front_of bytes.now) result }
-    ensures shorter { RestIsBelow (length bytes.now) result }
+/// What a payload asks for, in context 0.
+fn payload_act(limit: u16, n: u64, payload: Bytes) -> Act
+    ensures { result ≡ payload_act limit 0 n payload }
 {
-    match read_varint(bytes) {
-        Varint::Short => Front::More,
-        Varint::Got { value, used } => {
-            if value > 0 {
-                Front::Broken
-            } else {
-                by_length(&bytes[used as usize..])
-            }
+    let length = payload.as_slice().len();
+    if length > MAX_UDP {
+        Act::Malformed { stream: 0 }
+    } else if length > usize::from(limit) {
+        Act::Drop {
+            stream: 0,
+            n,
+            cause: Cause::TooLong,
+        }
+    } else {
+        Act::Payload {
+            stream: 0,
+            n,
+            payload,
         }
     }
 }
 
-fn by_length(bytes: &[u8]) -> Front<'_>
-    ensures front { IsFront (by_length (int_of bytes.now) bytes.now) result }
-    ensures shorter { RestIsUpTo (length bytes.now) result }
+/// What is asked for in this context, where only context 0 is known (RFC 9298, section 4).
+fn context_act(context: u64, n: u64, in_context_0: Act) -> Act
+    ensures { result ≡ context_act context 0 n in_context_0 }
 {
-    match read_varint(bytes) {
-        Varint::Short => Front::More,
-        Varint::Got { value, used } => {
-            if value > 1024 {
-                Front::Broken
-            } else {
-                by_context(value as usize, &bytes[used as usize..])
-            }
+    if context == 0 {
+        in_context_0
+    } else {
+        Act::Drop {
+            stream: 0,
+            n,
+            cause: Cause::UnknownContext,
         }
     }
 }
 
-fn by_context(size: usize, bytes: &[u8]) -> Front<'_>
-    ensures front { IsFront (by_context (int_of (take size bytes.now)) size bytes.now) result }
-    ensures shorter { RestIsUpTo (length bytes.now) result }
+/// Puts the act of payload `n` at the back of the list. Answers the number of the next payload, or none where the stream is
+/// malformed.
+fn put_act(n: u64, act: Act, due: &mut VecDeque<Act>) -> Result<Option<u64>, NoMemory>
+    ensures { IfOk result (λ next. PutsAct n act due.old.items due.new.items next) }
 {
-    let value = &bytes[..size.min(bytes.len())];
-    match read_varint(value) {
-        Varint::Short => {
-            if bytes.len() < size {
-                Front::More
-            } else {
-                Front::Broken
-            }
-        }
-        Varint::Got {
-            value: context,
-            used,
-        } => {
-            if context > 0 {
-                Front::Broken
-            } else if bytes.len() < size {
-                Front::More
-            } else {
-                Front::Whole {
-                    payload: &value[used as usize..],
-                    rest: &bytes[size..],
-                }
-            }
-        }
+    let is_malformed = matches!(act, Act::Malformed { .. });
+    due.push_back(act)?;
+    if is_malformed {
+        return Ok(None);
     }
+    Ok(Some(n.checked_add(1).ok_or(NoMemory)?))
 }
 
-/// What is left of a data stream.
-#[derive(Clone, Copy)]
-pub struct Left<'b> {
-    /// The number of the next payload.
-    pub n: u64,
-    pub rest: &'b [u8],
-    /// A malformed capsule was met.
-    pub is_broken: bool,
-}
-
-/// Puts what the bytes ask for at the back of the list.
-pub fn read_acts<'b>(
-    alloc: Global,
+/// Puts what an item asks for at the back of the list. `n` is the number of the next payload. Answers its number behind
+/// the item, or none where the stream is malformed.
+fn put_item(
+    limit: u16,
     n: u64,
-    bytes: &'b [u8],
+    item: Item,
     due: &mut VecDeque<Act>,
-) -> Result<Left<'b>, NoMemory>
-    ensures { IfOk result (λ left. (acts : List Act) × (due.new.items ≡ due.old.items ++ acts) × ReadsTo n bytes.now acts left) }
+) -> Result<Option<u64>, NoMemory>
+    ensures { IfOk result (λ next. Puts limit n (item ∷ []) due.old.items due.new.items next) }
+{
+    match item {
+        Item::Datagram { context, payload } => {
+            let act = payload_act(limit, n, payload);
+            put_act(n, context_act(context, n, act), due)
+        }
+        Item::TooLongDatagram { context, .. } => {
+            let act = Act::Malformed { stream: 0 };
+            put_act(n, context_act(context, n, act), due)
+        }
+        // A reader of a tunnel for UDP tells no such capsule.
+        Item::Control { .. } => Ok(Some(n)),
+        Item::Bad { .. } => put_act(n, Act::Malformed { stream: 0 }, due),
+    }
+}
+
+/// Puts what the items ask for at the back of the list, up to where the stream is malformed. `n` is the number of the
+/// next payload. Answers its number behind the items, or none where the stream is malformed.
+pub fn put_items(
+    limit: u16,
+    n: u64,
+    items: Vec<Item>,
+    due: &mut VecDeque<Act>,
+) -> Result<Option<u64>, NoMemory>
+    ensures { IfOk result (λ next. Puts limit n items.items due.old.items due.new.items next) }
 {
     let mut n = n;
-    let mut rest = bytes;
-    loop {
-        match read_front(rest) {
-            Front::More => {
-                return Ok(Left {
-                    n,
-                    rest,
-                    is_broken: false,
-                });
-            }
-            Front::Broken => {
-                due.push_back(Act::Malformed { stream: 0 })?;
-                return Ok(Left {
-                    n,
-                    rest,
-                    is_broken: true,
-                });
-            }
-            Front::Whole {
-                payload,
-                rest: after,
-            } => {
-                due.push_back(Act::Payload {
-                    stream: 0,
-                    n,
-                    payload: Bytes::from_vec(Vec::from_slice(alloc, payload)?),
-                })?;
-                n = n.checked_add(1).ok_or(NoMemory)?;
-                rest = after;
-            }
+    for item in items {
+        match put_item(limit, n, item, due)? {
+            Some(next) => n = next,
+            None => return Ok(None),
         }
     }
+    Ok(Some(n))
 }

@@ -7,8 +7,9 @@ ghost use Rattle.mq_machine.specs.declared.act.Act.{Act};
 ghost use Rattle.mq_machine.specs.declared.setup.Setup.{Setup};
 ghost use Rattle.mq_conn.specs.declared.connection.Phase.{Phase};
 
-use crate::capsule::read_acts;
+use crate::capsule::{limit_of, put_items};
 use crate::verdict::{Verdict, judge};
+use mq_capsule::Reader;
 use mq_head::{HeadReader, HeadStep, Kind, refusal, success};
 use mq_machine::{Act, Setup};
 use mq_talk::{End, From, Goal, Note, Why};
@@ -22,8 +23,8 @@ use std::mem;
 enum Phase {
     /// Before the end of its head.
     Head(HeadReader),
-    /// In the capsules: the bytes of an unfinished one, and the number of the next payload.
-    Tunnel { pending: Vec<u8>, n: u64 },
+    /// In the capsules: their reader, the longest payload that the port takes, and the number of the next payload.
+    Tunnel { reader: Reader, limit: u16, n: u64 },
     /// It reads no more.
     Done,
 }
@@ -176,11 +177,16 @@ impl Connection {
                     rule,
                 },
             ) => Ok(Some(self.put_refusal(conn, stream, status, rule)?)),
-            // A payload is due only while its tunnel is live, and so is a malformed capsule.
+            // What the capsules of a tunnel ask for is due only while it is live.
             Some(Act::Payload { n, payload, .. }) => Ok(Some(Note::Sent {
                 from: From::Tunnel(self.tunnel.unwrap_or(0)),
                 n,
                 packet: payload,
+            })),
+            Some(Act::Drop { n, cause, .. }) => Ok(Some(Note::Dropped {
+                from: From::Tunnel(self.tunnel.unwrap_or(0)),
+                n,
+                cause,
             })),
             Some(Act::Malformed { .. }) => {
                 let tunnel = self.tunnel.take().unwrap_or(0);
@@ -208,8 +214,8 @@ impl Connection {
         Bytes::from_vec(mem::replace(&mut self.owed, Vec::new(alloc)))
     }
 
-    /// Why it is over, where it is ending, nothing is due, its tunnel is closed, and nothing is owed. Where it was refused
-    /// memory, what is still owed is given up.
+    /// Why it is over, where it is ending, nothing is due, its tunnel is closed, and nothing is owed. Where it was
+    /// refused memory, what is still owed is given up.
     pub fn over(&self) -> Option<End>
         ensures { (setup : Setup) (s : Conn) → IsConn setup self.now s → IsOver s result }
     {
@@ -254,7 +260,7 @@ fn next_phase(
 {
     match phase {
         Phase::Head(reader) => read_head(alloc, setup, reader, bytes, due),
-        Phase::Tunnel { pending, n } => read_more(alloc, n, pending, bytes, due),
+        Phase::Tunnel { reader, limit, n } => read_capsules(alloc, reader, limit, n, bytes, due),
         Phase::Done => Ok(Phase::Done),
     }
 }
@@ -282,7 +288,7 @@ fn read_head(
             Verdict::Go(goal) => {
                 due.push_back(Act::Bind { stream: 0, goal })?;
                 let (_, rest) = bytes.split_at((used as usize).min(bytes.len()));
-                read_capsules(alloc, 0, rest, due)
+                read_capsules(alloc, Reader::new(false), limit_of(goal), 0, rest, due)
             }
         },
     }
@@ -300,36 +306,20 @@ fn refuse(status: u16, rule: u32, due: &mut VecDeque<Act>) -> Result<Phase, NoMe
     Ok(Phase::Done)
 }
 
-/// Reads the capsules that a piece completes, behind the bytes of an unfinished one.
-fn read_more(
-    alloc: Global,
-    n: u64,
-    mut pending: Vec<u8>,
-    bytes: &[u8],
-    due: &mut VecDeque<Act>,
-) -> Result<Phase, NoMemory>
-    ensures { IfOk result (λ new. (acts : List Act) × (due.new.items ≡ due.old.items ++ acts) × Reaches n (pending.items ++ bytes.now) acts new) }
-{
-    if pending.is_empty() {
-        return read_capsules(alloc, n, bytes, due);
-    }
-    pending.extend_from_slice(bytes)?;
-    read_capsules(alloc, n, pending.as_slice(), due)
-}
-
-/// Reads whole capsules, and keeps what is left.
+/// Reads more of a data stream.
 fn read_capsules(
     alloc: Global,
+    mut reader: Reader,
+    limit: u16,
     n: u64,
     bytes: &[u8],
     due: &mut VecDeque<Act>,
 ) -> Result<Phase, NoMemory>
-    ensures { IfOk result (λ new. (acts : List Act) × (due.new.items ≡ due.old.items ++ acts) × Reaches n bytes.now acts new) }
+    ensures { IfOk result (λ new. (acts : List Act) × (due.new.items ≡ due.old.items ++ acts) × Reaches reader limit n bytes.now acts new) }
 {
-    let left = read_acts(alloc, n, bytes, due)?;
-    if left.is_broken {
-        return Ok(Phase::Done);
+    let items = reader.feed(alloc, bytes)?;
+    match put_items(limit, n, items.into_vec(), due)? {
+        Some(n) => Ok(Phase::Tunnel { reader, limit, n }),
+        None => Ok(Phase::Done),
     }
-    let pending = Vec::from_slice(alloc, left.rest)?;
-    Ok(Phase::Tunnel { pending, n: left.n })
 }

@@ -1,47 +1,68 @@
--- Capsules (RFC 9297, section 3.2), within the limits of a first server: only DATAGRAM (type 0), at most 1,024 bytes of
--- value, and Context ID 0 (RFC 9298, section 5). What is past these limits is malformed with the last byte of the integer
--- that says so.
-use Rattle.std.specs.Prelude.{◌≡◌, ℕ, ◌+◌, List, [], ◌∷◌, length, take, drop, Option, Some, None, if◌then◌else◌, nat_lt}
-use Rattle.mq_wire.specs.Integer.{int_of}
+-- What the capsules of a tunnel for UDP ask for (RFC 9297, section 3.2, and RFC 9298, section 5).
+use Rattle.std.specs.Prelude.{ℕ, ◌+◌, List, [], ◌∷◌, length, Bool, true, false, nat_lt, ◌==◌, if◌then◌else◌}
+use Rattle.mq_addr.specs.declared.addr.Addr.{Addr}
+use Rattle.mq_addr.specs.declared.addr.Addr.TheVariants.{V4, V6}
+use Rattle.mq_capsule.specs.declared.item.Item.{Item}
+use Rattle.mq_capsule.specs.declared.item.Item.TheVariants.{Datagram, TooLongDatagram, Control, Bad}
+use Rattle.mq_talk.specs.declared.goal.Goal.{Goal}
+use Rattle.mq_talk.specs.declared.goal.Goal.TheVariants.{Udp, Ip}
+use Rattle.mq_talk.specs.declared.place.Cause.TheVariants.{UnknownContext, TooLong}
 use Rattle.mq_machine.specs.declared.act.Act.{Act}
 use Rattle.mq_machine.specs.declared.act.Act.TheVariants as act
 
--- what stands at the front: less than a capsule, a malformed one, or a whole one with its payload and the bytes behind it
-pub data Front : Type 0 where
-  More Broken : Front
-  Whole : List ℕ → List ℕ → Front
+-- the longest UDP payload (RFC 9298, section 5)
+abbrev pub max_udp : ℕ
+max_udp = 65527
 
--- by the Context ID, where it is whole, the length of the value, and the bytes from the value on
-abbrev pub by_context : Option (ℕ × ℕ) → ℕ → List ℕ → Front
-by_context None size bytes = if nat_lt (length bytes) size then More else Broken
-by_context (Some context) size bytes =
-    if nat_lt 0 context.0 then Broken
-    else (if nat_lt (length bytes) size then More
-    else Whole (drop context.1 (take size bytes)) (drop size bytes))
+-- The longest payload that fits into one packet to an address: 65,535 bytes with the header of UDP and, in IPv4 alone, with that
+-- of IP (RFC 791, section 3.1; RFC 8200, section 3).
+abbrev pub port_limit : Addr → ℕ
+port_limit (V4 bits) = 65507
+port_limit (V6 bits) = 65527
 
--- by the length, where it is whole, and the bytes from the length on
-abbrev pub by_length : Option (ℕ × ℕ) → List ℕ → Front
-by_length None bytes = More
-by_length (Some size) bytes =
-    if nat_lt 1024 size.0 then Broken
-    else by_context (int_of (take size.0 (drop size.1 bytes))) size.0 (drop size.1 bytes)
+-- the longest payload that the port of a tunnel takes; a tunnel for IP packets has no port, and its 0 is never used
+abbrev pub limit_of : Goal → ℕ
+limit_of (Udp addr port) = port_limit addr
+limit_of (Ip area protocol) = 0
 
--- by the type, where it is whole, and the bytes from the type on
-abbrev pub by_type : Option (ℕ × ℕ) → List ℕ → Front
-by_type None bytes = More
-by_type (Some kind) bytes =
-    if nat_lt 0 kind.0 then Broken else by_length (int_of (drop kind.1 bytes)) (drop kind.1 bytes)
+-- Payload number n, in context 0: above 65,527 bytes the stream is malformed (RFC 9298, section 5), above the limit of the port it
+-- is dropped.
+abbrev pub payload_act : ℕ → ℕ → ℕ → List ℕ → Act
+payload_act limit stream n payload =
+    if nat_lt max_udp (length payload) then act.Malformed stream
+    else (if nat_lt limit (length payload) then act.Drop stream n TooLong else act.Payload stream n payload)
 
-unfoldable pub front_of : List ℕ → Front
-front_of bytes = by_type (int_of bytes) bytes
+-- Context 0 is that of UDP payloads; what is of any other is dropped, whatever its length (RFC 9298, section 4).
+abbrev pub context_act : ℕ → ℕ → ℕ → Act → Act
+context_act context stream n in_context_0 = if context == 0 then in_context_0 else act.Drop stream n UnknownContext
 
--- The bytes of a data stream, from payload n on, ask for these acts, and left is what stands behind the whole capsules: less
--- than one, or a malformed one and what follows it, of which nothing is asked.
-abbrev pub Reads : ℕ → ℕ → List ℕ → List Act → List ℕ → Type 0
-Reads stream n bytes [] left = (front_of bytes ≡ More) × (left ≡ bytes)
-Reads stream n bytes (act.Payload on k payload ∷ acts) left =
-    (on ≡ stream) × (k ≡ n) × (rest : List ℕ) × (front_of bytes ≡ Whole payload rest) × Reads stream (n + 1) rest acts left
-Reads stream n bytes (act.Malformed on ∷ acts) left = (on ≡ stream) × (front_of bytes ≡ Broken) × (acts ≡ []) × (left ≡ bytes)
-Reads stream n bytes (act.Bind on goal ∷ acts) left = ⊥
-Reads stream n bytes (act.Open on goal ∷ acts) left = ⊥
-Reads stream n bytes (act.Refuse on status rule ∷ acts) left = ⊥
+-- the stream is malformed here
+abbrev pub is_malformed : Act → Bool
+is_malformed (act.Malformed stream) = true
+is_malformed (act.Bind stream goal) = false
+is_malformed (act.Open stream goal) = false
+is_malformed (act.Refuse stream status rule) = false
+is_malformed (act.Payload stream n payload) = false
+is_malformed (act.Drop stream n cause) = false
+
+-- Behind a malformed stream nothing is asked.
+abbrev pub then_acts : Act → List Act → List Act
+then_acts a acts = a ∷ (if is_malformed a then [] else acts)
+
+-- What the items of a data stream ask for, from payload n on.
+abbrev pub acts_of : ℕ → ℕ → ℕ → List Item → List Act
+acts_of limit stream n [] = []
+acts_of limit stream n (Datagram context payload ∷ items) =
+    then_acts (context_act context stream n (payload_act limit stream n payload)) (acts_of limit stream (n + 1) items)
+acts_of limit stream n (TooLongDatagram context size ∷ items) =
+    then_acts (context_act context stream n (act.Malformed stream)) (acts_of limit stream (n + 1) items)
+acts_of limit stream n (Control kind value ∷ items) = acts_of limit stream n items
+acts_of limit stream n (Bad fault ∷ items) = act.Malformed stream ∷ []
+
+-- how many payloads these items are
+abbrev pub payload_count : List Item → ℕ
+payload_count [] = 0
+payload_count (Datagram context payload ∷ items) = 1 + payload_count items
+payload_count (TooLongDatagram context size ∷ items) = 1 + payload_count items
+payload_count (Control kind value ∷ items) = payload_count items
+payload_count (Bad fault ∷ items) = payload_count items

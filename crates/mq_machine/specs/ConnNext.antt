@@ -13,8 +13,9 @@ use Rattle.mq_talk.specs.declared.note.End.TheVariants as end
 use Rattle.mq_talk.specs.declared.note.From.{From}
 use Rattle.mq_talk.specs.declared.note.From.TheVariants as origin
 use Rattle.mq_talk.specs.declared.note.Note.{Note}
-use Rattle.mq_talk.specs.declared.note.Note.TheVariants.{Accepted, Took, Ported, Opened, Refused, Sent, Wrote, Closed, Ended}
+use Rattle.mq_talk.specs.declared.note.Note.TheVariants.{Accepted, Took, Ported, Opened, Refused, Sent, Dropped, Wrote, Closed, Ended}
 use Rattle.mq_talk.specs.declared.note.Why.TheVariants as why
+use Rattle.mq_talk.specs.declared.place.Cause.{Cause}
 use Rattle.mq_machine.specs.declared.act.Act.{Act}
 use Rattle.mq_machine.specs.declared.act.Act.TheVariants as act
 use Rattle.mq_machine.specs.declared.setup.Setup.{Setup}
@@ -56,6 +57,7 @@ pub record RefusedNext (old : Conn) (stream status rule : ℕ) (new : Conn) : Ty
 -- the act belongs to the tunnel of this stream
 abbrev pub is_on : ℕ → Act → Bool
 is_on stream (act.Payload on n payload) = on == stream
+is_on stream (act.Drop on n cause) = on == stream
 is_on stream (act.Malformed on) = on == stream
 is_on stream (act.Bind on goal) = false
 is_on stream (act.Open on goal) = false
@@ -86,7 +88,18 @@ pub record SentNext (old : Conn) (from : From) (n : ℕ) (packet : List ℕ) (ne
   pub from_is : from ≡ origin.Tunnel t.id
   pub new_is : new ≡ record old { due = rest }
 
--- A malformed capsule closes its tunnel: what waits there and what is due there is gone. The connection is ending.
+-- a payload that is due to be dropped is dropped, under the cause that is due with it
+pub record DroppedNext (old : Conn) (from : From) (n : ℕ) (cause : Cause) (new : Conn) : Type 0 where
+  pub stream : ℕ
+  pub rest : List Act
+  pub i : ℕ
+  pub t : Tunnel
+  pub due : old.due ≡ act.Drop stream n cause ∷ rest
+  pub has : HasTunnel old stream i t
+  pub from_is : from ≡ origin.Tunnel t.id
+  pub new_is : new ≡ record old { due = rest }
+
+-- A malformed data stream closes its tunnel: what waits there and what is due there is gone. The connection is ending.
 pub record ClosedNext (old : Conn) (tunnel left : ℕ) (new : Conn) : Type 0 where
   pub stream : ℕ
   pub rest : List Act
@@ -121,6 +134,7 @@ still_fails bind_fails (act.Bind stream goal ∷ acts) = false
 still_fails bind_fails (act.Open stream goal ∷ acts) = bind_fails
 still_fails bind_fails (act.Refuse stream status rule ∷ acts) = bind_fails
 still_fails bind_fails (act.Payload stream n payload ∷ acts) = bind_fails
+still_fails bind_fails (act.Drop stream n cause ∷ acts) = bind_fails
 still_fails bind_fails (act.Malformed stream ∷ acts) = bind_fails
 still_fails bind_fails [] = bind_fails
 
@@ -134,6 +148,7 @@ WantNext conn entries bind_fails old (Opened tunnel c stream kind) new calls =
 WantNext conn entries bind_fails old (Refused c stream status rule) new calls =
     (c ≡ conn) × (RefusedNext old stream status rule new ⊎ ((bind_fails ≡ true) × UnboundNext old stream status rule new)) × (calls ≡ [])
 WantNext conn entries bind_fails old (Sent from n packet) new calls = SentNext old from n packet new × (calls ≡ [])
+WantNext conn entries bind_fails old (Dropped from n cause) new calls = DroppedNext old from n cause new × (calls ≡ [])
 WantNext conn entries bind_fails old (Closed tunnel why.Malformed left) new calls =
     ClosedNext old tunnel left new × (calls ≡ call.Close tunnel ∷ [])
 WantNext conn entries bind_fails old (Closed tunnel why.Conn left) new calls =

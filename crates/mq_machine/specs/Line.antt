@@ -1,5 +1,5 @@
 -- The lines of a script: words parted by one space, numbers in decimal without leading zeros, bytes in lower-case hex.
-use Rattle.std.specs.Prelude.{◌≡◌, ◌≢◌, ℕ, ◌<◌, ◌≤◌, ◌^◌, ◌⊎◌, ◌==◌, List, [], ◌∷◌, ◌++◌, codes, if◌then◌else◌, All}
+use Rattle.std.specs.Prelude.{◌≡◌, ◌≢◌, ℕ, ◌<◌, ◌≤◌, ◌^◌, ◌⊎◌, ◌==◌, List, [], ◌∷◌, ◌++◌, codes, decimal, if◌then◌else◌, replicate, All}
 use Rattle.std.specs.List.{flat_map}
 use Rattle.hex.specs.Hex.{encode_lower}
 use Rattle.mq_machine.specs.declared.line.Line.{Line}
@@ -18,11 +18,25 @@ said b =
     else (if b == 10 then codes "\\n"
     else (if b == 92 then codes "\\\\" else b ∷ []))
 
--- the bytes in hex, or said by a text
+-- bytes in hex, of which there are some, and behind them so many of one value
+pub record IsFilled (text bytes : List ℕ) : Type 0 where
+  pub front : List ℕ
+  pub count : ℕ
+  pub byte : ℕ
+  pub some : front ≢ []
+  pub are : All (λ b. b < 256) front
+  pub least : 1 ≤ count
+  pub most : count ≤ 99999
+  pub small : byte < 256
+  pub is : text ≡ encode_lower front ++ 32 ∷ (decimal count ++ 32 ∷ encode_lower (byte ∷ []))
+  pub bytes_are : bytes ≡ front ++ replicate count byte
+
+-- the bytes in hex, or said by a text, or filled up with one value
 abbrev pub SaysPiece : List ℕ → ℕ → List ℕ → Type 0
 SaysPiece line conn bytes =
     (All (λ b. b < 256) bytes × (line ≡ codes "bytes" ++ number conn ++ 32 ∷ encode_lower bytes))
-    ⊎ (All IsSayable bytes × (line ≡ codes "text" ++ number conn ++ 32 ∷ flat_map said bytes))
+    ⊎ ((All IsSayable bytes × (line ≡ codes "text" ++ number conn ++ 32 ∷ flat_map said bytes))
+    ⊎ ((text : List ℕ) × IsFilled text bytes × (line ≡ codes "fill" ++ number conn ++ 32 ∷ text)))
 
 -- a count, which may be left out where it is 1
 abbrev pub SaysSteps : List ℕ → ℕ → ℕ → Type 0

@@ -1,5 +1,5 @@
 -- What the bytes of an HTTP/1.1 connection ask for: a request, and behind it the capsules of its data stream.
-use Rattle.std.specs.Prelude.{◌≡◌, ℕ, ◌⊎◌, List, [], ◌∷◌, ◌++◌, drop}
+use Rattle.std.specs.Prelude.{◌≡◌, ℕ, ◌⊎◌, false, List, [], ◌∷◌, ◌++◌, drop}
 use Rattle.std.specs.List.{concat}
 use Rattle.mq_addr.specs.declared.kind.Kind.TheVariants as kind
 use Rattle.mq_talk.specs.declared.goal.Goal.{Goal}
@@ -7,7 +7,9 @@ use Rattle.mq_head.specs.Heads.{IsUpgrade, IsRefused}
 use Rattle.mq_head.specs.Reader.{IsBegun}
 use Rattle.mq_machine.specs.declared.act.Act.{Act}
 use Rattle.mq_machine.specs.declared.act.Act.TheVariants as act
-use Rattle.mq_machine.specs.Capsule.{Reads}
+use Rattle.mq_capsule.specs.declared.item.Item.{Item}
+use Rattle.mq_capsule.specs.Items.{ItemsOf}
+use Rattle.mq_machine.specs.Capsule.{limit_of, acts_of}
 use Rattle.mq_machine.specs.Setup.{AllowsPath, RefusesPath}
 use Rattle.mq_machine.specs.declared.setup.Setup.{Setup}
 
@@ -35,19 +37,18 @@ pub record Decides (reads before : List (List ℕ)) (last : List ℕ) (after : L
   pub is : reads ≡ before ++ last ∷ after
   pub begun : AreBegun [] before
 
--- a request for a tunnel, and payloads behind it
+-- a request for a tunnel, and behind it the items of its data stream
 pub record AsksTunnel (setup : Setup) (reads : List (List ℕ)) (acts : List Act) : Type 0 where
   pub before : List (List ℕ)
   pub last : List ℕ
   pub after : List (List ℕ)
   pub goal : Goal
   pub used : ℕ
-  pub payloads : List Act
-  pub left : List ℕ
+  pub items : List Item
   pub decides : Decides reads before last after
   pub request : IsRequest setup (concat before ++ last) goal used
-  pub capsules : Reads 0 0 (drop used (concat before ++ last) ++ concat after) payloads left
-  pub acts_are : acts ≡ act.Bind 0 goal ∷ payloads
+  pub capsules : ItemsOf false (drop used (concat before ++ last) ++ concat after) items
+  pub acts_are : acts ≡ act.Bind 0 goal ∷ acts_of (limit_of goal) 0 0 items
 
 -- a request that is refused
 pub record AsksRefusal (setup : Setup) (reads : List (List ℕ)) (acts : List Act) : Type 0 where

@@ -8,9 +8,11 @@ use Rattle.mq_talk.specs.declared.note.End.TheVariants as end
 use Rattle.mq_talk.specs.declared.note.From.{From}
 use Rattle.mq_talk.specs.declared.note.From.TheVariants as from
 use Rattle.mq_talk.specs.declared.note.Note.{Note}
-use Rattle.mq_talk.specs.declared.note.Note.TheVariants.{Accepted, Took, Ported, Opened, Refused, Sent, Wrote, Closed, Ended}
+use Rattle.mq_talk.specs.declared.note.Note.TheVariants.{Accepted, Took, Ported, Opened, Refused, Sent, Dropped, Wrote, Closed, Ended}
 use Rattle.mq_talk.specs.declared.note.Why.{Why}
 use Rattle.mq_talk.specs.declared.note.Why.TheVariants as why
+use Rattle.mq_talk.specs.declared.place.Cause.{Cause}
+use Rattle.mq_talk.specs.declared.place.Cause.TheVariants as cause
 
 -- a space, and a number
 abbrev pub number : ℕ → List ℕ
@@ -37,6 +39,18 @@ end_text end.Refused = codes "Refused"
 end_text end.Tunnel = codes "Tunnel"
 end_text end.NoMemory = codes "NoMemory"
 
+abbrev pub cause_text : Cause → List ℕ
+cause_text cause.UnknownContext = codes "UnknownContext"
+cause_text cause.BadHeader = codes "BadHeader"
+cause_text cause.TooLong = codes "TooLong"
+cause_text cause.Source = codes "Source"
+cause_text cause.NoRoute = codes "NoRoute"
+cause_text cause.InboxFull = codes "InboxFull"
+cause_text cause.Gone = codes "Gone"
+cause_text cause.HopLimit = codes "HopLimit"
+cause_text cause.QueueFull = codes "QueueFull"
+cause_text cause.Port = codes "Port"
+
 -- the rule that refused, at status 403 alone
 abbrev pub rule_text : ℕ → ℕ → List ℕ
 rule_text status rule = if status == 403 then codes " rule" ++ number rule else []
@@ -51,6 +65,7 @@ note_text (Opened tunnel conn stream kind) =
 note_text (Refused conn stream status rule) =
     codes "refused" ++ number conn ++ number stream ++ number status ++ rule_text status rule
 note_text (Sent from n packet) = codes "sent " ++ from_text from ++ number n ++ codes " " ++ payload_text packet
+note_text (Dropped from n cause) = codes "dropped " ++ from_text from ++ number n ++ codes " " ++ cause_text cause
 note_text (Wrote conn bytes) = codes "wrote" ++ number conn ++ codes " " ++ encode_lower bytes
 note_text (Closed tunnel reason left) =
     codes "closed" ++ number tunnel ++ codes " " ++ why_text reason ++ codes " left" ++ number left

@@ -1,5 +1,5 @@
-//! The machine that a replay is a run of: the acts that bytes ask for, the lines of a script, the setup of a proxy, and in specs/
-//! the states, what each note requires and changes, whose turn it is, and the play of a script.
+//! The machine that a replay is a run of: the acts that bytes ask for, the lines of a script, the setup of a proxy, and
+//! in specs/ the states, what each note requires and changes, whose turn it is, and the play of a script.
 #![tactic(auto)]
 
 mod act;

@@ -1,50 +1,17 @@
 -- The reads of a connection ask for one list of acts.
-use Rattle.std.proofs.Common.{◌≡◌, ℕ, ◌+◌, List, [], ◌∷◌, ◌++◌, drop, refl, sym, ap, subst, ◌∙◌, inl, inr, append_assoc}
+use Rattle.std.proofs.Common.{◌≡◌, ℕ, false, List, [], ◌∷◌, ◌++◌, drop, refl, sym, ap, subst, ◌∙◌, inl, inr, append_assoc}
 use Rattle.std.specs.List.{concat}
 use Rattle.mq_head.specs.Reader.{IsBegun}
+use Rattle.mq_capsule.specs.declared.item.Item.{Item}
+use Rattle.mq_capsule.specs.Items.{ItemsOf}
+use Rattle.mq_talk.specs.declared.goal.Goal.{Goal}
 use Rattle.mq_machine.specs.declared.act.Act.{Act}
-use Rattle.mq_machine.specs.declared.act.Act.TheVariants.{Bind, Open, Refuse, Payload, Malformed}
+use Rattle.mq_machine.specs.declared.act.Act.TheVariants.{Bind, Refuse}
 use Rattle.mq_machine.specs.declared.setup.Setup.{Setup}
-use Rattle.mq_machine.specs.Capsule.{Reads}
+use Rattle.mq_machine.specs.Capsule.{limit_of, acts_of}
 use Rattle.mq_machine.specs.Request.{AreBegun, Decides, AsksTunnel, AsksRefusal, Asks, IsRequest, IsRefusedRequest}
 use Rattle.mq_plays.specs.Setups.{IsTold}
 use Rattle.mq_plays.proofs.Requests.{Known, one_request, request_or_refused, one_refusal, begun_or_request, begun_or_refusal}
-
--- a data stream asks for one list of acts
-one_reading : (a b : List Act) (stream n : ℕ) (bytes left rest : List ℕ) → Reads stream n bytes a left → Reads stream n bytes b rest → a ≡ b
-one_reading [] [] stream n bytes left rest x y = refl
-one_reading [] (Payload on k payload ∷ ms) stream n bytes left rest x y = let e = x.0 in let f = y.3 in absurd cc
-one_reading [] (Malformed on ∷ ms) stream n bytes left rest x y = let e = x.0 in let f = y.1 in absurd cc
-one_reading [] (Bind on goal ∷ ms) stream n bytes left rest x y = absurd y
-one_reading [] (Open on goal ∷ ms) stream n bytes left rest x y = absurd y
-one_reading [] (Refuse on status rule ∷ ms) stream n bytes left rest x y = absurd y
-one_reading (Payload on k payload ∷ ls) [] stream n bytes left rest x y = let e = x.3 in let f = y.0 in absurd cc
-one_reading (Payload on k payload ∷ ls) (Payload on' k' payload' ∷ ms) stream n bytes left rest x y =
-    let e = x.3 in
-    let f = y.3 in
-    let payloads : payload ≡ payload' = cc in
-    let behind : y.2 ≡ x.2 = cc in
-    let ons = x.0 ∙ sym y.0 in
-    let ks = x.1 ∙ sym y.1 in
-    let P : List ℕ → Type 0 = λ xs. Reads stream (n + 1) xs ms rest in
-    let acts = one_reading ls ms stream (n + 1) x.2 left rest x.4 (subst P behind y.4) in
-    cc
-one_reading (Payload on k payload ∷ ls) (Malformed on' ∷ ms) stream n bytes left rest x y = let e = x.3 in let f = y.1 in absurd cc
-one_reading (Payload on k payload ∷ ls) (Bind on' goal ∷ ms) stream n bytes left rest x y = absurd y
-one_reading (Payload on k payload ∷ ls) (Open on' goal ∷ ms) stream n bytes left rest x y = absurd y
-one_reading (Payload on k payload ∷ ls) (Refuse on' status rule ∷ ms) stream n bytes left rest x y = absurd y
-one_reading (Malformed on ∷ ls) [] stream n bytes left rest x y = let e = x.1 in let f = y.0 in absurd cc
-one_reading (Malformed on ∷ ls) (Payload on' k payload ∷ ms) stream n bytes left rest x y = let e = x.1 in let f = y.3 in absurd cc
-one_reading (Malformed on ∷ ls) (Malformed on' ∷ ms) stream n bytes left rest x y =
-    let ons = x.0 ∙ sym y.0 in
-    let acts = x.2 ∙ sym y.2 in
-    cc
-one_reading (Malformed on ∷ ls) (Bind on' goal ∷ ms) stream n bytes left rest x y = absurd y
-one_reading (Malformed on ∷ ls) (Open on' goal ∷ ms) stream n bytes left rest x y = absurd y
-one_reading (Malformed on ∷ ls) (Refuse on' status rule ∷ ms) stream n bytes left rest x y = absurd y
-one_reading (Bind on goal ∷ ls) b stream n bytes left rest x y = absurd x
-one_reading (Open on goal ∷ ls) b stream n bytes left rest x y = absurd x
-one_reading (Refuse on status rule ∷ ls) b stream n bytes left rest x y = absurd x
 
 front_begun : (reads : List (List ℕ)) (front : List ℕ) → AreBegun front reads → IsBegun front
 front_begun [] front h = h
@@ -96,12 +63,9 @@ one_tunnel known setup told reads a b x y =
     let goal = one_request known setup told (concat x.before ++ x.last) x.goal y.goal x.used y.used x.request (subst (λ (bytes : List ℕ). IsRequest setup bytes y.goal y.used) (sym head) y.request) in
     let behind : drop x.used (concat x.before ++ x.last) ++ concat x.after ≡ drop y.used (concat y.before ++ y.last) ++ concat y.after =
     ap (λ (n : ℕ). drop n (concat x.before ++ x.last) ++ concat x.after) goal.1 ∙ ap (λ (xs : List ℕ). drop y.used xs ++ concat x.after) head ∙ ap (λ (rs : List (List ℕ)). drop y.used (concat y.before ++ y.last) ++ concat rs) same.2 in
-    let P : List ℕ → Type 0 = λ xs. Reads 0 0 xs y.payloads y.left in
-    let payloads = one_reading x.payloads y.payloads 0 0 _ x.left y.left x.capsules (subst P (sym behind) y.capsules) in
-    let place = goal.0 in
-    let is = x.acts_are in
-    let others = y.acts_are in
-    cc
+    let P : List ℕ → Type 0 = λ xs. ItemsOf false xs y.items in
+    let items = known.capsules false _ x.items y.items x.capsules (subst P (sym behind) y.capsules) in
+    x.acts_are ∙ ap (λ (g : Goal). Bind 0 g ∷ acts_of (limit_of g) 0 0 x.items) goal.0 ∙ ap (λ (is : List Item). Bind 0 y.goal ∷ acts_of (limit_of y.goal) 0 0 is) items ∙ sym y.acts_are
 
 one_refused : Known → (setup : Setup) → IsTold setup → (reads : List (List ℕ)) (a b : List Act) → AsksRefusal setup reads a → AsksRefusal setup reads b → a ≡ b
 one_refused known setup told reads a b x y =

@@ -1,16 +1,19 @@
 -- A connection has one tunnel at most.
-use Rattle.std.proofs.Common.{◌≡◌, ℕ, suc, ◌+◌, ◌≤◌, Bool, true, false, cond, not, List, [], ◌∷◌, ◌++◌, length, take, drop, remove, Some, refl, sym, ap, subst, ◌∙◌, arith, inl, inr}
+use Rattle.std.proofs.Common.{◌≡◌, ℕ, suc, ◌+◌, ◌≤◌, Bool, true, false, cond, not, ◌==◌, nat_lt, List, [], ◌∷◌, ◌++◌, length, take, drop, remove, Some, refl, sym, ap, subst, ◌∙◌, arith, inl, inr}
 use Rattle.std.proofs.lemmas.List.{length-append, length-take, length-drop}
+use Rattle.mq_capsule.specs.declared.item.Item.{Item}
+use Rattle.mq_capsule.specs.declared.item.Item.TheVariants.{Datagram, TooLongDatagram, Control, Bad}
 use Rattle.mq_head.specs.Answers.{refusal_text}
 use Rattle.mq_talk.specs.declared.book.Call.{Call}
 use Rattle.mq_talk.specs.declared.note.End.TheVariants as end
 use Rattle.mq_talk.specs.declared.note.Note.{Note}
-use Rattle.mq_talk.specs.declared.note.Note.TheVariants.{Accepted, Took, Ported, Opened, Refused, Sent, Wrote, Closed, Ended}
+use Rattle.mq_talk.specs.declared.note.Note.TheVariants.{Accepted, Took, Ported, Opened, Refused, Sent, Dropped, Wrote, Closed, Ended}
 use Rattle.mq_talk.specs.declared.note.Why.TheVariants as why
+use Rattle.mq_talk.specs.declared.place.Cause.TheVariants.{UnknownContext, TooLong}
 use Rattle.mq_machine.specs.declared.act.Act.{Act}
 use Rattle.mq_machine.specs.declared.act.Act.TheVariants as act
 use Rattle.mq_machine.specs.declared.setup.Setup.{Setup}
-use Rattle.mq_machine.specs.Capsule.{Reads}
+use Rattle.mq_machine.specs.Capsule.{max_udp, limit_of, context_act, payload_act, is_malformed, then_acts, acts_of}
 use Rattle.mq_machine.specs.Request.{Asks}
 use Rattle.mq_machine.specs.State.{Conn, Tunnel, new_conn}
 use Rattle.mq_machine.specs.ConnNext.{is_on, without, WantNext, WroteNext, TookNext, starved}
@@ -25,6 +28,7 @@ opens (act.Bind stream goal ∷ acts) = opens acts + 1
 opens (act.Open stream goal ∷ acts) = opens acts + 1
 opens (act.Refuse stream status rule ∷ acts) = opens acts
 opens (act.Payload stream n payload ∷ acts) = opens acts
+opens (act.Drop stream n cause ∷ acts) = opens acts
 opens (act.Malformed stream ∷ acts) = opens acts
 
 -- It has one tunnel at most, or will open one; and none where its bytes ask for nothing yet.
@@ -53,6 +57,7 @@ one_less (act.Bind stream goal) acts = omega arith
 one_less (act.Open stream goal) acts = omega arith
 one_less (act.Refuse stream status rule) acts = omega arith
 one_less (act.Payload stream n payload) acts = omega arith
+one_less (act.Drop stream n cause) acts = omega arith
 one_less (act.Malformed stream) acts = omega arith
 
 more_by_one : (a : Act) (acts : List Act) → opens (a ∷ acts) ≤ opens acts + 1
@@ -60,6 +65,7 @@ more_by_one (act.Bind stream goal) acts = omega arith
 more_by_one (act.Open stream goal) acts = omega arith
 more_by_one (act.Refuse stream status rule) acts = omega arith
 more_by_one (act.Payload stream n payload) acts = omega arith
+more_by_one (act.Drop stream n cause) acts = omega arith
 more_by_one (act.Malformed stream) acts = omega arith
 
 both_opens : (a : Act) (xs ys : List Act) → opens xs ≤ opens ys → opens (a ∷ xs) ≤ opens (a ∷ ys)
@@ -67,6 +73,7 @@ both_opens (act.Bind stream goal) xs ys h = omega arith
 both_opens (act.Open stream goal) xs ys h = omega arith
 both_opens (act.Refuse stream status rule) xs ys h = omega arith
 both_opens (act.Payload stream n payload) xs ys h = omega arith
+both_opens (act.Drop stream n cause) xs ys h = omega arith
 both_opens (act.Malformed stream) xs ys h = omega arith
 
 kept_opens : (b : Bool) (a : Act) (xs ys : List Act) → opens xs ≤ opens ys → opens (cond b (a ∷ xs) xs) ≤ opens (a ∷ ys)
@@ -114,6 +121,11 @@ want_one setup conn entries bind_fails old (Sent from n packet) new calls h one 
     let was = ap opens p.due in
     let next : Conn = record old { due = p.rest } in
     subst (IsOne setup) (sym p.new_is) (no_more setup old next refl (omega arith) one)
+want_one setup conn entries bind_fails old (Dropped from n cause) new calls h one =
+    let p = h.0 in
+    let was = ap opens p.due in
+    let next : Conn = record old { due = p.rest } in
+    subst (IsOne setup) (sym p.new_is) (no_more setup old next refl (omega arith) one)
 want_one setup conn entries bind_fails old (Closed tunnel why.Malformed left) new calls h one =
     let p = h.0 in
     let was = ap opens p.due in
@@ -139,14 +151,42 @@ wrote_one setup old bytes new w one =
 pub starved_one : (setup : Setup) (c : Conn) → IsOne setup c → IsOne setup (starved c)
 starved_one setup c one = no_more setup c (starved c) refl (omega arith) one
 
--- capsules open nothing
-capsules_open : (acts : List Act) (stream n : ℕ) (bytes left : List ℕ) → Reads stream n bytes acts left → opens acts ≡ 0
-capsules_open [] stream n bytes left r = refl
-capsules_open (act.Payload on k payload ∷ acts) stream n bytes left r = capsules_open acts stream (n + 1) r.2 left r.4
-capsules_open (act.Malformed on ∷ acts) stream n bytes left r = ap opens r.2
-capsules_open (act.Bind on goal ∷ acts) stream n bytes left r = absurd r
-capsules_open (act.Open on goal ∷ acts) stream n bytes left r = absurd r
-capsules_open (act.Refuse on status rule ∷ acts) stream n bytes left r = absurd r
+-- what items ask for opens nothing
+either_opens : (b : Bool) (x y : Act) → opens (x ∷ []) ≡ 0 → opens (y ∷ []) ≡ 0 → opens (cond b x y ∷ []) ≡ 0
+either_opens true x y p q = p
+either_opens false x y p q = q
+
+payload_opens : (limit n : ℕ) (payload : List ℕ) → opens (payload_act limit 0 n payload ∷ []) ≡ 0
+payload_opens limit n payload =
+    either_opens (nat_lt max_udp (length payload)) (act.Malformed 0) (cond (nat_lt limit (length payload)) (act.Drop 0 n TooLong) (act.Payload 0 n payload)) refl
+    (either_opens (nat_lt limit (length payload)) (act.Drop 0 n TooLong) (act.Payload 0 n payload) refl refl)
+
+context_opens : (context n : ℕ) (known : Act) → opens (known ∷ []) ≡ 0 → opens (context_act context 0 n known ∷ []) ≡ 0
+context_opens context n known h = either_opens (context == 0) known (act.Drop 0 n UnknownContext) h refl
+
+none_or_rest : (b : Bool) (acts : List Act) → opens acts ≡ 0 → opens (cond b [] acts) ≡ 0
+none_or_rest true acts h = refl
+none_or_rest false acts h = h
+
+two_open : (a : Act) (acts : List Act) → opens (a ∷ []) ≡ 0 → opens acts ≡ 0 → opens (a ∷ acts) ≡ 0
+two_open (act.Bind stream goal) acts h k = absurd (omega (arith, h))
+two_open (act.Open stream goal) acts h k = absurd (omega (arith, h))
+two_open (act.Refuse stream status rule) acts h k = k
+two_open (act.Payload stream n payload) acts h k = k
+two_open (act.Drop stream n cause) acts h k = k
+two_open (act.Malformed stream) acts h k = k
+
+then_opens : (a : Act) (acts : List Act) → opens (a ∷ []) ≡ 0 → opens acts ≡ 0 → opens (then_acts a acts) ≡ 0
+then_opens a acts h k = two_open a (cond (is_malformed a) [] acts) h (none_or_rest (is_malformed a) acts k)
+
+items_open : (limit n : ℕ) (items : List Item) → opens (acts_of limit 0 n items) ≡ 0
+items_open limit n [] = refl
+items_open limit n (Datagram context payload ∷ items) =
+    then_opens (context_act context 0 n (payload_act limit 0 n payload)) (acts_of limit 0 (n + 1) items) (context_opens context n (payload_act limit 0 n payload) (payload_opens limit n payload)) (items_open limit (n + 1) items)
+items_open limit n (TooLongDatagram context size ∷ items) =
+    then_opens (context_act context 0 n (act.Malformed 0)) (acts_of limit 0 (n + 1) items) (context_opens context n (act.Malformed 0) refl) (items_open limit (n + 1) items)
+items_open limit n (Control kind value ∷ items) = items_open limit n items
+items_open limit n (Bad fault ∷ items) = refl
 
 -- what is asked for opens a tunnel first, or none
 tail_opens : (setup : Setup) (reads : List (List ℕ)) (a : Act) (acts : List Act) → Asks setup reads (a ∷ acts) → opens acts ≡ 0
@@ -154,8 +194,8 @@ tail_opens setup reads a acts x =
     elim x [
       | inl t ↦ (
           let is = t.acts_are in
-          let tail : acts ≡ t.payloads = cc in
-          ap opens tail ∙ capsules_open t.payloads 0 0 _ t.left t.capsules
+          let tail : acts ≡ acts_of (limit_of t.goal) 0 0 t.items = cc in
+          ap opens tail ∙ items_open (limit_of t.goal) 0 t.items
           )
       | inr (inl r) ↦ (let is = r.acts_are in let tail : acts ≡ [] = cc in ap opens tail)
       | inr (inr n) ↦ (let is = n.acts_are in absurd cc)

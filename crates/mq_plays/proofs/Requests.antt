@@ -13,17 +13,19 @@ use Rattle.mq_policy.specs.declared.decision.Decision.TheVariants.{Go, Denied, U
 use Rattle.mq_policy.specs.Decisions.{Decides, HasOneDecision}
 use Rattle.mq_head.specs.Reader.{IsBegun}
 use Rattle.mq_head.specs.Laws.{OneAnswer}
+use Rattle.mq_capsule.specs.Laws.{IsReadOnce}
 use Rattle.mq_machine.specs.declared.setup.Setup.{Setup}
 use Rattle.mq_machine.specs.Setup.{AllowsPath, RefusesTarget, RefusesPath}
 use Rattle.mq_machine.specs.Request.{IsRequest, IsRefusedRequest}
 use Rattle.mq_plays.specs.Setups.{IsTold}
 use Rattle.mq_plays.proofs.Heads.{begun_or_up, begun_or_refused, up_or_refused, one_refused, one_up}
 
--- What is known of leaves: a text has one first separator, bytes have one answer, a path is one thing to a template, and a
+-- What is known of leaves: a text has one first separator, bytes have one answer, a data stream says one thing, a path is one thing to a template, and a
 -- policy decides in one way on a target.
 pub record Known : Type 0 where
   pub cut : IsCutOnce
   pub answer : OneAnswer
+  pub capsules : IsReadOnce
   pub reading : HasOneReading
   pub decision : HasOneDecision
 

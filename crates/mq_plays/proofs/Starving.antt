@@ -4,7 +4,7 @@ use Rattle.std.proofs.lemmas.List.{length-append}
 use Rattle.mq_talk.specs.declared.book.Call.{Call}
 use Rattle.mq_talk.specs.declared.note.End.{End}
 use Rattle.mq_talk.specs.declared.note.Note.{Note}
-use Rattle.mq_talk.specs.declared.note.Note.TheVariants.{Accepted, Took, Ported, Opened, Refused, Sent, Wrote, Closed, Ended}
+use Rattle.mq_talk.specs.declared.note.Note.TheVariants.{Accepted, Took, Ported, Opened, Refused, Sent, Dropped, Wrote, Closed, Ended}
 use Rattle.mq_talk.specs.declared.note.Why.TheVariants as why
 use Rattle.mq_machine.specs.declared.line.Line.{Line}
 use Rattle.mq_machine.specs.declared.line.Line.TheVariants as line
@@ -63,6 +63,7 @@ want_living conn entries bind_fails old (Refused c stream status rule) new calls
       | inr unbound ↦ (let none = ap (λ (k : Conn). living k.ending) unbound.1.new_is in omega arith)
     ]
 want_living conn entries bind_fails old (Sent from n packet) new calls h = same_living old new (ap (λ (k : Conn). k.ending) h.0.new_is)
+want_living conn entries bind_fails old (Dropped from n cause) new calls h = same_living old new (ap (λ (k : Conn). k.ending) h.0.new_is)
 want_living conn entries bind_fails old (Closed tunnel why.Malformed left) new calls h = let none = ap (λ (k : Conn). living k.ending) h.0.new_is in omega arith
 want_living conn entries bind_fails old (Closed tunnel why.Conn left) new calls h = same_living old new (ap (λ (k : Conn). k.ending) h.0.new_is)
 want_living conn entries bind_fails old (Accepted c actor) new calls h = absurd h

@@ -8,7 +8,7 @@ use Rattle.mq_talk.specs.declared.note.End.{End}
 use Rattle.mq_talk.specs.declared.note.End.TheVariants as end
 use Rattle.mq_talk.specs.declared.note.From.TheVariants as origin
 use Rattle.mq_talk.specs.declared.note.Note.{Note}
-use Rattle.mq_talk.specs.declared.note.Note.TheVariants.{Accepted, Took, Ported, Opened, Refused, Sent, Wrote, Closed, Ended}
+use Rattle.mq_talk.specs.declared.note.Note.TheVariants.{Accepted, Took, Ported, Opened, Refused, Sent, Dropped, Wrote, Closed, Ended}
 use Rattle.mq_talk.specs.declared.note.Why.TheVariants as why
 use Rattle.mq_machine.specs.declared.act.Act.{Act}
 use Rattle.mq_machine.specs.declared.act.Act.TheVariants as act
@@ -40,6 +40,8 @@ act_step conn entries bind_fails c (act.Refuse stream status rule) rest tunnels 
 )
 act_step conn entries bind_fails c (act.Payload stream n packet) rest [] = None
 act_step conn entries bind_fails c (act.Payload stream n packet) rest (t ∷ ts) = Some (Sent (origin.Tunnel t.id) n packet, record c { due = rest }, [])
+act_step conn entries bind_fails c (act.Drop stream n cause) rest [] = None
+act_step conn entries bind_fails c (act.Drop stream n cause) rest (t ∷ ts) = Some (Dropped (origin.Tunnel t.id) n cause, record c { due = rest }, [])
 act_step conn entries bind_fails c (act.Malformed stream) rest [] = None
 act_step conn entries bind_fails c (act.Malformed stream) rest (t ∷ ts) = Some (
   Closed t.id why.Malformed (length t.waiting),
@@ -106,6 +108,11 @@ wants conn entries bind_fails old (Sent from n packet) new calls few h =
     let one = only_tunnel old.tunnels p.i p.t few p.has.at in
     step_at conn entries bind_fails old (act.Payload p.stream n packet ∷ p.rest) (p.t ∷ []) _ p.due one.0
     (step_is (Sent (origin.Tunnel p.t.id) n packet) (Sent from n packet) _ new [] calls (ap (λ f. Sent f n packet) (sym p.from_is)) (sym p.new_is) (sym h.1))
+wants conn entries bind_fails old (Dropped from n cause) new calls few h =
+    let p = h.0 in
+    let one = only_tunnel old.tunnels p.i p.t few p.has.at in
+    step_at conn entries bind_fails old (act.Drop p.stream n cause ∷ p.rest) (p.t ∷ []) _ p.due one.0
+    (step_is (Dropped (origin.Tunnel p.t.id) n cause) (Dropped from n cause) _ new [] calls (ap (λ f. Dropped f n cause) (sym p.from_is)) (sym p.new_is) (sym h.1))
 wants conn entries bind_fails old (Closed tunnel why.Malformed left) new calls few h =
     let p = h.0 in
     let one = only_tunnel old.tunnels p.i p.t few p.has.at in

@@ -1,6 +1,7 @@
 //! What was printed so far is a front of what the whole script prints, where no step was refused memory.
 ghost use Rattle.mq_plays.specs.Laws.{IsPartFront, IsPartFrontOfBad, IsSoFarFront, IsSoFarFrontOfBad};
 
+use mq_capsule::is_read_once;
 use mq_head::one_answer;
 use mq_policy::one_decision;
 use mq_script::says_one;
@@ -13,6 +14,7 @@ pub fn part_is_front()
 {
     cut_once();
     one_answer();
+    is_read_once();
     one_reading();
     one_decision();
     says_one();
@@ -24,6 +26,7 @@ pub fn part_is_front_of_bad()
 {
     cut_once();
     one_answer();
+    is_read_once();
     one_reading();
     one_decision();
     says_one();
@@ -35,6 +38,7 @@ pub fn so_far_is_front()
 {
     cut_once();
     one_answer();
+    is_read_once();
     one_reading();
     one_decision();
     says_one();
@@ -46,6 +50,7 @@ pub fn so_far_is_front_of_bad()
 {
     cut_once();
     one_answer();
+    is_read_once();
     one_reading();
     one_decision();
     says_one();

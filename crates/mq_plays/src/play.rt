@@ -1,6 +1,7 @@
 //! What a script prints, where no step of its play is refused memory, is one text.
 ghost use Rattle.mq_plays.specs.Laws.{HasOnePlay, HasOnePlaySoFar, HasOneBadPlay};
 
+use mq_capsule::is_read_once;
 use mq_head::one_answer;
 use mq_policy::one_decision;
 use mq_script::says_one;
@@ -13,6 +14,7 @@ pub fn one_play()
 {
     cut_once();
     one_answer();
+    is_read_once();
     one_reading();
     one_decision();
     says_one();
@@ -24,6 +26,7 @@ pub fn one_play_so_far()
 {
     cut_once();
     one_answer();
+    is_read_once();
     one_reading();
     one_decision();
     says_one();
@@ -35,6 +38,7 @@ pub fn one_bad_play()
 {
     cut_once();
     one_answer();
+    is_read_once();
     one_reading();
     one_decision();
     says_one();

@@ -1,6 +1,7 @@
 //! An actor has one turn.
 ghost use Rattle.mq_plays.specs.Laws.{HasOneTurn, IsTurnOrQuiet};
 
+use mq_capsule::is_read_once;
 use mq_head::one_answer;
 use mq_policy::one_decision;
 use mq_target::one_reading;
@@ -12,6 +13,7 @@ pub fn one_turn()
 {
     cut_once();
     one_answer();
+    is_read_once();
     one_reading();
     one_decision();
 }

@@ -9,6 +9,7 @@ use Rattle.hex.specs.Hex.{IsBytes, decode_of, decode_pairs, digit_or_error, hex_
 use Rattle.hex.specs.declared.error.FromHexError.{FromHexError}
 use Rattle.hex.specs.declared.error.FromHexError.TheVariants.{OutOfMemory}
 use Rattle.hex.proofs.HexLemmas.{decode_of-encode_lower, decode_of-ok, decode_of-even}
+use Rattle.mq_text.specs.Cut.{Lacks}
 use Rattle.mq_script.specs.Words.{IsHexOf, IsParsed}
 use Rattle.mq_script.specs.declared.fault.LineFault.{LineFault}
 use Rattle.mq_script.specs.declared.fault.LineFault.TheVariants.{Syntax, NoMemory}
@@ -140,3 +141,21 @@ hex_refused text e n (inr is) value h = let read = hex_read text value h in cc
 pub hex_fault : (text : List ℕ) (e : FromHexError) (fault : LineFault) → (fault ≡ Syntax → e ≢ OutOfMemory) → (e ≡ OutOfMemory) ⊎ (decode_of text ≡ Err e) → IsParsed {T = List ℕ} (IsHexOf text) (Err fault)
 hex_fault text e Syntax gives told = hex_refused text e (gives refl) told
 hex_fault text e NoMemory gives told = tt
+
+-- no digit is a space
+digit_seen : (d : ℕ) → d < 16 → slice_index lower_digits d ≡ 32 → ⊥
+digit_seen d h e =
+    elim (cases_lt d 10) [
+      | inl small ↦ (let is : glyph d ≡ 48 + d = grind (arith, nat_tests) in absurd (omega (arith, digit_is d h, e, is)))
+      | inr great ↦ (let is : glyph d ≡ 87 + d = grind (arith, nat_tests) in absurd (omega (arith, digit_is d h, e, is)))
+    ]
+
+encoded_lacks : (bytes : List ℕ) → IsBytes bytes → Lacks 32 (encode_lower bytes)
+unfolding encode_with
+encoded_lacks [] h = tt
+encoded_lacks (b ∷ bs) h =
+    let fits : b < 256 = h 0 in
+    (digit_seen (b / 16) (omega arith), (digit_seen (b % 16) (omega arith), encoded_lacks bs (λ k. h (suc k))))
+
+pub hex_lacks : (bytes : List ℕ) → All (λ b. b < 256) bytes → Lacks 32 (encode_lower bytes)
+hex_lacks bytes h = encoded_lacks bytes (bytes_from_all bytes h)

@@ -1,5 +1,6 @@
 pub mod Answered
 pub mod Growth
+pub mod Fills
 pub mod Hexes
 pub mod Lines
 pub mod Lists

@@ -8,7 +8,7 @@ use Rattle.mq_machine.specs.Text.{number}
 use Rattle.mq_machine.specs.declared.line.Line.{Line}
 use Rattle.mq_machine.specs.declared.line.Line.TheVariants.{Blank, Setting, Conn, Piece, FailBind, Steps}
 use Rattle.mq_text.specs.Cut.{Lacks, IsCut, IsCutOnce}
-use Rattle.mq_machine.specs.Line.{Says, SaysNothing, SaysOne, SaysSteps, said}
+use Rattle.mq_machine.specs.Line.{Says, SaysNothing, SaysOne, SaysSteps, said, IsFilled}
 use Rattle.mq_machine.specs.Setting.{SaysOneSetting}
 use Rattle.mq_script.specs.Told.{setting_word}
 use Rattle.mq_script.specs.Words.{IsParsed, IsConn, IsHexOf, IsTextOf, SaysPieceBy, SaysStep, SaysBehind, SaysInWords, SaysAlone, SaysSome, word_text}
@@ -19,6 +19,7 @@ use Rattle.mq_script.specs.declared.setting_word.SettingWord.TheVariants as sett
 use Rattle.mq_script.specs.declared.word.Word.{Word}
 use Rattle.mq_script.specs.declared.word.Word.TheVariants as word
 use Rattle.mq_script.proofs.Answered.{parsed_same}
+use Rattle.mq_script.proofs.Fills.{one_filled}
 use Rattle.mq_script.proofs.Hexes.{one_hex}
 use Rattle.mq_script.proofs.Numbers.{lacks_decimal, holds_separator, one_number, one_conn, fits_actor, fits_steps}
 use Rattle.mq_script.proofs.Pieces.{IsOne}
@@ -34,6 +35,7 @@ pub word_lacks : (w : Word) → Lacks 32 (word_text w)
 word_lacks word.Conn = (letter 99 (omega arith), (letter 111 (omega arith), (letter 110 (omega arith), (letter 110 (omega arith), tt))))
 word_lacks word.Bytes = (letter 98 (omega arith), (letter 121 (omega arith), (letter 116 (omega arith), (letter 101 (omega arith), (letter 115 (omega arith), tt)))))
 word_lacks word.Text = (letter 116 (omega arith), (letter 101 (omega arith), (letter 120 (omega arith), (letter 116 (omega arith), tt))))
+word_lacks word.Fill = (letter 102 (omega arith), (letter 105 (omega arith), (letter 108 (omega arith), (letter 108 (omega arith), tt))))
 word_lacks word.Step = (letter 115 (omega arith), (letter 116 (omega arith), (letter 101 (omega arith), (letter 112 (omega arith), tt))))
 word_lacks (word.Setting w) = words_lack (setting_word w) w refl
 
@@ -42,11 +44,12 @@ abbrev word_by : ℕ → ℕ → Word
 word_by first third =
     if first == 99 then word.Conn
     else (if first == 98 then word.Bytes
+    else (if first == 102 then word.Fill
     else (if first == 115 then word.Step
     else (if first == 110 then word.Setting setting.Name
     else (if first == 97 then word.Setting setting.Allow
     else (if first == 100 then word.Setting setting.Deny
-    else (if third == 120 then word.Text else word.Setting setting.Template))))))
+    else (if third == 120 then word.Text else word.Setting setting.Template)))))))
 
 abbrev word_of : List ℕ → Word
 word_of text = word_by (get_or text 0 0) (get_or text 2 0)
@@ -55,6 +58,7 @@ word_back : (w : Word) → word_of (word_text w) ≡ w
 word_back word.Conn = refl
 word_back word.Bytes = refl
 word_back word.Text = refl
+word_back word.Fill = refl
 word_back word.Step = refl
 word_back (word.Setting setting.Template) = refl
 word_back (word.Setting setting.Name) = refl
@@ -76,6 +80,7 @@ word_first : (w : Word) (rest : List ℕ) → (first (word_text w ++ 32 ∷ rest
 word_first word.Conn rest = refl
 word_first word.Bytes rest = refl
 word_first word.Text rest = refl
+word_first word.Fill rest = refl
 word_first word.Step rest = refl
 word_first (word.Setting setting.Template) rest = refl
 word_first (word.Setting setting.Name) rest = refl
@@ -111,11 +116,17 @@ say_words line (Piece conn bytes) h =
           let piece : SaysPieceBy IsHexOf rest (Piece conn bytes) = record { conn = conn; behind = encode_lower bytes; bytes = bytes; is = is; some = h.1; says = (hex.0, refl); line_is = refl } in
           inr (inr (in_words line (Piece conn bytes) word.Bytes rest hex.1 piece))
           )
-      | inr text ↦ (
+      | inr (inl text) ↦ (
           let rest = decimal conn ++ 32 ∷ flat_map said bytes in
           let is : IsConn rest conn (flat_map said bytes) = record { small = h.0; is = refl } in
           let piece : SaysPieceBy IsTextOf rest (Piece conn bytes) = record { conn = conn; behind = flat_map said bytes; bytes = bytes; is = is; some = h.1; says = (text.0, refl); line_is = refl } in
           inr (inr (in_words line (Piece conn bytes) word.Text rest text.1 piece))
+          )
+      | inr (inr (text, filled, told)) ↦ (
+          let rest = decimal conn ++ 32 ∷ text in
+          let is : IsConn rest conn text = record { small = h.0; is = refl } in
+          let piece : SaysPieceBy IsFilled rest (Piece conn bytes) = record { conn = conn; behind = text; bytes = bytes; is = is; some = h.1; says = filled; line_is = refl } in
+          inr (inr (in_words line (Piece conn bytes) word.Fill rest told piece))
           )
     ]
 say_words line (Steps actor count) h =
@@ -141,7 +152,10 @@ words_say line word.Bytes rest said is h =
     subst (Says line) (sym h.line_is) (h.is.small, h.some, inl (h.says.0, text))
 words_say line word.Text rest said is h =
     let text = is ∙ ap (λ (xs : List ℕ). word_text word.Text ++ 32 ∷ xs) (h.is.is ∙ ap (λ (xs : List ℕ). decimal h.conn ++ 32 ∷ xs) h.says.1) in
-    subst (Says line) (sym h.line_is) (h.is.small, h.some, inr (h.says.0, text))
+    subst (Says line) (sym h.line_is) (h.is.small, h.some, inr (inl (h.says.0, text)))
+words_say line word.Fill rest said is h =
+    let text = is ∙ ap (λ (xs : List ℕ). word_text word.Fill ++ 32 ∷ xs) h.is.is in
+    subst (Says line) (sym h.line_is) (h.is.small, h.some, inr (inr (h.behind, h.says, text)))
 words_say line word.Step rest said is h =
     subst (Says line) (sym h.line_is) (
       h.last,
@@ -198,6 +212,7 @@ behind_once once one word.Conn rest a b h k =
     h.3 ∙ ap Conn same ∙ sym k.3
 behind_once once one word.Bytes rest a b h k = pieces_once once IsHexOf one_hex rest a b h k
 behind_once once one word.Text rest a b h k = pieces_once once IsTextOf one_text rest a b h k
+behind_once once one word.Fill rest a b h k = pieces_once once IsFilled (one_filled once) rest a b h k
 behind_once once one word.Step rest a b h k = steps_once once rest a b h k
 behind_once once one (word.Setting w) rest a b h k = settings_once one w rest a b h k
 

@@ -7,7 +7,7 @@ use Rattle.mq_machine.specs.Text.{number}
 use Rattle.mq_machine.specs.declared.line.Line.{Line}
 use Rattle.mq_machine.specs.declared.line.Line.TheVariants.{Setting, Conn, Piece, FailBind, Steps}
 use Rattle.mq_machine.specs.declared.setting.SettingLine.{SettingLine}
-use Rattle.mq_machine.specs.Line.{IsSayable, said}
+use Rattle.mq_machine.specs.Line.{IsSayable, said, IsFilled}
 use Rattle.mq_script.specs.declared.fault.LineFault.{LineFault}
 use Rattle.mq_script.specs.declared.fault.LineFault.TheVariants.{Syntax, NoMemory}
 use Rattle.mq_script.specs.Told.{TellsBehind, setting_word}
@@ -35,6 +35,16 @@ IsHexOf text bytes = All (λ b. b < 256) bytes × (text ≡ encode_lower bytes)
 abbrev pub IsTextOf : List ℕ → List ℕ → Type 0
 IsTextOf text bytes = All IsSayable bytes × (text ≡ flat_map said bytes)
 
+-- the parts of a piece that is filled up: bytes in hex, of which there are some, how many more, and their value
+abbrev pub IsHexSome : List ℕ → List ℕ → Type 0
+IsHexSome text bytes = (bytes ≢ []) × IsHexOf text bytes
+
+abbrev pub IsCounted : List ℕ → ℕ → Type 0
+IsCounted text count = (1 ≤ count) × (count ≤ 99999) × (text ≡ decimal count)
+
+abbrev pub IsByteOf : List ℕ → ℕ → Type 0
+IsByteOf text byte = (byte < 256) × (text ≡ encode_lower (byte ∷ []))
+
 -- the number of a link, and what stands behind it and a space
 pub record IsConn (rest : List ℕ) (conn : ℕ) (behind : List ℕ) : Type 0 where
   pub small : conn < 2 ^ 32
@@ -48,7 +58,7 @@ FindsConn rest (Some found) = IsConn rest found.0 found.1.now
 abbrev pub SaysConn : List ℕ → Line → Type 0
 SaysConn rest line = (worker : ℕ) × (worker ≤ 3) × (rest ≡ decimal worker) × (line ≡ Conn worker)
 
--- what stands behind `bytes` or `text`: a link, and bytes that aren't empty, spelled so
+-- what stands behind `bytes`, `text` or `fill`: a link, and bytes that aren't empty, spelled so
 pub record SaysPieceBy (IsSpelled : List ℕ → List ℕ → Type 0) (rest : List ℕ) (line : Line) : Type 0 where
   pub conn : ℕ
   pub behind : List ℕ
@@ -76,6 +86,7 @@ abbrev pub word_text : Word → List ℕ
 word_text word.Conn = codes "conn"
 word_text word.Bytes = codes "bytes"
 word_text word.Text = codes "text"
+word_text word.Fill = codes "fill"
 word_text word.Step = codes "step"
 word_text (word.Setting w) = setting_word w
 
@@ -87,6 +98,7 @@ abbrev pub SaysBehind : Word → List ℕ → Line → Type 0
 SaysBehind word.Conn rest line = SaysConn rest line
 SaysBehind word.Bytes rest line = SaysPieceBy IsHexOf rest line
 SaysBehind word.Text rest line = SaysPieceBy IsTextOf rest line
+SaysBehind word.Fill rest line = SaysPieceBy IsFilled rest line
 SaysBehind word.Step rest line = SaysStep rest line
 SaysBehind (word.Setting w) rest line = (setting : SettingLine) × TellsBehind w rest setting × (line ≡ Setting setting)
 

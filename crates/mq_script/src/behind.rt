@@ -2,9 +2,11 @@
 ghost use Rattle.std.specs.Prelude.{◌≡◌, ◌≢◌, ◌<◌, ◌≤◌, ℕ, [], Some, IfSome};
 ghost use Rattle.mq_machine.specs.declared.line.Line.TheVariants.{Piece, Steps};
 ghost use Rattle.mq_text.specs.Number.{Spells};
+ghost use Rattle.mq_machine.specs.Line.{IsFilled};
 ghost use Rattle.mq_script.specs.Words.{IsParsed, IsHexOf, IsTextOf, SaysConn, SaysPieceBy, SaysStep, IsSteps, FindsConn};
 
 use crate::fault::LineFault;
+use crate::fill_piece::parse_filled;
 use crate::hex_piece::parse_hex;
 use crate::text_piece::parse_text;
 use mq_machine::Line;
@@ -81,6 +83,18 @@ pub fn parse_said(alloc: Global, rest: &[u8]) -> Result<Line, LineFault>
         return Err(LineFault::Syntax);
     };
     let bytes = parse_text(alloc, text)?;
+    piece(conn, bytes)
+}
+
+/// The piece of `fill C HEX N HH`.
+pub fn parse_fill(alloc: Global, rest: &[u8]) -> Result<Line, LineFault>
+    ensures { IsParsed (SaysPieceBy IsFilled rest.now) result }
+{
+    cut_once();
+    let Some((conn, text)) = cut_conn(rest) else {
+        return Err(LineFault::Syntax);
+    };
+    let bytes = parse_filled(alloc, text)?;
     piece(conn, bytes)
 }
 

@@ -3,6 +3,7 @@
 
 mod behind;
 mod fault;
+mod fill_piece;
 mod hex_piece;
 mod line;
 mod name_setting;

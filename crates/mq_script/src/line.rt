@@ -4,7 +4,7 @@ ghost use Rattle.mq_machine.specs.declared.line.Line.{Line};
 ghost use Rattle.mq_machine.specs.Line.{Says, SaysNothing, SaysOne};
 ghost use Rattle.mq_script.specs.Words.{IsParsed, SaysAlone, SaysBehind, SaysSome};
 
-use crate::behind::{parse_bytes, parse_conn, parse_said, parse_step};
+use crate::behind::{parse_bytes, parse_conn, parse_fill, parse_said, parse_step};
 use crate::fault::LineFault;
 use crate::setting::{parse_told, says_one_setting};
 use crate::word::{Word, parse_word};
@@ -30,6 +30,7 @@ fn parse_behind(alloc: Global, word: Word, rest: &[u8]) -> Result<Line, LineFaul
         Word::Conn => parse_conn(rest),
         Word::Bytes => parse_bytes(alloc, rest),
         Word::Text => parse_said(alloc, rest),
+        Word::Fill => parse_fill(alloc, rest),
         Word::Step => parse_step(rest),
         Word::Setting(word) => Ok(Line::Setting(parse_told(alloc, word, rest)?)),
     }

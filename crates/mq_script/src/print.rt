@@ -1,10 +1,10 @@
 //! The lines that a replay prints.
 ghost use Rattle.std.specs.Prelude.{◌≡◌, ◌++◌, codes, OnOk, OnErr};
-ghost use Rattle.mq_machine.specs.Text.{note_line, idle_line, bad_line, from_text, kind_text, why_text, end_text, payload_text, number, newline};
+ghost use Rattle.mq_machine.specs.Text.{note_line, idle_line, bad_line, from_text, kind_text, why_text, end_text, cause_text, payload_text, number, newline};
 ghost use Rattle.mq_script.specs.Parts.{Prints, part_text};
 
 use crate::part::{Part, print_parts};
-use mq_talk::{End, From, Kind, Note, Why};
+use mq_talk::{Cause, End, From, Kind, Note, Why};
 use mq_wire::NoMemory;
 
 const NEWLINE: Part<'static> = Part::Text(b"\n");
@@ -34,6 +34,23 @@ fn end_text(why: End) -> &'static [u8]
         End::Refused => b"Refused",
         End::Tunnel => b"Tunnel",
         End::NoMemory => b"NoMemory",
+    }
+}
+
+fn cause_text(cause: Cause) -> &'static [u8]
+    ensures { result.now ≡ cause_text cause }
+{
+    match cause {
+        Cause::UnknownContext => b"UnknownContext",
+        Cause::BadHeader => b"BadHeader",
+        Cause::TooLong => b"TooLong",
+        Cause::Source => b"Source",
+        Cause::NoRoute => b"NoRoute",
+        Cause::InboxFull => b"InboxFull",
+        Cause::Gone => b"Gone",
+        Cause::HopLimit => b"HopLimit",
+        Cause::QueueFull => b"QueueFull",
+        Cause::Port => b"Port",
     }
 }
 
@@ -167,6 +184,23 @@ fn print_sent(out: &mut Vec<u8>, from: From, n: u64, packet: &[u8]) -> Result<()
 }
 
 #[tactic(auto, unfolding(mq_machine::specs::Text::note_line, mq_machine::specs::Text::note_text))]
+fn print_dropped(out: &mut Vec<u8>, from: From, n: u64, cause: Cause) -> Result<(), NoMemory>
+    ensures { Prints out.old.items (note_line (Note.Dropped from n cause)) out.new.items result }
+{
+    print_parts(
+        out,
+        &[
+            Part::Text(b"dropped "),
+            from_part(from),
+            Part::Number(n),
+            Part::Text(b" "),
+            Part::Text(cause_text(cause)),
+            NEWLINE,
+        ],
+    )
+}
+
+#[tactic(auto, unfolding(mq_machine::specs::Text::note_line, mq_machine::specs::Text::note_text))]
 fn print_wrote(out: &mut Vec<u8>, conn: u32, bytes: &[u8]) -> Result<(), NoMemory>
     ensures { Prints out.old.items (note_line (Note.Wrote conn bytes.now)) out.new.items result }
 {
@@ -239,6 +273,7 @@ pub fn print_note(out: &mut Vec<u8>, note: &Note) -> Result<(), NoMemory>
             rule,
         } => print_refused(out, *conn, *stream, *status, *rule),
         Note::Sent { from, n, packet } => print_sent(out, *from, *n, packet.as_slice()),
+        Note::Dropped { from, n, cause } => print_dropped(out, *from, *n, *cause),
         Note::Wrote { conn, bytes } => print_wrote(out, *conn, bytes.as_slice()),
         Note::Closed { tunnel, why, left } => print_closed(out, *tunnel, *why, *left),
         Note::Ended { conn, why } => print_ended(out, *conn, *why),

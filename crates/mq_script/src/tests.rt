@@ -2,7 +2,7 @@ use super::*;
 use mq_addr::Addr;
 use mq_machine::{Line, SettingLine};
 use mq_policy::Rule;
-use mq_talk::{End, From, Kind, Note, Why};
+use mq_talk::{Cause, End, From, Kind, Note, Why};
 use mq_wire::{Bytes, NoMemory};
 use std::alloc::{AllocError, Global};
 use std::test::Fail;
@@ -216,6 +216,38 @@ const TEXT_LINES: [(&[u8], Want); 24] = [
     (b"text 0 a\r", Want::Bad),
 ];
 
+const FILL_LINES: [(&[u8], Want); 26] = [
+    (b"fill 0 00 1 ff", Want::Piece(0, b"\x00\xff")),
+    (b"fill 7 474554 3 61", Want::Piece(7, b"GETaaa")),
+    (
+        b"fill 4294967295 00 2 00",
+        Want::Piece(4_294_967_295, b"\x00\x00\x00"),
+    ),
+    (b"fill 4294967296 00 1 00", Want::Bad),
+    (b"fill 0 00 0 61", Want::Bad),
+    (b"fill 0 00 01 61", Want::Bad),
+    (b"fill 0 00 100000 61", Want::Bad),
+    (b"fill 0 00 18446744073709551617 61", Want::Bad),
+    (b"fill 0 00 -1 61", Want::Bad),
+    (b"fill 0 00 a 61", Want::Bad),
+    (b"fill 0 00 1 6", Want::Bad),
+    (b"fill 0 00 1 6161", Want::Bad),
+    (b"fill 0 00 1 6A", Want::Bad),
+    (b"fill 0 00 1 ", Want::Bad),
+    (b"fill 0 00 1", Want::Bad),
+    (b"fill 0 00 1 61 ", Want::Bad),
+    (b"fill 0 00 1 61 61", Want::Bad),
+    (b"fill 0  1 61", Want::Bad),
+    (b"fill 0 1 61", Want::Bad),
+    (b"fill 0 0 1 61", Want::Bad),
+    (b"fill 0 AB 1 61", Want::Bad),
+    (b"fill 0 0g 1 61", Want::Bad),
+    (b"fill 00 1 61", Want::Bad),
+    (b"fill 0 ", Want::Bad),
+    (b"fill", Want::Bad),
+    (b"Fill 0 00 1 61", Want::Bad),
+];
+
 #[test]
 fn lines_are_read_as_the_grammar_says(rt: HostRuntime) {
     for (line, want) in BLANK_LINES {
@@ -233,10 +265,17 @@ fn lines_are_read_as_the_grammar_says(rt: HostRuntime) {
     for (line, want) in STEP_LINES {
         assert!(rt; meets(&parse_line(rt.alloc(), line), want), "{line:?}");
     }
+}
+
+#[test]
+fn pieces_are_read_as_the_grammar_says(rt: HostRuntime) {
     for (line, want) in HEX_LINES {
         assert!(rt; meets(&parse_line(rt.alloc(), line), want), "{line:?}");
     }
     for (line, want) in TEXT_LINES {
+        assert!(rt; meets(&parse_line(rt.alloc(), line), want), "{line:?}");
+    }
+    for (line, want) in FILL_LINES {
         assert!(rt; meets(&parse_line(rt.alloc(), line), want), "{line:?}");
     }
 }
@@ -260,6 +299,10 @@ fn the_longest_lines_are_read(rt: HostRuntime) -> Result<(), Fail> {
     assert_eq!(rt; text.len(), 200_000);
     assert_eq!(rt; piece_len(&parse_line(rt.alloc(), &hex)), 99_996);
     assert_eq!(rt; piece_len(&parse_line(rt.alloc(), &text)), 99_997);
+    assert_eq!(rt;
+        piece_len(&parse_line(rt.alloc(), b"fill 0 00 99999 61")),
+        100_000
+    );
     Ok(())
 }
 
@@ -409,6 +452,42 @@ fn print_payload_notes(alloc: Global, out: &mut Vec<u8>) -> Result<(), NoMemory>
         },
     )?;
     print_note(out, &Note::Wrote { conn: 7, bytes })?;
+    Ok(())
+}
+
+/// In the order in which they are tried.
+const CAUSES: [Cause; 10] = [
+    Cause::UnknownContext,
+    Cause::BadHeader,
+    Cause::TooLong,
+    Cause::Source,
+    Cause::NoRoute,
+    Cause::InboxFull,
+    Cause::Gone,
+    Cause::HopLimit,
+    Cause::QueueFull,
+    Cause::Port,
+];
+
+#[test]
+fn drops_are_printed_with_their_cause(rt: HostRuntime) -> Result<(), Fail> {
+    let mut out = Vec::new(rt.alloc());
+    for cause in CAUSES {
+        let from = From::Tunnel(5);
+        print_note(&mut out, &Note::Dropped { from, n: 9, cause })?;
+    }
+    let want: &[u8] = b"dropped 5 9 UnknownContext
+dropped 5 9 BadHeader
+dropped 5 9 TooLong
+dropped 5 9 Source
+dropped 5 9 NoRoute
+dropped 5 9 InboxFull
+dropped 5 9 Gone
+dropped 5 9 HopLimit
+dropped 5 9 QueueFull
+dropped 5 9 Port
+";
+    assert_eq!(rt; out.as_slice(), want);
     Ok(())
 }
 

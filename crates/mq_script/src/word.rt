@@ -10,6 +10,7 @@ pub enum Word {
     Conn,
     Bytes,
     Text,
+    Fill,
     Step,
     Setting(SettingWord),
 }
@@ -22,6 +23,7 @@ pub fn parse_word(text: &[u8]) -> Option<Word>
         b"conn" => Some(Word::Conn),
         b"bytes" => Some(Word::Bytes),
         b"text" => Some(Word::Text),
+        b"fill" => Some(Word::Fill),
         b"step" => Some(Word::Step),
         _ => Some(Word::Setting(parse_setting_word(text)?)),
     }

@@ -1,12 +1,13 @@
 //! The notes that a replay prints, one for each act.
 
+use crate::place::Cause;
 use mq_addr::Kind;
 use mq_wire::Bytes;
 
 /// Why a tunnel closes.
 #[derive(Clone, Copy, Debug, PartialEq, Eq)]
 pub enum Why {
-    /// A malformed capsule.
+    /// Its data stream is malformed.
     Malformed,
     /// Its connection is ending.
     Conn,
@@ -67,6 +68,12 @@ pub enum Note {
         from: From,
         n: u64,
         packet: Bytes,
+    },
+    /// Payload number `n` was dropped.
+    Dropped {
+        from: From,
+        n: u64,
+        cause: Cause,
     },
     /// Bytes were written to the client.
     Wrote {

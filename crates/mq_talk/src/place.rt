@@ -18,7 +18,7 @@ pub enum Cause {
     BadHeader,
     /// It is longer than its port or the network takes.
     TooLong,
-    /// Its source isn't the tunnel's (RFC 9484, section 4.7.2).
+    /// Its source isn't the tunnel's (RFC 9484, section 4.7.1).
     Source,
     /// No route leads to its target (RFC 9484, section 4.7.3).
     NoRoute,

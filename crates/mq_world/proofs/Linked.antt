@@ -6,7 +6,7 @@ use Rattle.mq_talk.specs.declared.book.Call.{Call}
 use Rattle.mq_talk.specs.declared.book.Entry.{Entry}
 use Rattle.mq_talk.specs.declared.note.End.{End}
 use Rattle.mq_talk.specs.declared.note.Note.{Note}
-use Rattle.mq_talk.specs.declared.note.Note.TheVariants.{Accepted, Took, Ported, Opened, Refused, Sent, Wrote, Closed, Ended}
+use Rattle.mq_talk.specs.declared.note.Note.TheVariants.{Accepted, Took, Ported, Opened, Refused, Sent, Dropped, Wrote, Closed, Ended}
 use Rattle.mq_talk.specs.declared.note.Why.TheVariants as why
 use Rattle.mq_machine.specs.State as spec
 use Rattle.mq_machine.specs.State.{State}
@@ -29,6 +29,7 @@ calls_written conn entries bind_fails s t (Ported c stream) calls h = ap (λ (xs
 calls_written conn entries bind_fails s t (Opened tunnel c stream kind) calls h = ap (λ (xs : List Call). length xs) h.5
 calls_written conn entries bind_fails s t (Refused c stream status rule) calls h = ap (λ (xs : List Call). length xs) h.2
 calls_written conn entries bind_fails s t (Sent from n packet) calls h = ap (λ (xs : List Call). length xs) h.1
+calls_written conn entries bind_fails s t (Dropped from n cause) calls h = ap (λ (xs : List Call). length xs) h.1
 calls_written conn entries bind_fails s t (Wrote c bytes) calls h = absurd h
 calls_written conn entries bind_fails s t (Closed tunnel why.Malformed left) calls h = ap (λ (xs : List Call). length xs) h.1
 calls_written conn entries bind_fails s t (Closed tunnel why.Conn left) calls h = ap (λ (xs : List Call). length xs) h.1

@@ -3,7 +3,7 @@ use Rattle.std.proofs.Common.{◌≡◌, ◌≢◌, ℕ, Bool, inl, inr, zero, s
 use Rattle.mq_talk.specs.declared.book.Call.{Call}
 use Rattle.mq_talk.specs.declared.note.End.{End}
 use Rattle.mq_talk.specs.declared.note.Note.{Note}
-use Rattle.mq_talk.specs.declared.note.Note.TheVariants.{Accepted, Took, Ported, Opened, Refused, Sent, Wrote, Closed, Ended}
+use Rattle.mq_talk.specs.declared.note.Note.TheVariants.{Accepted, Took, Ported, Opened, Refused, Sent, Dropped, Wrote, Closed, Ended}
 use Rattle.mq_talk.specs.declared.note.Why.TheVariants as why
 use Rattle.mq_machine.specs.State.{Conn, new_conn, Offer, Held, Worker, Shared, State, owed}
 use Rattle.mq_machine.specs.ConnNext.{WantNext, WroteNext, TookNext, starved, IsOver}
@@ -21,6 +21,7 @@ offers_idle w sh none Want (Ported conn stream) new after h = h
 offers_idle w sh none Want (Opened tunnel conn stream kind) new after h = h
 offers_idle w sh none Want (Refused conn stream status rule) new after h = h
 offers_idle w sh none Want (Sent from n packet) new after h = h
+offers_idle w sh none Want (Dropped from n cause) new after h = h
 offers_idle w sh none Want (Wrote conn bytes) new after h = h
 offers_idle w sh none Want (Closed tunnel reason left) new after h = h
 offers_idle w sh none Want (Ended conn reason) new after h = h
@@ -35,6 +36,7 @@ no_conn_idle w sh c none Want (Ported conn stream) new after h = none h.i h.h h.
 no_conn_idle w sh c none Want (Opened tunnel conn stream kind) new after h = none h.i h.h h.has
 no_conn_idle w sh c none Want (Refused conn stream status rule) new after h = none h.i h.h h.has
 no_conn_idle w sh c none Want (Sent from n packet) new after h = none h.i h.h h.has
+no_conn_idle w sh c none Want (Dropped from n cause) new after h = none h.i h.h h.has
 no_conn_idle w sh c none Want (Wrote conn bytes) new after h = none h.i h.h h.has
 no_conn_idle w sh c none Want (Closed tunnel reason left) new after h = none h.i h.h h.has
 no_conn_idle w sh c none Want (Ended conn reason) new after h = none h.0.i h.0.h h.0.has
@@ -90,6 +92,7 @@ want_none conn entries bind_fails s t (Refused c stream status rule) calls none 
       | inr unbound ↦ (let is = unbound.1.due in cc)
     ]
 want_none conn entries bind_fails s t (Sent from n packet) calls none h = let due = none.0 in let is = h.0.due in cc
+want_none conn entries bind_fails s t (Dropped from n cause) calls none h = let due = none.0 in let is = h.0.due in cc
 want_none conn entries bind_fails s t (Wrote c bytes) calls none h = h
 want_none conn entries bind_fails s t (Closed tunnel why.Malformed left) calls none h = let due = none.0 in let is = h.0.due in cc
 want_none conn entries bind_fails s t (Closed tunnel why.Conn left) calls none h = let left = none.1 h.0.ending in let is = h.0.tunnels in cc
@@ -109,6 +112,7 @@ wants_idle w sh h c is none over (Ported conn stream) new after x = due_none w.i
 wants_idle w sh h c is none over (Opened tunnel conn stream kind) new after x = due_none w.id x.h sh (Opened tunnel conn stream kind) x.g after (subst WantsNothing (conn_is w h c is x.i x.h x.has) none) x.next
 wants_idle w sh h c is none over (Refused conn stream status rule) new after x = due_none w.id x.h sh (Refused conn stream status rule) x.g after (subst WantsNothing (conn_is w h c is x.i x.h x.has) none) x.next
 wants_idle w sh h c is none over (Sent from n packet) new after x = due_none w.id x.h sh (Sent from n packet) x.g after (subst WantsNothing (conn_is w h c is x.i x.h x.has) none) x.next
+wants_idle w sh h c is none over (Dropped from n cause) new after x = due_none w.id x.h sh (Dropped from n cause) x.g after (subst WantsNothing (conn_is w h c is x.i x.h x.has) none) x.next
 wants_idle w sh h c is none over (Wrote conn bytes) new after x = due_none w.id x.h sh (Wrote conn bytes) x.g after (subst WantsNothing (conn_is w h c is x.i x.h x.has) none) x.next
 wants_idle w sh h c is none over (Closed tunnel reason left) new after x = due_none w.id x.h sh (Closed tunnel reason left) x.g after (subst WantsNothing (conn_is w h c is x.i x.h x.has) none) x.next
 wants_idle w sh h c is none over (Ended conn reason) new after x =
@@ -123,6 +127,7 @@ writes_idle w sh h c is none (Ported conn stream) new after x = absurd x.next
 writes_idle w sh h c is none (Opened tunnel conn stream kind) new after x = absurd x.next
 writes_idle w sh h c is none (Refused conn stream status rule) new after x = absurd x.next
 writes_idle w sh h c is none (Sent from n packet) new after x = absurd x.next
+writes_idle w sh h c is none (Dropped from n cause) new after x = absurd x.next
 writes_idle w sh h c is none (Wrote conn bytes) new after x =
     let P : Conn → Type 0 = λ k. owed k ≡ [] in
     x.next.0.wrote.some (subst P (conn_is w h c is x.i x.h x.has) none)
@@ -142,6 +147,7 @@ reads_idle w sh h c is none (Ported conn stream) new after x = absurd x.next
 reads_idle w sh h c is none (Opened tunnel conn stream kind) new after x = absurd x.next
 reads_idle w sh h c is none (Refused conn stream status rule) new after x = absurd x.next
 reads_idle w sh h c is none (Sent from n packet) new after x = absurd x.next
+reads_idle w sh h c is none (Dropped from n cause) new after x = absurd x.next
 reads_idle w sh h c is none (Wrote conn bytes) new after x = absurd x.next
 reads_idle w sh h c is none (Closed tunnel reason left) new after x = absurd x.next
 reads_idle w sh h c is none (Ended conn reason) new after x = absurd x.next
@@ -164,6 +170,7 @@ want_allowed w sh after h g (Ported conn stream) is next = of_next w sh after h 
 want_allowed w sh after h g (Opened tunnel conn stream kind) is next = of_next w sh after h g Want (Opened tunnel conn stream kind) is next
 want_allowed w sh after h g (Refused conn stream status rule) is next = of_next w sh after h g Want (Refused conn stream status rule) is next
 want_allowed w sh after h g (Sent from n packet) is next = of_next w sh after h g Want (Sent from n packet) is next
+want_allowed w sh after h g (Dropped from n cause) is next = of_next w sh after h g Want (Dropped from n cause) is next
 want_allowed w sh after h g (Wrote conn bytes) is next = of_next w sh after h g Want (Wrote conn bytes) is next
 want_allowed w sh after h g (Closed tunnel reason left) is next = of_next w sh after h g Want (Closed tunnel reason left) is next
 want_allowed w sh after h g (Ended conn reason) is next = absurd next.next

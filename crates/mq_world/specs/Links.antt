@@ -4,7 +4,7 @@ use Rattle.mq_wire.specs.declared.NoMemory.{NoMemory}
 use Rattle.mq_talk.specs.declared.book.Call.{Call}
 use Rattle.mq_talk.specs.declared.note.End.{End}
 use Rattle.mq_talk.specs.declared.note.Note.{Note}
-use Rattle.mq_talk.specs.declared.note.Note.TheVariants.{Accepted, Took, Ported, Opened, Refused, Sent, Wrote, Closed, Ended}
+use Rattle.mq_talk.specs.declared.note.Note.TheVariants.{Accepted, Took, Ported, Opened, Refused, Sent, Dropped, Wrote, Closed, Ended}
 use Rattle.mq_machine.specs.ConnNext.{WantNext, still_fails, WroteNext, TookNext, CanRead, starved, IsOver}
 use Rattle.mq_machine.specs.Next.{Takes}
 use Rattle.mq_machine.specs.State.{Conn, owed}
@@ -20,6 +20,7 @@ written (Ported conn stream) = 0
 written (Opened tunnel conn stream kind) = 1
 written (Refused conn stream status rule) = 0
 written (Sent from n packet) = 0
+written (Dropped from n cause) = 0
 written (Wrote conn bytes) = 0
 written (Closed tunnel reason left) = 1
 written (Ended conn reason) = 0

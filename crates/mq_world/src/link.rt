@@ -58,8 +58,8 @@ fn read(
     Ok(Some(Note::Took { conn, count }))
 }
 
-/// One step of a connection that isn't over: what is next, a write, or a read. Where `bind_fails`, the next bind fails, and
-/// takes that back. Where the connection is refused memory, it is ending.
+/// One step of a connection that isn't over: what is next, a write, or a read. Where `bind_fails`, the next bind fails,
+/// and takes that back. Where the connection is refused memory, it is ending.
 pub fn go_on(
     alloc: Global,
     setup: &Setup,

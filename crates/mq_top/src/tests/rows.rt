@@ -47,6 +47,34 @@ pub const UNBOUND: &[u8] =
 pub const UNBOUND_PRINTS: &[u8] =
     b"accepted 0 0\ntook 0 114\nrefused 0 0 502\nwrote 0 485454502f312e31203530322042616420476174657761790d0a436f6e6e656374696f6e3a20636c6f73650d0a436f6e74656e742d4c656e6774683a20300d0a0d0a\nended 0 Refused\nidle 0\n";
 
+/// A tunnel, a datagram of a context that isn't known, and one of context 0.
+pub const OTHER_CONTEXT: &[u8] =
+    b"conn 0\ntext 0 GET https://example.org/.well-known/masque/udp/192.0.2.6/443/ HTTP/1.1\\r\\nHost: example.org\\r\\nConnection: Upgrade\\r\\nUpgrade: connect-udp\\r\\nCapsule-Protocol: ?1\\r\\n\\r\\n\nbytes 0 00030268690003006869\nstep 0 9\n";
+
+pub const OTHER_CONTEXT_PRINTS: &[u8] =
+    b"accepted 0 0\ntook 0 158\nported 0 0\nopened 0 0 0 udp\nwrote 0 485454502f312e312031303120537769746368696e672050726f746f636f6c730d0a436f6e6e656374696f6e3a20557067726164650d0a557067726164653a20636f6e6e6563742d7564700d0a43617073756c652d50726f746f636f6c3a203f310d0a0d0a\ntook 0 10\ndropped 0 0 UnknownContext\nsent 0 1 6869\nidle 0\n";
+
+/// A tunnel, an empty capsule of a type that isn't known, and a datagram.
+pub const UNKNOWN_CAPSULE: &[u8] =
+    b"conn 0\ntext 0 GET https://example.org/.well-known/masque/udp/192.0.2.6/443/ HTTP/1.1\\r\\nHost: example.org\\r\\nConnection: Upgrade\\r\\nUpgrade: connect-udp\\r\\nCapsule-Protocol: ?1\\r\\n\\r\\n\nbytes 0 4000c000000000000003006869\nstep 0 8\n";
+
+pub const UNKNOWN_CAPSULE_PRINTS: &[u8] =
+    b"accepted 0 0\ntook 0 158\nported 0 0\nopened 0 0 0 udp\nwrote 0 485454502f312e312031303120537769746368696e672050726f746f636f6c730d0a436f6e6e656374696f6e3a20557067726164650d0a557067726164653a20636f6e6e6563742d7564700d0a43617073756c652d50726f746f636f6c3a203f310d0a0d0a\ntook 0 13\nsent 0 0 6869\nidle 0\n";
+
+/// A tunnel, and the longest UDP payload, which doesn't fit into a packet of IPv4.
+pub const LONG_FOR_PORT: &[u8] =
+    b"conn 0\ntext 0 GET https://example.org/.well-known/masque/udp/192.0.2.6/443/ HTTP/1.1\\r\\nHost: example.org\\r\\nConnection: Upgrade\\r\\nUpgrade: connect-udp\\r\\nCapsule-Protocol: ?1\\r\\n\\r\\n\nfill 0 008000fff800 65527 61\nstep 0 20\n";
+
+pub const LONG_FOR_PORT_PRINTS: &[u8] =
+    b"accepted 0 0\ntook 0 158\nported 0 0\nopened 0 0 0 udp\nwrote 0 485454502f312e312031303120537769746368696e672050726f746f636f6c730d0a436f6e6e656374696f6e3a20557067726164650d0a557067726164653a20636f6e6e6563742d7564700d0a43617073756c652d50726f746f636f6c3a203f310d0a0d0a\ntook 0 16384\ntook 0 16384\ntook 0 16384\ntook 0 16381\ndropped 0 0 TooLong\nidle 0\n";
+
+/// A tunnel, and a payload that is longer than any of UDP.
+pub const LONG_FOR_UDP: &[u8] =
+    b"conn 0\ntext 0 GET https://example.org/.well-known/masque/udp/192.0.2.6/443/ HTTP/1.1\\r\\nHost: example.org\\r\\nConnection: Upgrade\\r\\nUpgrade: connect-udp\\r\\nCapsule-Protocol: ?1\\r\\n\\r\\n\nfill 0 008000fff900 65528 61\nstep 0 20\n";
+
+pub const LONG_FOR_UDP_PRINTS: &[u8] =
+    b"accepted 0 0\ntook 0 158\nported 0 0\nopened 0 0 0 udp\nwrote 0 485454502f312e312031303120537769746368696e672050726f746f636f6c730d0a436f6e6e656374696f6e3a20557067726164650d0a557067726164653a20636f6e6e6563742d7564700d0a43617073756c652d50726f746f636f6c3a203f310d0a0d0a\ntook 0 16384\ntook 0 16384\ntook 0 16384\ntook 0 16382\nclosed 0 Malformed left 0\nended 0 Tunnel\nidle 0\n";
+
 /// A second line that names a link that never was.
 pub const BAD: &[u8] = b"conn 0\nbytes 1 00\n";
 

@@ -46,10 +46,11 @@ pub returns : goal.returns
 returns c =
     let V : Verdict → Type 0 = λ v. IsVerdict c.args.setup.now c.as_slice.result.now v in
     let udp = c.in-Upgrade-Udp-default-default in
-    tunnel_so c.args.setup.now c.args.reader c.args.bytes.now _ c.as_slice.result.now udp.used c.in-Go.goal _ _ _ c.read_capsules.result
+    tunnel_so c.args.setup.now c.args.reader c.new.result c.limit_of.result c.args.bytes.now _ c.as_slice.result.now udp.used c.in-Go.goal _ _ _ c.read_capsules.result
     c.in_ok-push_back-in-Go.ensures.items
     (c.split_at.ensures.back ∙ ap (λ (n : ℕ). drop n c.args.bytes.now) c.min.ensures)
     (subst V c.in-Go.is c.in_ok-status-in-Upgrade-Udp-default-default.ensures)
+    c.new.ensures c.limit_of.ensures
     (λ front is.
     let P : HeadStep → Type 0 = λ step. IsStep front c.args.bytes.now step in
     let told = subst P udp.is (c.in_ok-feed.ensures.step front is) in

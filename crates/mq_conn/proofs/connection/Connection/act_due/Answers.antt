@@ -5,11 +5,11 @@ use Rattle.mq_talk.specs.declared.book.Call.TheVariants as call
 use Rattle.mq_talk.specs.declared.note.End.TheVariants as end
 use Rattle.mq_talk.specs.declared.note.From.TheVariants as origin
 use Rattle.mq_machine.specs.declared.act.Act.{Act}
-use Rattle.mq_machine.specs.declared.act.Act.TheVariants.{Bind, Open, Refuse, Payload, Malformed}
+use Rattle.mq_machine.specs.declared.act.Act.TheVariants.{Bind, Open, Refuse, Payload, Drop, Malformed}
 use Rattle.mq_machine.specs.ConnNext.{goal_kind, without, still_fails}
 use Rattle.mq_machine.specs.State.{Tunnel}
 use Rattle.mq_conn.specs.Connections.{Follows, tunnels_of}
-use Rattle.mq_conn.proofs.Doing.{ends, done, refused_conn, gone, owed_more, given_more, live_tunnel, no_tunnels, serves_opening, serves_opened, serves_on, serves_no_end, follows_none, without_none, still}
+use Rattle.mq_conn.proofs.Doing.{ends, done, refused_conn, gone, owed_more, given_more, live_tunnel, no_tunnels, serves_opening, serves_opened, serves_on, serves_past, serves_no_end, follows_none, without_none, still}
 use Rattle.mq_conn.proofs.connection.Connection.act_due.Goals as goal
 
 pub returns-in-Some-Payload : goal.returns-in-Some-Payload
@@ -34,6 +34,34 @@ returns-in-Some-Payload c = λ setup s is.
           tunnels = is.tunnels;
           follows = subst G (sym follows.0) follows.2;
           phase = done setup c.args.self.now.phase s.reads s.due _ rest rest _ _ s.ending s.ending due (λ w. w) (λ w. serves_on _ payload.field-0-0 payload.n payload.payload rest w) is.phase;
+          closed = still s _ rest _ due is.closed;
+        },
+      ),
+      ap (λ (acts : List Act). still_fails c.args.bind_fails.now acts) (sym due),
+    )
+
+pub returns-in-Some-Drop : goal.returns-in-Some-Drop
+returns-in-Some-Drop c = λ setup s is.
+    let rest = c.pop_front.new.self.items in
+    let drop = c.in-Some-Drop in
+    let due : s.due ≡ Drop drop.field-0-0 drop.n drop.cause ∷ rest = cc (is.due, drop.ensures.items) in
+    let F : List Act → Type 0 = λ acts. Follows (is_some c.args.self.now.tunnel) acts in
+    let follows = subst F due is.follows in
+    let live = live_tunnel c.args.self.now.tunnel s is.tunnels follows.0 in
+    let G : Bool → Type 0 = λ b. Follows b rest in
+    let id : c.unwrap_or-in-Some-Drop.result ≡ live.t.id = c.unwrap_or-in-Some-Drop.ensures ∙ sym live.id_is in (
+      (
+        record s { due = rest },
+        [],
+        (record { stream = drop.field-0-0; rest = rest; i = 0; t = live.t; due = due; has = record { at = live.has.at; on = live.has.on ∙ sym follows.1 }; from_is = ap origin.Tunnel id; new_is = refl }, refl),
+        record {
+          due = refl;
+          given = is.given;
+          owed = is.owed;
+          ending = is.ending;
+          tunnels = is.tunnels;
+          follows = subst G (sym follows.0) follows.2;
+          phase = done setup c.args.self.now.phase s.reads s.due _ rest rest _ _ s.ending s.ending due (λ w. w) (λ w. serves_past _ drop.field-0-0 drop.n drop.cause rest w) is.phase;
           closed = still s _ rest _ due is.closed;
         },
       ),

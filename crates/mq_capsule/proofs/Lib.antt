@@ -1,0 +1,10 @@
+pub mod Integers
+pub mod Fronts
+pub mod Capsules
+pub mod Spelling
+pub mod Items
+pub mod Limits
+pub mod Plans
+pub mod Steps
+pub mod Readers
+pub mod Writing

@@ -1,0 +1,187 @@
+//! One step of reading: bytes of a piece, until a capsule is whole or the piece ends.
+ghost use Rattle.std.specs.Prelude.{◌≡◌, ◌<◌, ◌≤◌, None, length, IfOk};
+ghost use Rattle.mq_capsule.specs.Fronts.{front_of};
+ghost use Rattle.mq_capsule.specs.Steps.{IsStep, LeadsTo, LeadsFrom, LeadsFromKept, LeadsFromSkipped, TakesSome};
+ghost use Rattle.mq_capsule.specs.Steps.{StaysEnded, kept_item, skipped_item};
+
+use super::front::{Front, Kept, Plan, Skipped};
+use super::item::Item;
+use super::state::State;
+use arrayvec::ArrayVec;
+use mq_wire::{Bytes, NoMemory};
+use std::alloc::Global;
+
+/// What a step gave.
+#[derive(Drop)]
+pub struct Step {
+    /// What is kept now.
+    pub state: State,
+    /// What the capsule says that became whole, or that can't.
+    pub told: Option<Item>,
+    /// How many bytes of the piece were taken.
+    pub used: usize,
+}
+
+/// A step from any state.
+pub fn advance(alloc: Global, control: bool, state: State, piece: &[u8]) -> Result<Step, NoMemory>
+    ensures within { IfOk result (λ s. s.used ≤ length piece.now) }
+    ensures some { IfOk result (λ s. TakesSome control state piece.now s.used) }
+    ensures gives { IfOk result (λ s. LeadsTo control state piece.now s) }
+    ensures ended { IfOk result (λ s. StaysEnded state piece.now s) }
+{
+    match state {
+        State::Front { bytes } => read_front(alloc, control, bytes, piece),
+        State::Keep {
+            what,
+            bytes,
+            missing,
+        } => read_kept(what, bytes, missing, piece),
+        State::Skip { what, missing } => Ok(read_past(what, missing, piece)),
+        State::Ended => Ok(Step {
+            state: State::Ended,
+            told: None,
+            used: piece.len(),
+        }),
+        State::Spent => Err(NoMemory),
+    }
+}
+
+/// Takes bytes of a front, and where it is whole those behind it.
+fn read_front(
+    alloc: Global,
+    control: bool,
+    front: ArrayVec<u8, 24>,
+    piece: &[u8],
+) -> Result<Step, NoMemory>
+    ensures within { IfOk result (λ s. s.used ≤ length piece.now) }
+    ensures some { IfOk result (λ s. front_of control front.items ≡ None → 0 < length piece.now → 0 < s.used) }
+    ensures gives { IfOk result (λ s.
+        front_of control front.items ≡ None → IsStep control front.items piece.now s) }
+{
+    let mut bytes = front;
+    let begun = bytes.len();
+    let taken = bytes.remaining_capacity().min(piece.len());
+    let (more, _) = piece.split_at(taken);
+    let Ok(()) = bytes.try_extend_from_slice(more) else {
+        unreachable!();
+    };
+    match Front::of(control, bytes.as_slice()) {
+        None => Ok(Step {
+            state: State::Front { bytes },
+            told: None,
+            used: taken,
+        }),
+        Some(front) => {
+            let lacking = front.used.saturating_sub(begun);
+            let (_, behind) = piece.split_at(lacking);
+            let Step { state, told, used } = begin(alloc, front.plan, behind)?;
+            Ok(Step {
+                state,
+                told,
+                used: lacking + used,
+            })
+        }
+    }
+}
+
+/// Takes the first bytes behind a front.
+fn begin(alloc: Global, plan: Plan, piece: &[u8]) -> Result<Step, NoMemory>
+    ensures within { IfOk result (λ s. s.used ≤ length piece.now) }
+    ensures gives { IfOk result (λ s. LeadsFrom plan piece.now s) }
+{
+    match plan {
+        Plan::Keep { what, length } => read_kept(what, Vec::new(alloc), length, piece),
+        Plan::Skip { what, length } => Ok(read_past(what, length, piece)),
+        Plan::Stop { fault } => Ok(Step {
+            state: State::Ended,
+            told: Some(Item::Bad { fault }),
+            used: 0,
+        }),
+    }
+}
+
+/// Takes further bytes of a capsule that is kept.
+fn read_kept(what: Kept, bytes: Vec<u8>, missing: u64, piece: &[u8]) -> Result<Step, NoMemory>
+    ensures within { IfOk result (λ s. s.used ≤ length piece.now) }
+    ensures some { IfOk result (λ s. 0 < missing → 0 < length piece.now → 0 < s.used) }
+    ensures gives { IfOk result (λ s. LeadsFromKept what bytes.items missing piece.now s) }
+{
+    let mut bytes = bytes;
+    if (piece.len() as u64) < missing {
+        bytes.extend_from_slice(piece)?;
+        return Ok(Step {
+            state: State::Keep {
+                what,
+                bytes,
+                missing: missing - piece.len() as u64,
+            },
+            told: None,
+            used: piece.len(),
+        });
+    }
+    let used = missing as usize;
+    let (end, _) = piece.split_at(used);
+    bytes.extend_from_slice(end)?;
+    Ok(Step {
+        state: State::Front {
+            bytes: ArrayVec::new(),
+        },
+        told: Some(what.item(bytes)),
+        used,
+    })
+}
+
+/// Reads past further bytes of a capsule.
+fn read_past(what: Skipped, missing: u64, piece: &[u8]) -> Step
+    ensures within { result.used ≤ length piece.now }
+    ensures some { 0 < missing → 0 < length piece.now → 0 < result.used }
+    ensures gives { LeadsFromSkipped what missing piece.now result }
+{
+    if (piece.len() as u64) < missing {
+        return Step {
+            state: State::Skip {
+                what,
+                missing: missing - piece.len() as u64,
+            },
+            told: None,
+            used: piece.len(),
+        };
+    }
+    Step {
+        state: State::Front {
+            bytes: ArrayVec::new(),
+        },
+        told: what.item(),
+        used: missing as usize,
+    }
+}
+
+impl Kept {
+    /// What the capsule says with these bytes.
+    fn item(self, bytes: Vec<u8>) -> Item
+        ensures { result ≡ kept_item self bytes.items }
+    {
+        let bytes = Bytes::from_vec(bytes);
+        match self {
+            Kept::Payload { context } => Item::Datagram {
+                context,
+                payload: bytes,
+            },
+            Kept::Control { kind } => Item::Control { kind, value: bytes },
+        }
+    }
+}
+
+impl Skipped {
+    /// What the capsule says.
+    fn item(self) -> Option<Item>
+        ensures { result ≡ skipped_item self }
+    {
+        match self {
+            Skipped::Payload { context, length } => {
+                Some(Item::TooLongDatagram { context, length })
+            }
+            Skipped::Other => None,
+        }
+    }
+}
