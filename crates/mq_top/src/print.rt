@@ -1,5 +1,5 @@
 //! What is printed gathers, owed to a sink, and is written where it has grown or the sink is to have it.
-ghost use Rattle.std.specs.Prelude.{◌≡◌, ℕ, ◌≤◌, List, [], ◌++◌, length, take};
+ghost use Rattle.std.specs.Prelude.{◌≡◌, ℕ, ◌≤◌, ◌<◌, List, [], ◌++◌, length, take, OnOk};
 ghost use Rattle.mq_top.specs.Printing.{Adds, Prints, FrontCounts, StopCounts, Flushes, Spills};
 
 use crate::status::Stop;
@@ -45,6 +45,7 @@ pub fn flush<K: Sink>(owed: &mut Vec<u8>, sink: &mut K) -> Result<(), Stop>
 
 /// Writes what is owed, where it is much.
 pub fn spill<K: Sink>(owed: &mut Vec<u8>, sink: &mut K) -> Result<(), Stop>
+    ensures few { OnOk result (length owed.new.items < 65536) }
     ensures prints { Prints (K.taken sink.old) (K.taken sink.new) owed.old.items owed.new.items [] }
     ensures fault { Spills result }
     ensures counts { StopCounts (K.faults sink.old) (K.faults sink.new) result }
