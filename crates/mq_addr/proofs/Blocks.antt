@@ -7,7 +7,7 @@ use Rattle.mq_addr.specs.declared.prefix.Prefix.{Prefix}
 use Rattle.mq_addr.specs.Block.{width, bits_of, SameVersion, free_bits, IsIn, Overlap}
 
 -- numbers that agree without n bits agree without more
-coarser : (x y n m : ℕ) → n ≤ m → x / 2 ^ n ≡ y / 2 ^ n → x / 2 ^ m ≡ y / 2 ^ m
+pub coarser : (x y n m : ℕ) → n ≤ m → x / 2 ^ n ≡ y / 2 ^ n → x / 2 ^ m ≡ y / 2 ^ m
 coarser x y n m h e =
     let sum : n + (m - n) ≡ m = omega arith in
     let at : (z : ℕ) → z / 2 ^ n / 2 ^ (m - n) ≡ z / 2 ^ m = λ z. shr-shr z n (m - n) ∙ ap (λ k. z / 2 ^ k) sum in
@@ -23,7 +23,7 @@ same_version (V6 a) (V4 b) (V6 x) h k = absurd k
 same_version (V6 a) (V6 b) (V4 x) h k = absurd h
 same_version (V6 a) (V6 b) (V6 x) h k = (tt, refl)
 
-itself : (a : Addr) → SameVersion a a
+pub itself : (a : Addr) → SameVersion a a
 itself (V4 a) = tt
 itself (V6 a) = tt
 

@@ -4,3 +4,6 @@ pub mod Decimals
 pub mod Forms
 pub mod Printing
 pub mod Alphabet
+pub mod Numbers
+pub mod Spans
+pub mod Within

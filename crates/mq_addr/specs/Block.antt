@@ -28,6 +28,10 @@ free_bits block = width block.addr - block.length
 abbrev pub first_bits : ℕ → Addr → ℕ
 first_bits free a = bits_of a / 2 ^ free
 
+-- the block of one address
+abbrev pub alone : Addr → Prefix
+alone a = record { addr = a; length = width a }
+
 -- the address is one of the block: it agrees with it up to the length
 pub record IsIn (block : Prefix) (a : Addr) : Type 0 where
   pub version : SameVersion block.addr a

@@ -1,4 +1,6 @@
 //! An address and the texts that write it.
+ghost use Rattle.std.specs.Prelude.{◌≡◌};
+ghost use Rattle.mq_addr.specs.Cover.{version_of};
 ghost use Rattle.mq_addr.specs.Addr.{HasAddrBytes, HasOneAddr, ReadsAddr};
 
 use std::net::IpAddr;
@@ -26,6 +28,16 @@ pub fn parse_addr(text: &[u8]) -> Result<Addr, AddrFault>
         Ok(IpAddr::V4(ip)) => Ok(Addr::V4(ip.to_bits())),
         Ok(IpAddr::V6(ip)) => Ok(Addr::V6(ip.to_bits())),
         Err(_) => Err(AddrFault::Syntax),
+    }
+}
+
+/// The number of an address's version.
+pub fn version_of(addr: &Addr) -> u8
+    ensures { result ≡ version_of addr.now }
+{
+    match addr {
+        Addr::V4(_) => 4,
+        Addr::V6(_) => 6,
     }
 }
 

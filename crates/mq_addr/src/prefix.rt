@@ -1,6 +1,7 @@
 //! A block of addresses: those whose first bits are given (RFC 4632, section 3.1).
 ghost use Rattle.std.specs.Prelude.{◌≡◌, ◌↔◌, ◌/◌, ◌^◌, ◌≤◌, IsTrue};
-ghost use Rattle.mq_addr.specs.Block.{IsIn, Overlap, free_bits, width};
+ghost use Rattle.mq_addr.specs.Block.{IsIn, Overlap, alone, free_bits, width};
+ghost use Rattle.mq_addr.specs.Cover.{IsWithin, IsWithinByBits};
 
 use crate::Addr;
 
@@ -24,6 +25,28 @@ pub fn contains(block: &Prefix, addr: &Addr) -> bool
     }
 }
 
+/// Whether every address of a block lies in another.
+pub fn covers(whole: &Prefix, part: &Prefix) -> bool
+    ensures { IsTrue result ↔ IsWithin part.now whole.now }
+{
+    free_bits(part) <= free_bits(whole) && contains(whole, &part.addr)
+}
+
+/// A block lies in another exactly where no more bits follow its length, and its own address is in the other.
+pub fn within_by_bits()
+    ensures { IsWithinByBits }
+{}
+
+/// The block of one address.
+pub fn alone(addr: Addr) -> Prefix
+    ensures { result ≡ alone addr }
+{
+    Prefix {
+        addr,
+        length: full_length(&addr),
+    }
+}
+
 /// Whether two blocks have an address in common. Then one of them lies in the other.
 pub fn overlaps(a: &Prefix, b: &Prefix) -> bool
     ensures { IsTrue result ↔ Overlap a.now b.now }
@@ -36,7 +59,7 @@ pub fn overlaps(a: &Prefix, b: &Prefix) -> bool
 }
 
 /// How many bits an address of this version has.
-pub(crate) fn full_length(addr: &Addr) -> u8
+pub fn full_length(addr: &Addr) -> u8
     ensures value { result ≡ width addr.now }
     ensures small { result ≤ 128 }
 {
@@ -47,7 +70,7 @@ pub(crate) fn full_length(addr: &Addr) -> u8
 }
 
 /// How many bits of the address follow the prefix.
-pub(crate) fn free_bits(block: &Prefix) -> u8
+pub fn free_bits(block: &Prefix) -> u8
     ensures value { result ≡ free_bits block.now }
     ensures small { result ≤ 128 }
 {

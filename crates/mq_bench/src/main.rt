@@ -7,6 +7,7 @@ mod frames;
 mod head;
 mod hpack;
 mod huffman;
+mod packets;
 mod policy;
 mod streams;
 mod varint;
@@ -30,6 +31,7 @@ fn checksum(alloc: Global, word: &str, count: u32) -> Option<u64> {
         "hpack" => hpack::checksum(alloc, count),
         "hpack_write" => hpack::checksum_written(alloc, count),
         "huffman" => huffman::checksum(alloc, count).ok(),
+        "packets" => packets::checksum(alloc, count).ok(),
         "policy" => policy::checksum(alloc, count).ok(),
         "streams" => streams::checksum(alloc, count).ok(),
         "varint" => varint::checksum(alloc, count).ok(),

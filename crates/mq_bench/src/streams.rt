@@ -1,19 +1,11 @@
 //! A busy connection: a hundred live streams, with DATA both ways on each in turn.
-ghost use Rattle.std.specs.Prelude.{◌≡◌};
-ghost use Rattle.mq_streams.specs.History.{History};
-ghost use Rattle.mq_streams.specs.Stand.{StandFor};
-
-use mq_streams::{Counted, Streams, consumed_within_what_came};
+use mq_streams::{Counted, Streams};
 use mq_wire::NoMemory;
 use std::alloc::Global;
 
 /// DATA of a thousand bytes comes on the stream and is consumed, and what is due is given back.
-fn receive(streams: &mut Streams, id: u32) -> u64
-    requires { (h : History) × StandFor streams.old h }
-    ensures { (h : History) × StandFor streams.new h }
-{
+fn receive(streams: &mut Streams, id: u32) -> u64 {
     if let Counted::Yes = streams.on_data(id, 1_000) {
-        consumed_within_what_came();
         streams.consumed(id, 1_000);
     }
     let mut sum = 0u64;
@@ -28,10 +20,7 @@ fn receive(streams: &mut Streams, id: u32) -> u64
 }
 
 /// Room for DATA of at most 700 bytes is taken on the stream, and the same is granted again.
-fn send(streams: &mut Streams, id: u32) -> u64
-    requires { (h : History) × StandFor streams.old h }
-    ensures { (h : History) × StandFor streams.new h }
-{
+fn send(streams: &mut Streams, id: u32) -> u64 {
     if !streams.is_live(id) {
         return 0;
     }

@@ -1,4 +1,11 @@
-pub mod Doing
-pub mod HeadsRead
-pub mod Items
-pub mod Phases
+mod QueueLists
+mod ItemLists
+mod Standing
+mod Acting
+mod Hearing
+mod Closed
+mod Feeds
+mod Heads
+mod Took
+mod Came
+mod Framing

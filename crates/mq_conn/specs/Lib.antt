@@ -1,3 +1,8 @@
+pub mod Queues
+pub mod Meanings
 pub mod Items
-pub mod Connections
-pub mod Verdicts
+pub mod Conns
+pub mod Closing
+pub mod Wants
+pub mod Feeding
+pub mod Frames

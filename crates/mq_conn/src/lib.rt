@@ -1,8 +1,17 @@
-//! The core of one connection, without input or output: it is fed bytes, and does what they ask for one act at a time.
+//! The core of one connection, without input or output: it is fed bytes, says what it wants of the outside, and is told the
+//! answers. Each call leads the state that it stands for to the machine's next one.
 #![tactic(auto)]
 
-mod capsule;
-mod connection;
-mod verdict;
-
-pub use connection::Connection;
+pub mod acts;
+pub mod answer;
+pub mod conn;
+pub mod dues;
+pub mod feed;
+pub mod frame;
+pub mod front;
+pub mod items;
+pub mod judge;
+pub mod next;
+pub mod owed;
+pub mod queue;
+pub mod want;

@@ -3,3 +3,4 @@ pub mod Steps
 pub mod Streams
 pub mod Readers
 pub mod Writing
+pub mod Told

@@ -1,18 +1,20 @@
 -- What a reader has read.
 use Rattle.std.proofs.Common.{◌≡◌, ℕ, ◌≤◌, Bool, true, false, ltb, ◌↔◌, List, [], ◌∷◌, ◌++◌, length, take, drop, Option, Some, None, refl, sym, ap, subst, ◌∙◌, arith, append_assoc, append-nil}
 use Rattle.std.proofs.lemmas.List.{length-append, length-drop}
-use Rattle.std.proofs.lemmas.Bool.{both_ways}
+use Rattle.std.proofs.lemmas.Bool.{both_ways, lt-ltb, le-ltb, cond-true, cond-false}
 use Rattle.mq_frame.specs.declared.place.Place.{Place}
 use Rattle.mq_frame.specs.declared.place.Place.TheVariants.{First}
 use Rattle.mq_frame.specs.declared.frame.Frame.{Frame}
 use Rattle.mq_frame.specs.declared.state.State.{State}
 use Rattle.mq_frame.specs.declared.step.Step.{Step}
 use Rattle.mq_frame.specs.declared.reader.FrameReader.{FrameReader}
+use Rattle.mq_frame.specs.declared.header.Header.{Header}
+use Rattle.mq_frame.specs.Header.{header_of, is_skipped}
 use Rattle.mq_frame.specs.Stream.{front_of, is_ended, next_place, AreFrames, EndsInFrame}
 use Rattle.mq_frame.specs.Steps.{Holds, Gives, IsStep}
 use Rattle.mq_frame.specs.declared.state.State.TheVariants.{Head, Contents, Skip, Spent}
 use Rattle.mq_frame.specs.Numbers.{max_frame_size}
-use Rattle.mq_frame.specs.Readers.{HasRead, Stands, Went, kept}
+use Rattle.mq_frame.specs.Readers.{HasRead, Stands, Went, KeepsOnly, kept, kept_of}
 use Rattle.mq_frame.proofs.Fronts.{front_short}
 use Rattle.mq_frame.proofs.Streams.{front_ended, frames_on, frames_one}
 
@@ -23,7 +25,7 @@ drop_all (b ∷ bytes) = drop_all bytes
 -- what a state holds is bounded
 pub holds_few : (state : State) (bytes : List ℕ) → Holds state bytes → kept state ≤ max_frame_size
 holds_few (Head head) bytes h = omega (arith, ap length h.0, h.1)
-holds_few (Contents header contents missing) bytes h = omega (arith, h.0.count, h.0.begun, h.0.fits, ap length h.1, length-drop 9 bytes)
+holds_few (Contents header contents missing) bytes h = omega (arith, h.0.count, h.0.begun, h.0.fits, ap length h.2, length-drop 9 bytes)
 holds_few (Skip header missing) bytes h = omega arith
 holds_few Spent bytes h = absurd h
 
@@ -131,3 +133,22 @@ begun_ended r bytes stands ended ends =
     let one = frames_one First bytes stands.0 ends.0 r.place ends.1 stands.1.rest ends.2 stands.1.are ends.3 in
     let same = ap is_ended one.last_is in
     both_ways (is_ended r.place) (same ∙ ends.4) ended
+
+-- what a state holds is what is kept of the bytes
+holds_of : (state : State) (rest : List ℕ) → Holds state rest → kept state ≡ kept_of rest
+holds_of (Head head) rest h = ap length (sym h.0) ∙ sym (cond-true (ltb (length rest) 9) (length rest) _ (lt-ltb (length rest) 9 h.1))
+holds_of (Contents header contents missing) rest h =
+    let long = le-ltb (length rest) 9 h.0.begun in
+    let kind : is_skipped header.kind ≡ is_skipped (header_of rest).kind = ap (λ (x : Header). is_skipped x.kind) h.0.header_is in
+    ap length h.2 ∙ sym (cond-false (ltb (length rest) 9) (length rest) _ long ∙ cond-false (is_skipped (header_of rest).kind) 0 (length (drop 9 rest)) (sym kind ∙ h.1))
+holds_of (Skip header missing) rest h =
+    let long = le-ltb (length rest) 9 h.0.begun in
+    let kind : is_skipped header.kind ≡ is_skipped (header_of rest).kind = ap (λ (x : Header). is_skipped x.kind) h.0.header_is in
+    sym (cond-false (ltb (length rest) 9) (length rest) _ long ∙ cond-true (is_skipped (header_of rest).kind) 0 (length (drop 9 rest)) (sym kind ∙ h.1))
+holds_of Spent rest h = absurd h
+
+pub keeps_only : (r : FrameReader) (bytes : List ℕ) → Stands r bytes → KeepsOnly r bytes
+keeps_only r bytes stands frames last rest are on =
+    let one = frames_one First bytes frames stands.0 last r.place rest stands.1.rest are stands.1.are in
+    let going = ap is_ended (sym one.last_is) ∙ on in
+    holds_of r.state stands.1.rest (stands.1.holds going) ∙ ap kept_of (sym one.rest_is)

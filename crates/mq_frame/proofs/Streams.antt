@@ -163,3 +163,11 @@ fault_last place bytes [] code [] last rest a = refl
 fault_last place bytes [] code (g ∷ later) last rest a =
     let none = front_ended Ended (drop a.0 bytes) refl in let some = a.2.1 in absurd cc
 fault_last place bytes (f ∷ frames) code later last rest a = fault_last (next_place f) (drop a.0 bytes) frames code later last rest a.2
+
+-- no bytes have no frames
+pub nothing_read : (place : Place) (frames : List Frame) (last : Place) (rest : List ℕ) → AreFrames place [] frames last rest → frames ≡ []
+nothing_read place [] last rest a = refl
+nothing_read place (f ∷ fs) last rest a =
+    let some = front_nine place [] f a.0 a.1 in
+    let within = (front_keeps place [] [] f a.0 a.1).0 in
+    absurd (omega arith)

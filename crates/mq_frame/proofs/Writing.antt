@@ -1,7 +1,8 @@
 -- Spellings are read as their frames.
-use Rattle.std.proofs.Common.{◌≡◌, ℕ, ◌+◌, ◌-◌, ◌*◌, ◌^◌, ◌%◌, ◌<◌, ◌≤◌, Bool, true, false, cond, ltb, eqb, ◌||◌, ◌&&◌, List, [], ◌∷◌, ◌++◌, length, take, Option, Some, None, refl, sym, ap, ◌∙◌, arith}
+use Rattle.std.proofs.Common.{◌≡◌, ℕ, ◌+◌, ◌-◌, ◌*◌, ◌^◌, ◌%◌, ◌<◌, ◌≤◌, Bool, true, false, cond, ltb, eqb, ◌||◌, ◌&&◌, List, [], ◌∷◌, ◌++◌, length, take, Option, Some, None, drop, refl, sym, ap, subst, ◌∙◌, arith}
 use Rattle.std.specs.List.{flat_map, AllByRecursion}
 use Rattle.std.specs.Int.{w32, w64, byte_at, to_be_bytes, from_be_bytes}
+use Rattle.std.proofs.Math.Seq.{drop-append_seam}
 use Rattle.std.proofs.lemmas.Nat.{from_be_bytes-to_be_bytes_2, from_be_bytes-to_be_bytes_4, from_be_bytes-to_be_bytes_8}
 use Rattle.std.proofs.lemmas.Bool.{le-ltb, lt-ltb, eq-eqb}
 use Rattle.std.proofs.lemmas.List.{length-append, take_all}
@@ -10,14 +11,15 @@ use Rattle.mq_frame.specs.declared.kind.Kind.{Kind}
 use Rattle.mq_frame.specs.declared.kind.Kind.TheVariants as kinds
 use Rattle.mq_frame.specs.declared.header.Header.{Header}
 use Rattle.mq_frame.specs.declared.place.Place.{Place}
+use Rattle.mq_frame.specs.declared.place.Place.TheVariants.{First}
 use Rattle.mq_frame.specs.declared.frame.Setting.{Setting}
 use Rattle.mq_frame.specs.declared.frame.Frame.{Frame}
 use Rattle.mq_frame.specs.declared.frame.Frame.TheVariants.{Content, Headers, Continuation, Priority, Reset, Settings, Ping, GoAway, Window, Unknown, Fault}
 use Rattle.mq_frame.specs.Header.{header_of, header_text, kind_of, byte_of}
 use Rattle.mq_frame.specs.Table.{judged, frame_at, is_misplaced, isnt_first, breaks_block, is_push, lacks_stream, has_stream, pairs_of, setting_at, settings_fault, or_fault}
-use Rattle.mq_frame.specs.Stream.{front_of, is_ended}
-use Rattle.mq_frame.specs.Writing.{pair_text, flag, spelling_of, contents_text, kind_text, flags_text, stream_text, head_of, own_fault, read_as, IsWritable, Fits, SettingFits}
-use Rattle.mq_frame.proofs.Fronts.{front_whole}
+use Rattle.mq_frame.specs.Stream.{front_of, is_ended, next_place, AreFrames, FramesOf}
+use Rattle.mq_frame.specs.Writing.{pair_text, flag, spelling_of, contents_text, kind_text, flags_text, stream_text, head_of, own_fault, read_as, contents_len, AreWritten, IsWritable, Fits, SettingFits}
+use Rattle.mq_frame.proofs.Fronts.{front_short, front_whole}
 use Rattle.mq_frame.proofs.Streams.{front_keeps}
 
 -- six bytes a setting
@@ -29,6 +31,26 @@ pub settings_text : (ack : Bool) (pairs : List Setting)
     → header_text (6 * length pairs) kinds.Settings (flag ack ack_flag) 0 ++ flat_map pair_text pairs ≡ spelling_of (Settings ack pairs)
 unfolding spelling_of
 settings_text ack pairs = ap (λ (n : ℕ). header_text n kinds.Settings (flag ack ack_flag) 0 ++ flat_map pair_text pairs) (sym (pairs_len pairs))
+
+-- nine bytes and the contents
+pub text_len : (frame : Frame) → length (spelling_of frame) ≡ 9 + length (contents_text frame)
+unfolding spelling_of
+text_len frame =
+    let text = header_text (length (contents_text frame)) (kind_text frame) (flags_text frame) (stream_text frame) in
+    omega (arith, length-append text (contents_text frame))
+
+pub spelling_len : (frame : Frame) → length (spelling_of frame) ≡ 9 + contents_len frame
+spelling_len (Content stream bytes len end) = text_len (Content stream bytes len end)
+spelling_len (Headers stream block end whole) = text_len (Headers stream block end whole)
+spelling_len (Continuation stream block whole) = text_len (Continuation stream block whole)
+spelling_len (Priority stream) = text_len (Priority stream)
+spelling_len (Reset stream code) = text_len (Reset stream code)
+spelling_len (Settings ack pairs) = omega (arith, text_len (Settings ack pairs), pairs_len pairs)
+spelling_len (Ping ack bytes) = text_len (Ping ack bytes)
+spelling_len (GoAway last code) = text_len (GoAway last code)
+spelling_len (Window stream grow) = text_len (Window stream grow)
+spelling_len (Unknown kind stream) = text_len (Unknown kind stream)
+spelling_len (Fault code) = text_len (Fault code)
 
 same_header : (len len' : ℕ) (kind kind' : Kind) (flags stream stream' : ℕ) → len ≡ len' → kind ≡ kind' → stream ≡ stream'
     → ◌≡◌ {A = Header} (record { length = len; kind = kind; flags = flags; stream = stream }) (record { length = len'; kind = kind'; flags = flags; stream = stream' })
@@ -55,7 +77,7 @@ chain false false false true e x y = refl
 chain false false false false true x y = refl
 chain false false false false false x y = refl
 
-place_first : (place : Place) (h : Header) (contents : List ℕ) (other : Frame) → judged h.kind h contents ≡ other
+pub place_first : (place : Place) (h : Header) (contents : List ℕ) (other : Frame) → judged h.kind h contents ≡ other
     → frame_at place h contents ≡ cond (is_misplaced place h) (Fault protocol_error) other
 unfolding frame_at
 place_first place h contents other e =
@@ -202,3 +224,41 @@ read_back place frame rest on writable fits =
     let named = place_first place (head_of frame) contents (or_fault (own_fault frame) frame) (frame_back frame writable fits) in
     let alone : front_of place all ≡ Some (read_as place frame, length all) = front ∙ ap (λ (f : Frame). Some (f, length all)) named in
     (front_keeps place all rest (read_as place frame) (length all) alone).1
+
+-- Lists of frames.
+
+-- nothing that can be written ends the reading
+written_on : (frame : Frame) → IsWritable frame → is_ended (next_place frame) ≡ false
+written_on (Content stream bytes len end) w = refl
+written_on (Headers stream block end true) w = refl
+written_on (Headers stream block end false) w = refl
+written_on (Continuation stream block true) w = refl
+written_on (Continuation stream block false) w = refl
+written_on (Priority stream) w = refl
+written_on (Reset stream code) w = refl
+written_on (Settings ack pairs) w = refl
+written_on (Ping ack bytes) w = refl
+written_on (GoAway last code) w = refl
+written_on (Window stream grow) w = refl
+written_on (Unknown kind stream) w = absurd w
+written_on (Fault code) w = absurd w
+
+place_behind : Place → List Frame → Place
+place_behind place [] = place
+place_behind place (frame ∷ frames) = place_behind (next_place frame) frames
+
+all_read_back : (place : Place) (frames : List Frame) → is_ended place ≡ false → AreWritten place frames
+    → AreFrames place (flat_map spelling_of frames) frames (place_behind place frames) []
+unfolding place_behind
+all_read_back place [] on written = (front_short place [] (omega arith), refl, refl)
+all_read_back place (frame ∷ frames) on written =
+    let more = flat_map spelling_of frames in
+    let text = spelling_of frame in
+    let back : front_of place (text ++ more) ≡ Some (frame, length text) =
+    read_back place frame more on written.0 written.1 ∙ ap (λ (f : Frame). Some (f, length text)) written.2 in
+    let behind : drop (length text) (text ++ more) ≡ more = drop-append_seam text more in
+    let P : List ℕ → Type 0 = λ b. AreFrames (next_place frame) b frames (place_behind (next_place frame) frames) [] in
+    (length text, back, subst P (sym behind) (all_read_back (next_place frame) frames (written_on frame written.0) written.3))
+
+pub list_back : (frames : List Frame) → AreWritten First frames → FramesOf (flat_map spelling_of frames) frames
+list_back frames written = (place_behind First frames, [], all_read_back First frames refl written)

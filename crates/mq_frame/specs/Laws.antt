@@ -20,3 +20,7 @@ StaysRead = (bytes more : List ℕ) (frames all : List Frame) → FramesOf bytes
 -- nothing is read behind an error
 abbrev pub EndsAtFault : Type 0
 EndsAtFault = (bytes : List ℕ) (frames : List Frame) (code : ℕ) (later : List Frame) → FramesOf bytes (frames ++ Fault code ∷ later) → later ≡ []
+
+-- no bytes have no frames
+abbrev pub NothingIsRead : Type 0
+NothingIsRead = (frames : List Frame) → FramesOf [] frames → frames ≡ []

@@ -2,6 +2,7 @@ pub mod Numbers
 pub mod Header
 pub mod Table
 pub mod Stream
+pub mod Told
 pub mod Steps
 pub mod Readers
 pub mod Writing

@@ -1,11 +1,13 @@
 -- What a reader stands for: the bytes that it was fed.
-use Rattle.std.specs.Prelude.{◌≡◌, ℕ, ◌≤◌, List, ◌++◌, length, false}
+use Rattle.std.specs.Prelude.{◌≡◌, ℕ, ◌≤◌, List, ◌++◌, length, drop, false, nat_lt, if◌then◌else◌}
 use Rattle.mq_frame.specs.Numbers.{max_frame_size}
+use Rattle.mq_frame.specs.declared.place.Place.{Place}
 use Rattle.mq_frame.specs.declared.place.Place.TheVariants.{First}
 use Rattle.mq_frame.specs.declared.frame.Frame.{Frame}
 use Rattle.mq_frame.specs.declared.state.State.{State}
 use Rattle.mq_frame.specs.declared.state.State.TheVariants.{Head, Contents, Skip, Spent}
 use Rattle.mq_frame.specs.declared.reader.FrameReader.{FrameReader}
+use Rattle.mq_frame.specs.Header.{header_of, is_skipped}
 use Rattle.mq_frame.specs.Stream.{is_ended, AreFrames, FramesOf}
 use Rattle.mq_frame.specs.Steps.{Holds}
 
@@ -47,3 +49,14 @@ GivesFrames r piece given = (bytes : List ℕ) (frames : List Frame) → Stands 
 -- how many bytes of a frame the reader keeps
 abbrev pub held : FrameReader → ℕ
 held r = kept r.state
+
+-- How many bytes are kept of a frame that isn't whole: those of a header in part, and those of the contents, but none
+-- of contents that are read past.
+abbrev pub kept_of : List ℕ → ℕ
+kept_of rest =
+    if nat_lt (length rest) 9 then length rest
+    else (if is_skipped (header_of rest).kind then 0 else length (drop 9 rest))
+
+-- the reader keeps so much of the frame that the bytes end in
+abbrev pub KeepsOnly : FrameReader → List ℕ → Type 0
+KeepsOnly r bytes = (frames : List Frame) (last : Place) (rest : List ℕ) → AreFrames First bytes frames last rest → is_ended last ≡ false → held r ≡ kept_of rest

@@ -1,5 +1,5 @@
 -- What a reader keeps, and what a step of it does.
-use Rattle.std.specs.Prelude.{◌≡◌, ℕ, ◌+◌, ◌<◌, ◌≤◌, List, [], ◌++◌, length, take, drop, Option, Some, None, true}
+use Rattle.std.specs.Prelude.{◌≡◌, ℕ, ◌+◌, ◌<◌, ◌≤◌, List, [], ◌++◌, length, take, drop, Option, Some, None, true, false}
 use Rattle.mq_frame.specs.Numbers.{max_frame_size}
 use Rattle.mq_frame.specs.declared.header.Header.{Header}
 use Rattle.mq_frame.specs.declared.place.Place.{Place}
@@ -21,7 +21,7 @@ pub record IsBegun (h : Header) (missing : ℕ) (bytes : List ℕ) : Type 0 wher
 -- the state keeps what is needed of the first bytes of a frame
 abbrev pub Holds : State → List ℕ → Type 0
 Holds (Head head) bytes = (bytes ≡ head.items) × (length bytes < 9)
-Holds (Contents h contents missing) bytes = IsBegun h missing bytes × (contents.items ≡ drop 9 bytes)
+Holds (Contents h contents missing) bytes = IsBegun h missing bytes × (is_skipped h.kind ≡ false) × (contents.items ≡ drop 9 bytes)
 Holds (Skip h missing) bytes = IsBegun h missing bytes × (is_skipped h.kind ≡ true)
 Holds Spent bytes = ⊥
 

@@ -7,12 +7,13 @@ use Rattle.mq_frame.specs.declared.kind.Kind.{Kind}
 use Rattle.mq_frame.specs.declared.kind.Kind.TheVariants as kinds
 use Rattle.mq_frame.specs.declared.header.Header.{Header}
 use Rattle.mq_frame.specs.declared.place.Place.{Place}
+use Rattle.mq_frame.specs.declared.place.Place.TheVariants.{First}
 use Rattle.mq_frame.specs.declared.frame.Setting.{Setting}
 use Rattle.mq_frame.specs.declared.frame.Frame.{Frame}
 use Rattle.mq_frame.specs.declared.frame.Frame.TheVariants.{Content, Headers, Continuation, Priority, Reset, Settings, Ping, GoAway, Window, Unknown, Fault}
 use Rattle.mq_frame.specs.Header.{header_text}
 use Rattle.mq_frame.specs.Table.{is_misplaced, settings_fault, or_fault}
-use Rattle.mq_frame.specs.Stream.{front_of, is_ended}
+use Rattle.mq_frame.specs.Stream.{front_of, is_ended, next_place, FramesOf}
 
 abbrev pub kind_text : Frame → Kind
 kind_text (Content stream bytes len end) = kinds.Data
@@ -67,6 +68,23 @@ contents_text frame = []
 unfoldable pub spelling_of : Frame → List ℕ
 spelling_of frame = header_text (length (contents_text frame)) (kind_text frame) (flags_text frame) (stream_text frame) ++ contents_text frame
 
+-- how many bytes of contents a frame is written with
+abbrev pub contents_len : Frame → ℕ
+contents_len (Content stream bytes len end) = length bytes
+contents_len (Headers stream block end whole) = length block
+contents_len (Continuation stream block whole) = length block
+contents_len (Priority stream) = 5
+contents_len (Reset stream code) = 4
+contents_len (Settings ack pairs) = 6 * length pairs
+contents_len (Ping ack bytes) = 8
+contents_len (GoAway last code) = 8
+contents_len (Window stream grow) = 4
+contents_len frame = 0
+
+-- and nine of a header
+abbrev pub IsAsLong : Type 0
+IsAsLong = (frame : Frame) → length (spelling_of frame) ≡ 9 + contents_len frame
+
 -- what can be written
 abbrev pub IsWritable : Frame → Type 0
 IsWritable (Content stream bytes len end) = (stream < 2 ^ 31) × (length bytes ≤ max_frame_size) × (len ≡ length bytes)
@@ -110,3 +128,12 @@ read_as place frame = if is_misplaced place (head_of frame) then Fault protocol_
 abbrev pub IsReadBack : Type 0
 IsReadBack = (place : Place) (frame : Frame) (rest : List ℕ) → is_ended place ≡ false → IsWritable frame → Fits frame
     → front_of place (spelling_of frame ++ rest) ≡ Some (read_as place frame, length (spelling_of frame))
+
+-- frames that can be written one behind the other, none of which is an error where it stands
+abbrev pub AreWritten : Place → List Frame → Type 0
+AreWritten place [] = Unit {0}
+AreWritten place (frame ∷ frames) = IsWritable frame × Fits frame × (read_as place frame ≡ frame) × AreWritten (next_place frame) frames
+
+-- the frames of what was written of a list of frames are that list
+abbrev pub AreReadBack : Type 0
+AreReadBack = (frames : List Frame) → AreWritten First frames → FramesOf (flat_map spelling_of frames) frames

@@ -8,13 +8,13 @@ use super::fields::{goaway, ping, reset, window};
 use super::frame::Frame;
 use super::header::Header;
 use super::kind::Kind;
-use super::padded::{data, headers};
+use super::padded::{data, data_of, headers, headers_of};
 use super::place::Place;
 use super::settings::settings;
 use mq_wire::{Bytes, NoMemory};
 use std::alloc::Global;
 
-/// The frame with this header and these contents at a place.
+/// The frame with this header and a copy of these contents at a place.
 #[tactic(auto, unfolding(crate::specs::Table::frame_at))]
 pub fn frame_at(
     alloc: Global,
@@ -42,7 +42,7 @@ fn judged(alloc: Global, header: Header, contents: &[u8]) -> Result<Frame, NoMem
         Kind::Data => data(alloc, header, contents),
         Kind::Headers => headers(alloc, header, contents),
         Kind::Settings => settings(alloc, header, contents),
-        Kind::Continuation => continuation(alloc, header, contents),
+        Kind::Continuation => Ok(continuation(header, Vec::from_slice(alloc, contents)?)),
         Kind::Priority => Ok(Frame::Priority {
             stream: header.stream,
         }),
@@ -61,12 +61,43 @@ fn judged(alloc: Global, header: Header, contents: &[u8]) -> Result<Frame, NoMem
 }
 
 #[tactic(auto, unfolding(crate::specs::Table::judged))]
-fn continuation(alloc: Global, header: Header, contents: &[u8]) -> Result<Frame, NoMemory>
-    ensures { IfOk result (λ f. f ≡ judged kinds.Continuation header contents.now) }
+fn continuation(header: Header, block: Vec<u8>) -> Frame
+    ensures { result ≡ judged kinds.Continuation header block.items }
 {
-    Ok(Frame::Continuation {
+    Frame::Continuation {
         stream: header.stream,
-        block: Bytes::from_vec(Vec::from_slice(alloc, contents)?),
+        block: Bytes::from_vec(block),
         whole: header.has(END_HEADERS),
-    })
+    }
+}
+
+/// The frame with this header at a place, whose contents move to it where it has them.
+#[tactic(auto, unfolding(crate::specs::Table::frame_at))]
+pub fn frame_of(
+    alloc: Global,
+    place: Place,
+    header: Header,
+    contents: Vec<u8>,
+) -> Result<Frame, NoMemory>
+    ensures { IfOk result (λ f. f ≡ frame_at place header contents.items) }
+{
+    if place.refuses(header) {
+        return Ok(Frame::Fault {
+            code: PROTOCOL_ERROR,
+        });
+    }
+    let frame = judged_of(alloc, header, contents)?;
+    Ok(frame)
+}
+
+/// The same where the place allows it.
+fn judged_of(alloc: Global, header: Header, contents: Vec<u8>) -> Result<Frame, NoMemory>
+    ensures { IfOk result (λ f. f ≡ judged header.kind header contents.items) }
+{
+    match header.kind {
+        Kind::Data => Ok(data_of(header, contents)),
+        Kind::Headers => Ok(headers_of(header, contents)),
+        Kind::Continuation => Ok(continuation(header, contents)),
+        _ => judged(alloc, header, contents.as_slice()),
+    }
 }

@@ -1,6 +1,7 @@
 //! Laws of the definitions that the reader and the writer go by. The functions do nothing.
-ghost use Rattle.mq_frame.specs.Laws.{IsReadable, IsReadOnce, StaysRead, EndsAtFault};
-ghost use Rattle.mq_frame.specs.Writing.{IsReadBack};
+ghost use Rattle.mq_frame.specs.Laws.{IsReadable, IsReadOnce, StaysRead, EndsAtFault, NothingIsRead};
+ghost use Rattle.mq_frame.specs.Told.{StaysBounded, Alternates};
+ghost use Rattle.mq_frame.specs.Writing.{IsAsLong, IsReadBack, AreReadBack};
 
 /// All bytes are frames, then a rest or an error.
 pub fn is_readable()
@@ -25,4 +26,29 @@ pub fn ends_at_fault()
 /// What `write_frame` wrote is read as that frame at each place that allows it, whatever follows.
 pub fn is_read_back()
     ensures { IsReadBack }
+{}
+
+/// What is written of a frame is nine bytes and its contents.
+pub fn is_as_long()
+    ensures { IsAsLong }
+{}
+
+/// Streams, ids, growths and contents of the frames that are read are within their bounds.
+pub fn stays_bounded()
+    ensures { StaysBounded }
+{}
+
+/// SETTINGS comes first, and behind a frame whose header block goes on only CONTINUATION of its stream, or an error.
+pub fn alternates()
+    ensures { Alternates }
+{}
+
+/// No bytes are no frames.
+pub fn nothing_is_read()
+    ensures { NothingIsRead }
+{}
+
+/// What `write_frame` wrote of a list of frames, one behind the other, is read as that list.
+pub fn are_read_back()
+    ensures { AreReadBack }
 {}

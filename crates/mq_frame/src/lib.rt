@@ -17,9 +17,12 @@ mod step;
 mod write;
 
 pub use frame::{Frame, Setting};
-pub use laws::{ends_at_fault, is_read_back, is_read_once, is_readable, stays_read};
+pub use laws::{
+    alternates, are_read_back, ends_at_fault, is_as_long, is_read_back, is_read_once, is_readable,
+    nothing_is_read, stays_bounded, stays_read,
+};
 pub use reader::FrameReader;
-pub use write::write_frame;
+pub use write::{write_data, write_frame, write_headers};
 
 #[cfg(test)]
 mod tests;

@@ -1,8 +1,10 @@
 //! The reader of frames, from pieces in any cutting.
 ghost use Rattle.std.specs.Prelude.{◌≡◌, ℕ, ◌<◌, ◌≤◌, ◌++◌, ◌↔◌, List, [], length, take, false, true, IfOk, OnOk, OnErr, IsErr};
+ghost use Rattle.std.specs.List.{AllByRecursion};
 ghost use Rattle.mq_frame.specs.Numbers.{max_frame_size};
 ghost use Rattle.mq_frame.specs.Stream.{is_ended, EndsInFrame};
-ghost use Rattle.mq_frame.specs.Readers.{Stands, GivesFrames, IsSpent, Reads, held};
+ghost use Rattle.mq_frame.specs.Readers.{Stands, GivesFrames, KeepsOnly, IsSpent, Reads, held};
+ghost use Rattle.mq_frame.specs.Told.{IsBounded};
 
 use super::frame::Frame;
 use super::place::Place;
@@ -37,8 +39,10 @@ impl FrameReader {
     /// is of no use: every later call answers the same.
     pub fn feed(&mut self, alloc: Global, piece: &[u8]) -> Result<Seq<Frame>, NoMemory>
         ensures frames { IfOk result (GivesFrames self.old piece.now) }
+        ensures told { IfOk result (λ given. (bytes : List ℕ) → Stands self.old bytes → AllByRecursion IsBounded given) }
         ensures stands { OnOk result ((bytes : List ℕ) → Stands self.old bytes → Stands self.new (bytes ++ piece.now)) }
         ensures bounded { OnOk result ((bytes : List ℕ) → Stands self.old bytes → held self.new ≤ max_frame_size) }
+        ensures keeps { OnOk result ((bytes : List ℕ) → Stands self.old bytes → KeepsOnly self.new (bytes ++ piece.now)) }
         ensures spent { OnErr result (IsSpent self.new) }
         ensures stays_spent { IsSpent self.old → IsErr result }
     {

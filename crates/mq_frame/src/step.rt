@@ -5,7 +5,7 @@ ghost use Rattle.mq_frame.specs.Stream.{is_ended};
 ghost use Rattle.mq_frame.specs.Steps.{IsStep, IsBegun, Holds};
 
 use super::codes::{FRAME_SIZE_ERROR, MAX_FRAME_SIZE};
-use super::contents::frame_at;
+use super::contents::{frame_at, frame_of};
 use super::frame::Frame;
 use super::header::Header;
 use super::place::Place;
@@ -135,7 +135,7 @@ fn read_contents(
     requires { is_ended place ≡ false }
     ensures within { IfOk result (λ s. s.used ≤ length piece.now) }
     ensures some { IfOk result (λ s. 0 < missing → 0 < length piece.now → 0 < s.used) }
-    ensures gives { IfOk result (λ s. (rest : List ℕ) → IsBegun header missing rest → bytes.items ≡ drop 9 rest → IsStep place rest piece.now s) }
+    ensures gives { IfOk result (λ s. (rest : List ℕ) → IsBegun header missing rest → is_skipped header.kind ≡ false → bytes.items ≡ drop 9 rest → IsStep place rest piece.now s) }
 {
     let mut bytes = bytes;
     if piece.len() < missing {
@@ -152,7 +152,7 @@ fn read_contents(
     }
     let (end, _) = piece.split_at(missing);
     bytes.extend_from_slice(end)?;
-    let frame = frame_at(alloc, place, header, bytes.as_slice())?;
+    let frame = frame_of(alloc, place, header, bytes)?;
     Ok(whole(frame, missing))
 }
 

@@ -2,7 +2,7 @@
 ghost use Rattle.std.specs.Prelude.{◌<◌, ◌≤◌, length};
 ghost use Rattle.mq_frame.specs.Writing.{IsWritable};
 
-use super::{Frame, FrameReader, Setting, write_frame};
+use super::{Frame, FrameReader, Setting, write_data, write_frame, write_headers};
 use mq_wire::{Bytes, Seq};
 use std::alloc::Global;
 use std::process::Abort;
@@ -480,6 +480,19 @@ fn frames_with_bytes_are_written_as_the_standard_lays_them_out(
     assert_eq!(rt;
         written_settings(alloc)?.as_str(),
         "000006040000000000000300000064"
+    );
+    Ok(())
+}
+
+#[test]
+fn borrowed_bytes_are_written_behind_what_stands_there(rt: HostRuntime) -> Result<(), Fail> {
+    let mut out = Vec::from_slice(rt.alloc(), &[0xff])?;
+    write_data(&mut out, 1, &[0x61, 0x62], false)?;
+    write_headers(&mut out, 5, &[0x88], true)?;
+    write_headers(&mut out, 7, &[0x88], false)?;
+    assert_eq!(rt;
+        hex::encode(rt.alloc(), out)?.as_str(),
+        "ff00000200000000000161620000010105000000058800000101040000000788"
     );
     Ok(())
 }

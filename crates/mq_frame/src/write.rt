@@ -1,9 +1,9 @@
 //! Writing frames, without padding.
-ghost use Rattle.std.specs.Prelude.{◌≡◌, ◌+◌, ◌*◌, ◌≤◌, ◌++◌, length, OnOk, OnErr, IsOk};
+ghost use Rattle.std.specs.Prelude.{◌≡◌, ◌+◌, ◌*◌, ◌≤◌, ◌++◌, true, length, OnOk, OnErr, IsOk};
 ghost use Rattle.std.specs.List.{flat_map};
 ghost use Rattle.std.specs.Vec.{vec_len, vec_capacity};
 ghost use Rattle.mq_frame.specs.declared.kind.Kind.TheVariants as kinds;
-ghost use Rattle.mq_frame.specs.declared.frame.Frame.TheVariants.{GoAway};
+ghost use Rattle.mq_frame.specs.declared.frame.Frame.TheVariants.{Content, Headers, GoAway};
 ghost use Rattle.mq_frame.specs.Header.{header_text};
 ghost use Rattle.mq_frame.specs.Numbers.{max_frame_size};
 ghost use Rattle.mq_frame.specs.Writing.{flag, pair_text, spelling_of, IsWritable};
@@ -19,6 +19,8 @@ pub fn write_frame(out: &mut Vec<u8>, frame: &Frame) -> Result<(), NoMemory>
     requires { IsWritable frame.now }
     ensures ok { OnOk result (out.new.items ≡ out.old.items ++ spelling_of frame.now) }
     ensures err { OnErr result (out.new.items ≡ out.old.items) }
+    ensures succeeds { vec_len out.old + length (spelling_of frame.now) ≤ vec_capacity out.old → IsOk result }
+    ensures capacity { vec_capacity out.old ≤ vec_capacity out.new }
 {
     match frame {
         Frame::Content {
@@ -69,6 +71,36 @@ pub fn write_frame(out: &mut Vec<u8>, frame: &Frame) -> Result<(), NoMemory>
     }
 }
 
+/// Writes a DATA frame with these bytes at the end, which aren't copied before. An `Err` changes nothing.
+#[tactic(auto, unfolding(crate::specs::Writing::spelling_of))]
+pub fn write_data(out: &mut Vec<u8>, stream: u32, bytes: &[u8], end: bool) -> Result<(), NoMemory>
+    requires { length bytes.now ≤ max_frame_size }
+    ensures ok { OnOk result (out.new.items ≡ out.old.items ++ spelling_of (Content stream bytes.now (length bytes.now) end)) }
+    ensures err { OnErr result (out.new.items ≡ out.old.items) }
+    ensures succeeds { vec_len out.old + (9 + length bytes.now) ≤ vec_capacity out.old → IsOk result }
+    ensures capacity { vec_capacity out.old ≤ vec_capacity out.new }
+{
+    put(out, Kind::Data, flag(end, END_STREAM), stream, bytes)
+}
+
+/// Writes a HEADERS frame with a whole header block at the end, which isn't copied before. An `Err` changes nothing.
+#[tactic(auto, unfolding(crate::specs::Writing::spelling_of))]
+pub fn write_headers(
+    out: &mut Vec<u8>,
+    stream: u32,
+    block: &[u8],
+    end: bool,
+) -> Result<(), NoMemory>
+    requires { length block.now ≤ max_frame_size }
+    ensures ok { OnOk result (out.new.items ≡ out.old.items ++ spelling_of (Headers stream block.now end true)) }
+    ensures err { OnErr result (out.new.items ≡ out.old.items) }
+    ensures succeeds { vec_len out.old + (9 + length block.now) ≤ vec_capacity out.old → IsOk result }
+    ensures capacity { vec_capacity out.old ≤ vec_capacity out.new }
+{
+    let flags = flag(end, END_STREAM) + END_HEADERS;
+    put(out, Kind::Headers, flags, stream, block)
+}
+
 fn flag(set: bool, bit: u8) -> u8
     ensures { result ≡ flag set bit }
 {
@@ -95,6 +127,8 @@ fn put(
     requires { length contents.now ≤ max_frame_size }
     ensures ok { OnOk result (out.new.items ≡ out.old.items ++ (header_text (length contents.now) kind flags stream ++ contents.now)) }
     ensures err { OnErr result (out.new.items ≡ out.old.items) }
+    ensures succeeds { vec_len out.old + (9 + length contents.now) ≤ vec_capacity out.old → IsOk result }
+    ensures capacity { vec_capacity out.old ≤ vec_capacity out.new }
 {
     out.reserve(9 + contents.len())?;
     out.extend_from_slice(&header_bytes(contents.len(), kind, flags, stream))?;
@@ -106,6 +140,8 @@ fn put(
 fn put_goaway(out: &mut Vec<u8>, last: u32, code: u32) -> Result<(), NoMemory>
     ensures ok { OnOk result (out.new.items ≡ out.old.items ++ spelling_of (GoAway last code)) }
     ensures err { OnErr result (out.new.items ≡ out.old.items) }
+    ensures succeeds { vec_len out.old + 17 ≤ vec_capacity out.old → IsOk result }
+    ensures capacity { vec_capacity out.old ≤ vec_capacity out.new }
 {
     let [a, b, c, d] = last.to_be_bytes();
     let [e, f, g, h] = code.to_be_bytes();
@@ -116,6 +152,8 @@ fn put_settings(out: &mut Vec<u8>, flags: u8, pairs: &[Setting]) -> Result<(), N
     requires { 6 * length pairs.now ≤ max_frame_size }
     ensures ok { OnOk result (out.new.items ≡ out.old.items ++ (header_text (6 * length pairs.now) kinds.Settings flags 0 ++ flat_map pair_text pairs.now)) }
     ensures err { OnErr result (out.new.items ≡ out.old.items) }
+    ensures succeeds { vec_len out.old + (9 + 6 * length pairs.now) ≤ vec_capacity out.old → IsOk result }
+    ensures capacity { vec_capacity out.old ≤ vec_capacity out.new }
 {
     let length = 6 * pairs.len();
     out.reserve(9 + length)?;

@@ -2,11 +2,11 @@
 use Rattle.std.proofs.Common.{◌≡◌, ℕ, ◌≢◌, zero, suc, inl, inr, List, [], ◌∷◌, ◌++◌, length, Result, Ok, Err, refl, sym, ◌∙◌, ap, subst, arith, append-nil, append_assoc}
 use Rattle.mq_hpack.specs.declared.fault.HpackFault.{HpackFault}
 use Rattle.mq_hpack.specs.declared.field.Field.{Field}
-use Rattle.mq_hpack.specs.declared.form.Form.{Form}
-use Rattle.mq_hpack.specs.declared.form.Form.TheVariants.{Plain, Stored, Limit}
+use Rattle.mq_hpack.specs.declared.representation.Representation.{Representation}
+use Rattle.mq_hpack.specs.declared.representation.Representation.TheVariants.{Plain, Stored, SizeUpdate}
 use Rattle.mq_hpack.specs.Text.{Told}
 use Rattle.mq_hpack.specs.Table.{Table, with_field, with_limit}
-use Rattle.mq_hpack.specs.Form.{IsForm}
+use Rattle.mq_hpack.specs.Representation.{IsRepresentation}
 use Rattle.mq_hpack.specs.Taking.{IsTaken}
 use Rattle.mq_hpack.specs.Block.{behind, Goes, IsBlock, Reads}
 use Rattle.mq_hpack.proofs.Readings.{told_weaker}
@@ -42,19 +42,19 @@ leads_end start t bytes rest fields total leads e =
 
 -- a fault of the next form is the block's
 pub leads_fault : (start t : Table) (bytes rest : List ℕ) (fields : List Field) (total : ℕ) → Leads start bytes fields t total rest → rest ≢ [] →
-    (e : HpackFault) → Told (IsForm t total rest) (Err e) → Told (Reads start bytes) (Err e)
+    (e : HpackFault) → Told (IsRepresentation t total rest) (Err e) → Told (Reads start bytes) (Err e)
 leads_fault start t bytes rest fields total leads some e h =
-    told_weaker (IsForm t total rest) (Reads start bytes) (λ fault is. leads (suc zero) (Err fault) (some, inl (fault, is, refl))) e h
+    told_weaker (IsRepresentation t total rest) (Reads start bytes) (λ fault is. leads (suc zero) (Err fault) (some, inl (fault, is, refl))) e h
 
 -- and so is a field too many
-full : (form : Form) (t new : Table) (before after : List Field) (total : ℕ) (rest : List ℕ) (e : HpackFault) →
+full : (form : Representation) (t new : Table) (before after : List Field) (total : ℕ) (rest : List ℕ) (e : HpackFault) →
     IsTaken form t new before after total (Err e) → Goes (IsBlock zero) form t total rest (Err e)
-full (Limit n) t new before after total rest e h = absurd h
+full (SizeUpdate n) t new before after total rest e h = absurd h
 full (Plain f) t new before after total rest e h = inl (h.0, ap (λ z. Err z) h.1)
 full (Stored f) t new before after total rest e h = inl (h.0, ap (λ z. Err z) h.1)
 
-pub leads_full : (start t new : Table) (bytes rest : List ℕ) (fields after : List Field) (total : ℕ) (x : Form × List ℕ) → Leads start bytes fields t total rest → rest ≢ [] →
-    IsForm t total rest (Ok x) → (e : HpackFault) → Told (IsTaken x.0 t new fields after total) (Err e) → Told (Reads start bytes) (Err e)
+pub leads_full : (start t new : Table) (bytes rest : List ℕ) (fields after : List Field) (total : ℕ) (x : Representation × List ℕ) → Leads start bytes fields t total rest → rest ≢ [] →
+    IsRepresentation t total rest (Ok x) → (e : HpackFault) → Told (IsTaken x.0 t new fields after total) (Err e) → Told (Reads start bytes) (Err e)
 leads_full start t new bytes rest fields after total x leads some form e h =
     told_weaker (IsTaken x.0 t new fields after total) (Reads start bytes)
     (λ fault is. leads (suc zero) (Err fault) (some, inr (x, form, full x.0 t new fields after total x.1 fault is))) e h
@@ -71,12 +71,12 @@ gained : (fields after : List Field) (f : Field) (r : Result (List Field × Tabl
 gained fields after f r e = behind_more fields (f ∷ []) r ∙ ap (λ xs. behind xs r) (sym e)
 
 -- a form that was taken leads on
-pub leads_on : (start t new : Table) (bytes rest : List ℕ) (fields after : List Field) (total sum : ℕ) (form : Form) (left : List ℕ) →
-    Leads start bytes fields t total rest → rest ≢ [] → IsForm t total rest (Ok (form, left)) → IsTaken form t new fields after total (Ok sum) →
+pub leads_on : (start t new : Table) (bytes rest : List ℕ) (fields after : List Field) (total sum : ℕ) (form : Representation) (left : List ℕ) →
+    Leads start bytes fields t total rest → rest ≢ [] → IsRepresentation t total rest (Ok (form, left)) → IsTaken form t new fields after total (Ok sum) →
     Leads start bytes after new sum left
-leads_on start t new bytes rest fields after total sum (Limit n) left leads some is h = λ count r block.
+leads_on start t new bytes rest fields after total sum (SizeUpdate n) left leads some is h = λ count r block.
     reads_as start bytes (behind fields r) (behind after r) (ap (λ xs. behind xs r) (sym h.1))
-    (leads (suc count) r (some, inr ((Limit n, left), is, block_as count (with_limit n t) new total sum left r h.0 h.2 block)))
+    (leads (suc count) r (some, inr ((SizeUpdate n, left), is, block_as count (with_limit n t) new total sum left r h.0 h.2 block)))
 leads_on start t new bytes rest fields after total sum (Plain f) left leads some is h = λ count r block.
     reads_as start bytes _ (behind after r) (gained fields after f r h.1)
     (leads (suc count) (behind (f ∷ []) r) (some, inr ((Plain f, left), is, inr (h.2.0, r, block_as count t new _ sum left r h.0 h.2.1 block, refl))))

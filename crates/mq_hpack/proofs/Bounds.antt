@@ -4,8 +4,8 @@ use Rattle.std.specs.List.{sum_by}
 use Rattle.std.proofs.lemmas.List.Sums.{sum_by-cons}
 use Rattle.mq_hpack.specs.declared.fault.HpackFault.{HpackFault}
 use Rattle.mq_hpack.specs.declared.field.Field.{Field}
-use Rattle.mq_hpack.specs.declared.form.Form.{Form}
-use Rattle.mq_hpack.specs.declared.form.Form.TheVariants.{Plain, Stored, Limit}
+use Rattle.mq_hpack.specs.declared.representation.Representation.{Representation}
+use Rattle.mq_hpack.specs.declared.representation.Representation.TheVariants.{Plain, Stored, SizeUpdate}
 use Rattle.mq_hpack.specs.Table.{Table, size_of, with_field, with_limit}
 use Rattle.mq_hpack.specs.Block.{behind, Gains, Goes, IsBlock, Reads}
 
@@ -36,9 +36,9 @@ gains_fit Follows all f t total rest r h (inl g) = none_fit total r (ap fields_i
 gains_fit Follows all f t total rest r h (inr g) =
     subst (λ (s : Answer). Fits total s) (sym g.3) (behind_fits f total g.1 g.0 (all t (total + size_of f) rest g.1 g.0 g.2))
 
-goes_fit : (Follows : Table → ℕ → List ℕ → Answer → Type 0) → AllFit Follows → (form : Form) (t : Table) (total : ℕ) (rest : List ℕ) (r : Answer) → total ≤ 16384 →
+goes_fit : (Follows : Table → ℕ → List ℕ → Answer → Type 0) → AllFit Follows → (form : Representation) (t : Table) (total : ℕ) (rest : List ℕ) (r : Answer) → total ≤ 16384 →
     Goes Follows form t total rest r → Fits total r
-goes_fit Follows all (Limit n) t total rest r h g = all (with_limit n t) total rest r h g
+goes_fit Follows all (SizeUpdate n) t total rest r h g = all (with_limit n t) total rest r h g
 goes_fit Follows all (Plain f) t total rest r h g = gains_fit Follows all f t total rest r h g
 goes_fit Follows all (Stored f) t total rest r h g = gains_fit Follows all f (with_field f t) total rest r h g
 

@@ -12,3 +12,6 @@ pub mod Spelling
 pub mod Statics
 pub mod StringsBack
 pub mod Written
+pub mod Readable
+pub mod Lengths
+pub mod Blocked

@@ -4,11 +4,11 @@ use Rattle.std.specs.Prelude.{nat_le, slice_index}
 use Rattle.mq_huff.specs.Laws.{HaveOneReading, HaveTextOrFault}
 use Rattle.mq_hpack.specs.declared.fault.HpackFault.{HpackFault}
 use Rattle.mq_hpack.specs.declared.field.Field.{Field}
-use Rattle.mq_hpack.specs.declared.form.Form.{Form}
-use Rattle.mq_hpack.specs.declared.form.Form.TheVariants.{Plain, Stored, Limit}
+use Rattle.mq_hpack.specs.declared.representation.Representation.{Representation}
+use Rattle.mq_hpack.specs.declared.representation.Representation.TheVariants.{Plain, Stored, SizeUpdate}
 use Rattle.mq_hpack.specs.Text.{Then, IsInteger, IsPlain, IsLong, IsString}
 use Rattle.mq_hpack.specs.Table.{Table, size_of, with_field, with_limit}
-use Rattle.mq_hpack.specs.Form.{Kind, Indexes, Stores, Limits, Passes, kind_of, IsForm, IsOf, IsIndexed, IsNameAt, IsName, IsValue, IsLiteral, IsMade, IsLimit, IsLate}
+use Rattle.mq_hpack.specs.Representation.{Kind, Indexes, Stores, Updates, Passes, kind_of, IsRepresentation, IsOf, IsIndexed, IsNameAt, IsName, IsValue, IsLiteral, IsMade, IsSizeUpdate, IsLate}
 use Rattle.mq_hpack.specs.Block.{behind, Gains, Goes, IsBlock}
 use Rattle.mq_hpack.specs.OneReading.{HasOneReading}
 
@@ -133,12 +133,12 @@ value_one text fault name (Err c) (Err d) h k =
 literal_one : HaveOneReading → HaveTextOrFault → (t : Table) (prefix : ℕ) (bytes : List ℕ) → One (IsLiteral t prefix bytes)
 literal_one text fault t prefix bytes = then_one (IsName t prefix bytes) IsValue (name_one text fault t prefix bytes) (λ name. value_one text fault name)
 
-made_one : (form : Field → Form) (found : Field × List ℕ) → One (IsMade form found)
+made_one : (form : Field → Representation) (found : Field × List ℕ) → One (IsMade form found)
 made_one form found (Ok x) (Ok y) h k = cc
 made_one form found (Ok x) (Err d) h k = absurd k
 made_one form found (Err c) s h k = absurd h
 
-limit_one : (found : ℕ × List ℕ) → One (IsLimit found)
+limit_one : (found : ℕ × List ℕ) → One (IsSizeUpdate found)
 limit_one found (Ok x) (Ok y) h k = cc
 limit_one found (Ok x) (Err d) h k = let s = k.0 in absurd (omega (arith, h.0))
 limit_one found (Err c) (Ok y) h k = let s = h.0 in absurd (omega (arith, k.0))
@@ -152,11 +152,11 @@ late_one (Err c) (Err d) h k = cc
 of_one : HaveOneReading → HaveTextOrFault → (kind : Kind) (t : Table) (total : ℕ) (bytes : List ℕ) → One (IsOf kind t total bytes)
 of_one text fault Indexes t total bytes = then_one (IsInteger 7 bytes) (IsIndexed t) (integer_one 7 bytes) (indexed_one t)
 of_one text fault Stores t total bytes = then_one (IsLiteral t 6 bytes) (IsMade Stored) (literal_one text fault t 6 bytes) (made_one Stored)
-of_one text fault Limits t zero bytes = then_one (IsInteger 5 bytes) IsLimit (integer_one 5 bytes) limit_one
-of_one text fault Limits t (suc n) bytes = late_one
+of_one text fault Updates t zero bytes = then_one (IsInteger 5 bytes) IsSizeUpdate (integer_one 5 bytes) limit_one
+of_one text fault Updates t (suc n) bytes = late_one
 of_one text fault Passes t total bytes = then_one (IsLiteral t 4 bytes) (IsMade Plain) (literal_one text fault t 4 bytes) (made_one Plain)
 
-form_one : HaveOneReading → HaveTextOrFault → (t : Table) (total : ℕ) (bytes : List ℕ) → One (IsForm t total bytes)
+form_one : HaveOneReading → HaveTextOrFault → (t : Table) (total : ℕ) (bytes : List ℕ) → One (IsRepresentation t total bytes)
 form_one text fault t total bytes = of_one text fault (kind_of bytes) t total bytes
 
 abbrev Answer : Type 0
@@ -173,8 +173,8 @@ gains_agree F G same f t total rest r s (inr h) (inl k) = let z = k.0 in absurd 
 gains_agree F G same f t total rest r s (inr h) (inr k) =
     h.3 ∙ ap (λ z. behind (f ∷ []) z) (same t (total + size_of f) rest h.1 k.1 h.2 k.2) ∙ sym k.3
 
-goes_agree : (F G : Table → ℕ → List ℕ → Answer → Type 0) → Agree F G → (form : Form) → Agree (Goes F form) (Goes G form)
-goes_agree F G same (Limit n) t total rest r s h k = same (with_limit n t) total rest r s h k
+goes_agree : (F G : Table → ℕ → List ℕ → Answer → Type 0) → Agree F G → (form : Representation) → Agree (Goes F form) (Goes G form)
+goes_agree F G same (SizeUpdate n) t total rest r s h k = same (with_limit n t) total rest r s h k
 goes_agree F G same (Plain f) t total rest r s h k = gains_agree F G same f t total rest r s h k
 goes_agree F G same (Stored f) t total rest r s h k = gains_agree F G same f (with_field f t) total rest r s h k
 
@@ -187,7 +187,7 @@ either_agrees k j same text fault t total bytes r s (some, inr h) (more, inl g) 
 either_agrees k j same text fault t total bytes r s (some, inr h) (more, inr g) =
     let e : h.0 ≡ g.0 = cc (form_one text fault t total bytes (Ok h.0) (Ok g.0) h.1 g.1) in
     goes_agree (IsBlock k) (IsBlock j) same g.0.0 t total g.0.1 r s
-    (subst (λ (x : Form × List ℕ). Goes (IsBlock k) x.0 t total x.1 r) e h.2) g.2
+    (subst (λ (x : Representation × List ℕ). Goes (IsBlock k) x.0 t total x.1 r) e h.2) g.2
 
 block_agrees : (k j : ℕ) → HaveOneReading → HaveTextOrFault → Agree (IsBlock k) (IsBlock j)
 block_agrees zero zero text fault = λ t total bytes r s h g. h.1 ∙ sym g.1

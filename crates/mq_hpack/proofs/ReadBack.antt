@@ -8,11 +8,11 @@ use Rattle.std.proofs.lemmas.List.Sums.{sum_by-cons}
 use Rattle.mq_hpack.specs.declared.field.Field.{Field}
 use Rattle.mq_hpack.specs.declared.fault.HpackFault.{HpackFault}
 use Rattle.mq_hpack.specs.declared.fault.HpackFault.TheVariants.{TooLarge}
-use Rattle.mq_hpack.specs.declared.form.Form.TheVariants.{Plain, Limit}
+use Rattle.mq_hpack.specs.declared.representation.Representation.TheVariants.{Plain, SizeUpdate}
 use Rattle.mq_hpack.specs.Static.{static_fields}
 use Rattle.mq_hpack.specs.Table.{Table, size_of, field_at, with_limit}
 use Rattle.mq_hpack.specs.Text.{IsString}
-use Rattle.mq_hpack.specs.Form.{Indexes, Stores, Limits, Passes, Kind, kind_of, IsForm, IsOf, IsNameAt}
+use Rattle.mq_hpack.specs.Representation.{Indexes, Stores, Updates, Passes, Kind, kind_of, IsRepresentation, IsOf, IsNameAt}
 use Rattle.mq_hpack.specs.Block.{IsBlock, Reads}
 use Rattle.mq_hpack.specs.Encoder.{spelled, AreFields, IsEncoded, IsField, IsLeast, IsWritten}
 use Rattle.mq_hpack.specs.ReadBack.{IsShort, table_after}
@@ -23,7 +23,7 @@ use Rattle.mq_hpack.proofs.StringsBack.{begins, string_back, indexed_back, liter
 kind_indexed : (n : ℕ) (rest : List ℕ) → kind_of (spelled 128 7 n ++ rest) ≡ Indexes
 kind_indexed n rest =
     let b = begins 128 7 n in
-    let other : ℕ → Kind = λ x. cond (nat_le 64 x) Stores (cond (nat_le 32 x) Limits Passes) in
+    let other : ℕ → Kind = λ x. cond (nat_le 64 x) Stores (cond (nat_le 32 x) Updates Passes) in
     ap (λ ys. kind_of (ys ++ rest)) b.is ∙ ap (λ t. cond t Indexes (other b.first)) (le-leb 128 b.first b.above)
 
 kind_literal : (n : ℕ) (rest : List ℕ) → kind_of (spelled 0 4 n ++ rest) ≡ Passes
@@ -31,18 +31,18 @@ kind_literal n rest =
     let b = begins 0 4 n in
     let below = b.below in
     ap (λ ys. kind_of (ys ++ rest)) b.is
-    ∙ ap (λ t. cond t Indexes (cond (nat_le 64 b.first) Stores (cond (nat_le 32 b.first) Limits Passes))) (lt-leb 128 b.first (omega arith))
-    ∙ ap (λ t. cond t Stores (cond (nat_le 32 b.first) Limits Passes)) (lt-leb 64 b.first (omega arith))
-    ∙ ap (λ t. cond t Limits Passes) (lt-leb 32 b.first (omega arith))
+    ∙ ap (λ t. cond t Indexes (cond (nat_le 64 b.first) Stores (cond (nat_le 32 b.first) Updates Passes))) (lt-leb 128 b.first (omega arith))
+    ∙ ap (λ t. cond t Stores (cond (nat_le 32 b.first) Updates Passes)) (lt-leb 64 b.first (omega arith))
+    ∙ ap (λ t. cond t Updates Passes) (lt-leb 32 b.first (omega arith))
 
-kind_limit : (n : ℕ) (rest : List ℕ) → kind_of (spelled 32 5 n ++ rest) ≡ Limits
+kind_limit : (n : ℕ) (rest : List ℕ) → kind_of (spelled 32 5 n ++ rest) ≡ Updates
 kind_limit n rest =
     let b = begins 32 5 n in
     let below = b.below in
     ap (λ ys. kind_of (ys ++ rest)) b.is
-    ∙ ap (λ t. cond t Indexes (cond (nat_le 64 b.first) Stores (cond (nat_le 32 b.first) Limits Passes))) (lt-leb 128 b.first (omega arith))
-    ∙ ap (λ t. cond t Stores (cond (nat_le 32 b.first) Limits Passes)) (lt-leb 64 b.first (omega arith))
-    ∙ ap (λ t. cond t Limits Passes) (le-leb 32 b.first b.above)
+    ∙ ap (λ t. cond t Indexes (cond (nat_le 64 b.first) Stores (cond (nat_le 32 b.first) Updates Passes))) (lt-leb 128 b.first (omega arith))
+    ∙ ap (λ t. cond t Stores (cond (nat_le 32 b.first) Updates Passes)) (lt-leb 64 b.first (omega arith))
+    ∙ ap (λ t. cond t Updates Passes) (le-leb 32 b.first b.above)
 
 some_bytes : (form prefix n : ℕ) (rest : List ℕ) → spelled form prefix n ++ rest ≢ []
 some_bytes form prefix n rest =
@@ -52,7 +52,7 @@ some_bytes form prefix n rest =
 -- a form at the front that is read as this field
 record IsRead (t : Table) (total : ℕ) (f : Field) (bytes rest : List ℕ) : Type 0 where
   pub some : bytes ≢ []
-  pub form : IsForm t total bytes (Ok (Plain f, rest))
+  pub form : IsRepresentation t total bytes (Ok (Plain f, rest))
 
 indexed_read : (t : Table) (total n : ℕ) (f : Field) (rest : List ℕ) → n < 2 ^ 32 → field_at t n ≡ Some f → IsRead t total f (spelled 128 7 n ++ rest) rest
 indexed_read t total n f rest small found = record {
@@ -75,7 +75,7 @@ within [] at f e = cc
 within (x ∷ xs) zero f e = omega arith
 within (x ∷ xs) (suc at) f e = let w = within xs at f e in omega arith
 
-place : (at : ℕ) (f : Field) → slice_get static_fields at ≡ Some f → at < 61
+pub place : (at : ℕ) (f : Field) → slice_get static_fields at ≡ Some f → at < 61
 place at f e = let w = within static_fields at f e in let l = length-static in omega arith
 
 name_at : (t : Table) (at : ℕ) (g : Field) (bytes : List ℕ) → slice_get static_fields at ≡ Some g → IsNameAt t (at + 1) bytes (Ok (g.name, bytes))
@@ -139,9 +139,9 @@ more_read t total (f ∷ fs) bytes h short before large =
 -- the new limit in front
 limit_read : (t : Table) (bytes rest : List ℕ) (r : Result (List Field × Table) HpackFault) → bytes ≡ spelled 32 5 0 ++ rest → Reads (with_limit 0 t) rest r → Reads t bytes r
 limit_read t bytes rest r e h =
-    let form = subst (λ (k : Kind). IsOf k t 0 (spelled 32 5 0 ++ rest) (Ok (Limit 0, rest))) (sym (kind_limit 0 rest))
+    let form = subst (λ (k : Kind). IsOf k t 0 (spelled 32 5 0 ++ rest) (Ok (SizeUpdate 0, rest))) (sym (kind_limit 0 rest))
     ((0, rest), limit_back 0 rest (omega arith), (omega arith, refl)) in
-    subst (λ (xs : List ℕ). Reads t xs r) (sym e) (suc h.0, (some_bytes 32 5 0 rest, inr ((Limit 0, rest), form, h.1)))
+    subst (λ (xs : List ℕ). Reads t xs r) (sym e) (suc h.0, (some_bytes 32 5 0 rest, inr ((SizeUpdate 0, rest), form, h.1)))
 
 pub read_back : (t : Table) (owed : Bool) (fields : List Field) (bytes : List ℕ)
     → IsEncoded owed fields bytes → sum_by size_of fields ≤ 16384 → Reads t bytes (Ok (fields, table_after owed t))

@@ -2,12 +2,12 @@
 use Rattle.std.proofs.Common.{◌≡◌, ℕ, ◌+◌, ◌-◌, ◌*◌, ◌%◌, ◌^◌, ◌<◌, ◌≤◌, zero, suc, Bool, true, false, cond, List, [], ◌∷◌, length, Option, Some, None, Ok, sym, ap, subst, arith, length-drop}
 use Rattle.std.specs.Prelude.{nat_lt}
 use Rattle.mq_hpack.specs.declared.field.Field.{Field}
-use Rattle.mq_hpack.specs.declared.form.Form.{Form}
-use Rattle.mq_hpack.specs.declared.form.Form.TheVariants.{Plain, Stored, Limit}
+use Rattle.mq_hpack.specs.declared.representation.Representation.{Representation}
+use Rattle.mq_hpack.specs.declared.representation.Representation.TheVariants.{Plain, Stored, SizeUpdate}
 use Rattle.mq_hpack.specs.Integer.{further, integer_of}
 use Rattle.mq_hpack.specs.Text.{IsString}
 use Rattle.mq_hpack.specs.Table.{Table}
-use Rattle.mq_hpack.specs.Form.{Kind, Indexes, Stores, Limits, Passes, kind_of, IsForm, IsOf, IsNameAt, IsLiteral}
+use Rattle.mq_hpack.specs.Representation.{Kind, Indexes, Stores, Updates, Passes, kind_of, IsRepresentation, IsOf, IsNameAt, IsLiteral}
 use Rattle.mq_hpack.specs.Taking.{IsAllowed}
 
 found_shorter : (n : ℕ) (p x : ℕ × List ℕ) → Some p ≡ Some x → length p.1 < n → length x.1 < n
@@ -59,37 +59,37 @@ literal_shorter t prefix bytes x h =
     let v = string_shorter h.0.1 (x.0.value, x.1) h.2.1 in
     omega arith
 
-of_shorter : (kind : Kind) (t : Table) (total : ℕ) (bytes : List ℕ) (x : Form × List ℕ) → IsOf kind t total bytes (Ok x) → length x.1 < length bytes
+of_shorter : (kind : Kind) (t : Table) (total : ℕ) (bytes : List ℕ) (x : Representation × List ℕ) → IsOf kind t total bytes (Ok x) → length x.1 < length bytes
 of_shorter Indexes t total bytes x h =
     let s = integer_shorter 7 bytes h.0 h.1 in
-    let e = ap (λ (y : Form × List ℕ). length y.1) h.2.2 in
+    let e = ap (λ (y : Representation × List ℕ). length y.1) h.2.2 in
     omega arith
 of_shorter Stores t total bytes x h =
     let s = literal_shorter t 6 bytes h.0 h.1 in
-    let e = ap (λ (y : Form × List ℕ). length y.1) h.2 in
+    let e = ap (λ (y : Representation × List ℕ). length y.1) h.2 in
     omega arith
-of_shorter Limits t zero bytes x h =
+of_shorter Updates t zero bytes x h =
     let s = integer_shorter 5 bytes h.0 h.1 in
-    let e = ap (λ (y : Form × List ℕ). length y.1) h.2.1 in
+    let e = ap (λ (y : Representation × List ℕ). length y.1) h.2.1 in
     omega arith
-of_shorter Limits t (suc n) bytes x h = absurd h
+of_shorter Updates t (suc n) bytes x h = absurd h
 of_shorter Passes t total bytes x h =
     let s = literal_shorter t 4 bytes h.0 h.1 in
-    let e = ap (λ (y : Form × List ℕ). length y.1) h.2 in
+    let e = ap (λ (y : Representation × List ℕ). length y.1) h.2 in
     omega arith
 
-pub form_shorter : (t : Table) (total : ℕ) (bytes : List ℕ) (x : Form × List ℕ) → IsForm t total bytes (Ok x) → length x.1 < length bytes
-form_shorter t total bytes x h = of_shorter (kind_of bytes) t total bytes x h
+pub representation_shorter : (t : Table) (total : ℕ) (bytes : List ℕ) (x : Representation × List ℕ) → IsRepresentation t total bytes (Ok x) → length x.1 < length bytes
+representation_shorter t total bytes x h = of_shorter (kind_of bytes) t total bytes x h
 
-allowed_as : (made form : Form) → form ≡ made → IsAllowed made → IsAllowed form
-allowed_as made form e h = subst (λ (y : Form). IsAllowed y) (sym e) h
+allowed_as : (made form : Representation) → form ≡ made → IsAllowed made → IsAllowed form
+allowed_as made form e h = subst (λ (y : Representation). IsAllowed y) (sym e) h
 
-of_allowed : (kind : Kind) (t : Table) (total : ℕ) (bytes : List ℕ) (x : Form × List ℕ) → IsOf kind t total bytes (Ok x) → IsAllowed x.0
+of_allowed : (kind : Kind) (t : Table) (total : ℕ) (bytes : List ℕ) (x : Representation × List ℕ) → IsOf kind t total bytes (Ok x) → IsAllowed x.0
 of_allowed Indexes t total bytes x h = allowed_as (Plain h.2.0) x.0 (ap (λ y. y.0) h.2.2) tt
 of_allowed Stores t total bytes x h = allowed_as (Stored h.0.0) x.0 (ap (λ y. y.0) h.2) tt
-of_allowed Limits t zero bytes x h = allowed_as (Limit h.0.0) x.0 (ap (λ y. y.0) h.2.1) h.2.0
-of_allowed Limits t (suc n) bytes x h = absurd h
+of_allowed Updates t zero bytes x h = allowed_as (SizeUpdate h.0.0) x.0 (ap (λ y. y.0) h.2.1) h.2.0
+of_allowed Updates t (suc n) bytes x h = absurd h
 of_allowed Passes t total bytes x h = allowed_as (Plain h.0.0) x.0 (ap (λ y. y.0) h.2) tt
 
-pub form_allowed : (t : Table) (total : ℕ) (bytes : List ℕ) (x : Form × List ℕ) → IsForm t total bytes (Ok x) → IsAllowed x.0
-form_allowed t total bytes x h = of_allowed (kind_of bytes) t total bytes x h
+pub representation_allowed : (t : Table) (total : ℕ) (bytes : List ℕ) (x : Representation × List ℕ) → IsRepresentation t total bytes (Ok x) → IsAllowed x.0
+representation_allowed t total bytes x h = of_allowed (kind_of bytes) t total bytes x h

@@ -3,10 +3,10 @@ use Rattle.std.specs.Prelude.{◌≡◌, ℕ, ◌+◌, ◌<◌, ◌≤◌, ◌�
 use Rattle.mq_hpack.specs.declared.fault.HpackFault.{HpackFault}
 use Rattle.mq_hpack.specs.declared.fault.HpackFault.TheVariants.{TooLarge}
 use Rattle.mq_hpack.specs.declared.field.Field.{Field}
-use Rattle.mq_hpack.specs.declared.form.Form.{Form}
-use Rattle.mq_hpack.specs.declared.form.Form.TheVariants.{Plain, Stored, Limit}
+use Rattle.mq_hpack.specs.declared.representation.Representation.{Representation}
+use Rattle.mq_hpack.specs.declared.representation.Representation.TheVariants.{Plain, Stored, SizeUpdate}
 use Rattle.mq_hpack.specs.Table.{Table, size_of, with_field, with_limit}
-use Rattle.mq_hpack.specs.Form.{IsForm}
+use Rattle.mq_hpack.specs.Representation.{IsRepresentation}
 
 -- the answer with these fields before its own
 abbrev pub behind : List Field → Result (List Field × Table) HpackFault → Result (List Field × Table) HpackFault
@@ -19,20 +19,20 @@ Gains Follows f t total rest r =
     ((16384 < total + size_of f) × (r ≡ Err TooLarge))
     ⊎ ((total + size_of f ≤ 16384) × (s : Result (List Field × Table) HpackFault) × Follows t (total + size_of f) rest s × (r ≡ behind (f ∷ []) s))
 
--- what follows a form
-abbrev pub Goes : (Table → ℕ → List ℕ → Result (List Field × Table) HpackFault → Type 0) → Form → Table → ℕ → List ℕ → Result (List Field × Table) HpackFault → Type 0
-Goes Follows (Limit n) t total rest r = Follows (with_limit n t) total rest r
+-- what follows a representation
+abbrev pub Goes : (Table → ℕ → List ℕ → Result (List Field × Table) HpackFault → Type 0) → Representation → Table → ℕ → List ℕ → Result (List Field × Table) HpackFault → Type 0
+Goes Follows (SizeUpdate n) t total rest r = Follows (with_limit n t) total rest r
 Goes Follows (Plain f) t total rest r = Gains Follows f t total rest r
 Goes Follows (Stored f) t total rest r = Gains Follows f (with_field f t) total rest r
 
--- So many forms, and then the end, or a fault in the last of them. It comes to the fields and the table
+-- So many representations, and then the end, or a fault in the last of them. It comes to the fields and the table
 -- after them, where the fields before count so much: with these, fields count no more than 16,384.
 abbrev pub IsBlock : ℕ → Table → ℕ → List ℕ → Result (List Field × Table) HpackFault → Type 0
 IsBlock zero t total bytes r = (bytes ≡ []) × (r ≡ Ok ([], t))
 IsBlock (suc k) t total bytes r =
     (bytes ≢ [])
-    × (((fault : HpackFault) × IsForm t total bytes (Err fault) × (r ≡ Err fault))
-    ⊎ ((x : Form × List ℕ) × IsForm t total bytes (Ok x) × Goes (IsBlock k) x.0 t total x.1 r))
+    × (((fault : HpackFault) × IsRepresentation t total bytes (Err fault) × (r ≡ Err fault))
+    ⊎ ((x : Representation × List ℕ) × IsRepresentation t total bytes (Ok x) × Goes (IsBlock k) x.0 t total x.1 r))
 
 -- the block of a table comes to this
 abbrev pub Reads : Table → List ℕ → Result (List Field × Table) HpackFault → Type 0

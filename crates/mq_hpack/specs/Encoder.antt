@@ -11,7 +11,7 @@ sevens zero n = n ∷ []
 sevens (suc k) n = if nat_lt n 128 then n ∷ [] else (n % 128 + 128) ∷ sevens k (n / 128)
 
 -- An integer whose first bits are the lowest ones of the first byte, so many of them (section 5.1). The
--- bits above them tell the form.
+-- bits above them tell the representation.
 unfoldable pub spelled : ℕ → ℕ → ℕ → List ℕ
 spelled form prefix n =
     if nat_lt n (2 ^ prefix - 1) then (form + n) ∷ [] else (form + (2 ^ prefix - 1)) ∷ sevens n (n - (2 ^ prefix - 1))
@@ -55,12 +55,12 @@ abbrev pub AreFields : List Field → List ℕ → Type 0
 AreFields [] bytes = bytes ≡ []
 AreFields (f ∷ fs) bytes = (first : List ℕ) × (rest : List ℕ) × IsField f first × AreFields fs rest × (bytes ≡ first ++ rest)
 
--- the new limit 0 of the table (section 6.3), where it is owed
+-- the size update to 0 (section 6.3), where it is owed
 abbrev pub update : Bool → List ℕ
 update true = spelled 32 5 0
 update false = []
 
--- A block of these fields, which begins with the new limit where it is owed.
+-- A block of these fields, which begins with the size update where it is owed.
 abbrev pub IsEncoded : Bool → List Field → List ℕ → Type 0
 IsEncoded owed fields bytes = (rest : List ℕ) × AreFields fields rest × (bytes ≡ update owed ++ rest)
 

@@ -1,7 +1,7 @@
 pub mod Block
 pub mod Decoder
 pub mod Encoder
-pub mod Form
+pub mod Representation
 pub mod Integer
 pub mod OneReading
 pub mod ReadBack
@@ -10,3 +10,6 @@ pub mod Static
 pub mod Table
 pub mod Taking
 pub mod Text
+pub mod Outcome
+pub mod Length
+pub mod Writing

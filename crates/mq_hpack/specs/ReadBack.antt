@@ -7,7 +7,7 @@ use Rattle.mq_hpack.specs.Table.{Table, size_of, with_limit}
 use Rattle.mq_hpack.specs.Block.{Reads}
 use Rattle.mq_hpack.specs.Encoder.{IsEncoded}
 
--- the table after a block, which begins with the new limit where it is owed
+-- the table after a block, which begins with the size update where it is owed
 abbrev pub table_after : Bool → Table → Table
 table_after true t = with_limit 0 t
 table_after false t = t

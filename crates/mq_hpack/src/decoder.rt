@@ -8,10 +8,10 @@ ghost use Rattle.mq_hpack.specs.Taking.{IsAllowed, IsGained, IsTaken};
 ghost use Rattle.mq_hpack.specs.Text.{Tells};
 
 use crate::fault::HpackFault;
-use crate::field::Field;
-use crate::form::{Form, read_form};
+use crate::field::{Field, Text};
+use crate::representation::{Representation, read_representation};
 use crate::table::{FieldTable, field_size};
-use mq_wire::{Bytes, Seq};
+use mq_wire::Seq;
 use std::alloc::Global;
 use std::marker::Model;
 
@@ -76,7 +76,7 @@ impl Decoder {
     }
 }
 
-/// Reads forms up to the end, or to the first fault.
+/// Reads representations up to the end, or to the first fault.
 fn read_block(alloc: Global, table: &mut FieldTable, bytes: &[u8]) -> Result<Vec<Field>, HpackFault>
     ensures { Tells (λ fields. (fields.items, table.new)) (Reads table.old bytes.now) result }
 {
@@ -84,31 +84,31 @@ fn read_block(alloc: Global, table: &mut FieldTable, bytes: &[u8]) -> Result<Vec
     let mut total = 0;
     let mut rest = bytes;
     while !rest.is_empty() {
-        let (form, after) = read_form(alloc, table, total, rest)?;
-        total = take_form(alloc, table, &mut fields, total, form)?;
+        let (taken, after) = read_representation(alloc, table, total, rest)?;
+        total = take_representation(alloc, table, &mut fields, total, taken)?;
         rest = after;
     }
     Ok(fields)
 }
 
-/// Does what a form says, and gives what the fields count then.
-fn take_form(
+/// Does what a representation says, and gives what the fields count then.
+fn take_representation(
     alloc: Global,
     table: &mut FieldTable,
     fields: &mut Vec<Field>,
     total: u32,
-    form: Form,
+    taken: Representation,
 ) -> Result<u32, HpackFault>
-    requires { IsAllowed form }
-    ensures { Tells (λ sum. sum) (IsTaken form table.old table.new fields.old.items fields.new.items total) result }
+    requires { IsAllowed taken }
+    ensures { Tells (λ sum. sum) (IsTaken taken table.old table.new fields.old.items fields.new.items total) result }
 {
-    match form {
-        Form::Limit(limit) => {
+    match taken {
+        Representation::SizeUpdate(limit) => {
             table.set_limit(limit);
             Ok(total)
         }
-        Form::Plain(field) => gain(fields, total, field),
-        Form::Stored(field) => {
+        Representation::Plain(field) => gain(fields, total, field),
+        Representation::Stored(field) => {
             let copy = copy_of(alloc, &field)?;
             let total = gain(fields, total, field)?;
             table.store(copy)?;
@@ -136,7 +136,7 @@ fn copy_of(alloc: Global, field: &Field) -> Result<Field, HpackFault>
     ensures memory_alone { IfErr result (λ fault. fault ≡ HpackFault.NoMemory) }
 {
     Ok(Field {
-        name: Bytes::from_vec(Vec::from_slice(alloc, field.name.as_slice())?),
-        value: Bytes::from_vec(Vec::from_slice(alloc, field.value.as_slice())?),
+        name: Text::copy_of(alloc, field.name.as_slice())?,
+        value: Text::copy_of(alloc, field.value.as_slice())?,
     })
 }

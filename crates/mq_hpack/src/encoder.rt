@@ -1,8 +1,10 @@
 //! The encoder of a connection's field blocks, which keeps no dynamic table.
-ghost use Rattle.std.specs.Prelude.{◌≡◌, ◌<◌, true, false, Some, None, IfOk, OnOk, OnErr};
+ghost use Rattle.std.specs.Prelude.{◌≡◌, ◌<◌, ◌++◌, true, false, Some, None, IfOk, OnOk, OnErr};
 ghost use Rattle.mq_hpack.specs.Encoder.{Appends, IsEncoded, IsField, IsWritten};
+ghost use Rattle.mq_hpack.specs.Writing.{block_text};
 
 use crate::field::Field;
+use crate::laws::is_one_text;
 use crate::search::{place_of_field, place_of_name};
 use crate::write::{write_integer, write_string};
 use mq_wire::{Bytes, NoMemory};
@@ -15,14 +17,14 @@ const INDEXED: u8 = 128;
 /// The first byte of a literal that isn't kept, above the index of its name.
 const LITERAL: u8 = 0;
 
-/// The first byte of a new limit of the table, above the limit.
-const LIMIT: u8 = 32;
+/// The first byte of a size update, above the limit.
+const SIZE_UPDATE: u8 = 32;
 
 /// Writes the blocks of a connection. The first one sets the limit of the other side's table to 0.
 #[derive(Drop)]
 pub struct Encoder {
     alloc: Global,
-    owes_limit: bool,
+    owes_update: bool,
 }
 
 impl Model for Encoder {
@@ -30,7 +32,7 @@ impl Model for Encoder {
 
     ghost Value = { Bool };
 
-    ghost view = { λ e. e.owes_limit };
+    ghost view = { λ e. e.owes_update };
 }
 
 impl Encoder {
@@ -39,26 +41,37 @@ impl Encoder {
     {
         Encoder {
             alloc,
-            owes_limit: true,
+            owes_update: true,
         }
     }
 
-    /// A block of these fields. Want of memory changes nothing: the new limit is still owed.
+    /// A block of these fields. Want of memory changes nothing: the size update is still owed.
     pub fn block(&mut self, fields: &[Field]) -> Result<Bytes, NoMemory>
         ensures block { IfOk result (λ bytes. IsEncoded self.old fields.now bytes) }
+        ensures spelled { IfOk result (λ bytes. bytes ≡ block_text self.old fields.now) }
         ensures given { OnOk result (self.new ≡ false) }
         ensures refused { OnErr result (self.new ≡ self.old) }
     {
         let mut out = Vec::new(self.alloc);
-        if self.owes_limit {
-            write_integer(&mut out, LIMIT, 5, 0)?;
-        }
-        for field in fields {
-            write_field(&mut out, field)?;
-        }
-        self.owes_limit = false;
+        write_block(&mut out, self.owes_update, fields)?;
+        self.owes_update = false;
         Ok(Bytes::from_vec(out))
     }
+}
+
+/// Writes a block, with the size update in front where it is owed.
+fn write_block(out: &mut Vec<u8>, owes_update: bool, fields: &[Field]) -> Result<(), NoMemory>
+    ensures encoded { OnOk result (Appends out.old.items out.new.items (IsEncoded owes_update fields.now)) }
+    ensures spelled { OnOk result (out.new.items ≡ out.old.items ++ block_text owes_update fields.now) }
+{
+    if owes_update {
+        write_integer(out, SIZE_UPDATE, 5, 0)?;
+    }
+    for field in fields {
+        write_field(out, field)?;
+    }
+    is_one_text();
+    Ok(())
 }
 
 /// Writes a field: by its index in the static table, or as a literal.

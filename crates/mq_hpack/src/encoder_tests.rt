@@ -1,6 +1,5 @@
 //! Blocks, by the rules of RFC 7541 on the encodings of another implementation.
-use super::{Encoder, Field};
-use mq_wire::Bytes;
+use super::{Encoder, Field, Text};
 use std::alloc::Global;
 use std::process::Abort;
 use std::test::Fail;
@@ -231,8 +230,8 @@ accept-: @@ is 008519085ad2b7024040
 "
 }
 
-fn bytes_of(alloc: Global, text: &str) -> Result<Bytes, Fail> {
-    Ok(Bytes::from_vec(Vec::from_slice(alloc, text.as_bytes())?))
+fn bytes_of(alloc: Global, text: &str) -> Result<Text, Fail> {
+    Ok(Text::copy_of(alloc, text.as_bytes())?)
 }
 
 fn field_of(alloc: Global, text: &str) -> Result<Field, Fail> {

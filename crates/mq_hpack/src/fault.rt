@@ -11,7 +11,7 @@ pub enum HpackFault {
     Integer,
     /// A string that is longer than the rest of the block, or a fault of its Huffman code.
     Text,
-    /// A new limit of the table after a field, or above 4,096.
+    /// A size update after a field, or above 4,096.
     Update,
     /// The fields count more than 16,384.
     TooLarge,

@@ -5,10 +5,10 @@ mod decoder;
 mod encoder;
 mod fault;
 mod field;
-mod form;
 mod integer;
 mod laws;
 mod literal;
+mod representation;
 mod search;
 mod static_table;
 mod table;
@@ -18,8 +18,10 @@ mod write;
 pub use decoder::Decoder;
 pub use encoder::Encoder;
 pub use fault::HpackFault;
-pub use field::Field;
-pub use laws::{has_one_reading, is_read_back, is_read_too_large};
+pub use field::{Field, Text};
+pub use laws::{
+    has_one_reading, is_no_longer, is_one_text, is_read_back, is_read_too_large, is_readable,
+};
 
 #[cfg(test)]
 mod decoder_tests;

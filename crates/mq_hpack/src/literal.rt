@@ -1,14 +1,13 @@
 //! Names and values of literal fields (RFC 7541, section 6.2).
 ghost use Rattle.std.specs.Prelude.{◌≡◌, ℕ, ◌≤◌};
-ghost use Rattle.mq_hpack.specs.Form.{IsLiteral, IsName, IsNameAt};
+ghost use Rattle.mq_hpack.specs.Representation.{IsLiteral, IsName, IsNameAt};
 ghost use Rattle.mq_hpack.specs.Text.{Tells};
 
 use crate::fault::HpackFault;
-use crate::field::Field;
+use crate::field::{Field, Text};
 use crate::integer::read_integer;
 use crate::table::FieldTable;
 use crate::text::read_string;
-use mq_wire::Bytes;
 use std::alloc::Global;
 
 /// Reads a literal field, where the index of its name has so many bits, and the bytes after it.
@@ -23,11 +22,7 @@ pub fn read_literal<'a>(
 {
     let (name, rest) = read_name(alloc, table, prefix, bytes)?;
     let (value, rest) = read_string(alloc, rest)?;
-    let field = Field {
-        name: Bytes::from_vec(name),
-        value: Bytes::from_vec(value),
-    };
-    Ok((field, rest))
+    Ok((Field { name, value }, rest))
 }
 
 /// Reads the name: by its index, or as a string.
@@ -36,9 +31,9 @@ fn read_name<'a>(
     table: &FieldTable,
     prefix: u32,
     bytes: &'a [u8],
-) -> Result<(Vec<u8>, &'a [u8]), HpackFault>
+) -> Result<(Text, &'a [u8]), HpackFault>
     requires { (1 ≤ prefix) × (prefix ≤ 8) }
-    ensures { Tells (λ x. (x.0.items, x.1.now)) (IsName table.now prefix bytes.now) result }
+    ensures { Tells (λ x. (x.0, x.1.now)) (IsName table.now prefix bytes.now) result }
 {
     let (index, after) = read_integer(prefix, bytes)?;
     name_at(alloc, table, index, after)
@@ -50,14 +45,14 @@ fn name_at<'a>(
     table: &FieldTable,
     index: u32,
     bytes: &'a [u8],
-) -> Result<(Vec<u8>, &'a [u8]), HpackFault>
-    ensures { Tells (λ x. (x.0.items, x.1.now)) (IsNameAt table.now index bytes.now) result }
+) -> Result<(Text, &'a [u8]), HpackFault>
+    ensures { Tells (λ x. (x.0, x.1.now)) (IsNameAt table.now index bytes.now) result }
 {
     if index == 0 {
         return read_string(alloc, bytes);
     }
     match table.field(index) {
-        Some((name, _)) => Ok((Vec::from_slice(alloc, name)?, bytes)),
+        Some((name, _)) => Ok((Text::copy_of(alloc, name)?, bytes)),
         None => Err(HpackFault::Index),
     }
 }

@@ -3,13 +3,14 @@ ghost use Rattle.std.specs.Prelude.{◌≡◌, ℕ, slice_index, nat_le};
 ghost use Rattle.mq_hpack.specs.Text.{IsLong, IsPlain, IsString, Tells};
 
 use crate::fault::HpackFault;
+use crate::field::Text;
 use crate::integer::read_integer;
 use mq_huff::{HuffFault, decode};
 use std::alloc::Global;
 
 /// Reads the string at the front, and the bytes after it.
-pub fn read_string(alloc: Global, bytes: &[u8]) -> Result<(Vec<u8>, &[u8]), HpackFault>
-    ensures { Tells (λ x. (x.0.items, x.1.now)) (IsString bytes.now) result }
+pub fn read_string(alloc: Global, bytes: &[u8]) -> Result<(Text, &[u8]), HpackFault>
+    ensures { Tells (λ x. (x.0, x.1.now)) (IsString bytes.now) result }
 {
     let (len, after) = read_integer(7, bytes)?;
     take_text(alloc, is_coded(bytes), len as usize, after)
@@ -31,8 +32,8 @@ fn take_text(
     coded: bool,
     len: usize,
     bytes: &[u8],
-) -> Result<(Vec<u8>, &[u8]), HpackFault>
-    ensures { Tells (λ x. (x.0.items, x.1.now)) (IsLong coded len bytes.now) result }
+) -> Result<(Text, &[u8]), HpackFault>
+    ensures { Tells (λ x. (x.0, x.1.now)) (IsLong coded len bytes.now) result }
 {
     if bytes.len() < len {
         return Err(HpackFault::Text);
@@ -43,14 +44,14 @@ fn take_text(
 }
 
 /// The text that these bytes spell.
-fn plain_text(alloc: Global, coded: bool, raw: &[u8]) -> Result<Vec<u8>, HpackFault>
-    ensures { Tells (λ v. v.items) (IsPlain coded raw.now) result }
+fn plain_text(alloc: Global, coded: bool, raw: &[u8]) -> Result<Text, HpackFault>
+    ensures { Tells (λ t. t) (IsPlain coded raw.now) result }
 {
     if !coded {
-        return Ok(Vec::from_slice(alloc, raw)?);
+        return Ok(Text::copy_of(alloc, raw)?);
     }
     match decode(alloc, raw) {
-        Ok(text) => Ok(text),
+        Ok(text) => Ok(Text::from_vec(text)),
         Err(HuffFault::NoMemory) => Err(HpackFault::NoMemory),
         Err(_) => Err(HpackFault::Text),
     }

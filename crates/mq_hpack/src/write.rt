@@ -7,7 +7,7 @@ use mq_huff::{encode, encoded_len};
 use mq_wire::NoMemory;
 
 /// Writes an integer whose first bits are the lowest ones of the first byte. The bits above them tell
-/// the form.
+/// the representation.
 pub fn write_integer(out: &mut Vec<u8>, form: u8, prefix: u32, number: u64) -> Result<(), NoMemory>
     requires prefix { (1 ≤ prefix) × (prefix ≤ 8) }
     requires fits { form + 2 ^ prefix ≤ 256 }

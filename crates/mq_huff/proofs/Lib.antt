@@ -6,3 +6,5 @@ pub mod Tree
 pub mod Unique
 pub mod Whole
 pub mod Writing
+pub mod Outcomes
+pub mod Packed

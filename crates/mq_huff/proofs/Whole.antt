@@ -29,13 +29,13 @@ leaf_begins s size n bits h =
       begins = ap (λ x. x ++ bits) (sym (code_of-at s le ∙ ap (λ k. bits_of k (code_at s).1) e ∙ ap (λ k. bits_of size k) f));
     }
 
-one_zero : (size n : ℕ) → bits_of (size + 1) (n * 2) ≡ bits_of size n ++ false ∷ []
+pub one_zero : (size n : ℕ) → bits_of (size + 1) (n * 2) ≡ bits_of size n ++ false ∷ []
 unfolding bits_of
 one_zero size n =
     let z : n * 2 ≡ n * 2 + 0 = omega arith in
     ap (λ x. bits_of (size + 1) x) z ∙ bits_of-joined size 1 n 0 (omega arith)
 
-one_one : (size n : ℕ) → bits_of (size + 1) (n * 2 + 1) ≡ bits_of size n ++ true ∷ []
+pub one_one : (size n : ℕ) → bits_of (size + 1) (n * 2 + 1) ≡ bits_of size n ++ true ∷ []
 unfolding bits_of
 one_one size n = bits_of-joined size 1 n 1 (omega arith)
 

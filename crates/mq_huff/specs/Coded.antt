@@ -1,5 +1,5 @@
 -- Texts in the Huffman code, as bytes (RFC 7541, section 5.2).
-use Rattle.std.specs.Prelude.{◌≡◌, ℕ, ◌<◌, ◌≤◌, ◌⊎◌, Bool, true, false, List, ◌++◌, length, replicate}
+use Rattle.std.specs.Prelude.{◌≡◌, ℕ, ◌+◌, ◌-◌, ◌*◌, ◌<◌, ◌≤◌, ◌⊎◌, Bool, true, false, List, [], ◌∷◌, ◌++◌, length, replicate}
 use Rattle.std.specs.List.{All, Contains, flat_map}
 use Rattle.mq_huff.specs.Code.{bits_of, code_of}
 
@@ -41,3 +41,19 @@ pub record IsBadlyPadded (bytes : List ℕ) : Type 0 where
   pub spelled : bits bytes ≡ joined text ++ rest
   pub last : BeginsWithNoCode rest
   pub bad : (8 ≤ length rest) ⊎ Contains rest false
+
+-- the number that some bits are behind others, the highest first
+abbrev pub number_of : ℕ → List Bool → ℕ
+number_of n [] = n
+number_of n (true ∷ more) = number_of (n * 2 + 1) more
+number_of n (false ∷ more) = number_of (n * 2) more
+
+-- bits as bytes; the last one is filled up with ones
+abbrev pub packed : List Bool → List ℕ
+packed [] = []
+packed (a ∷ b ∷ c ∷ d ∷ e ∷ f ∷ g ∷ h ∷ rest) = number_of 0 (a ∷ b ∷ c ∷ d ∷ e ∷ f ∷ g ∷ h ∷ []) ∷ packed rest
+packed few = number_of 0 (few ++ replicate (8 - length few) true) ∷ []
+
+-- the code of a text, in whole bytes
+unfoldable pub coded_of : List ℕ → List ℕ
+coded_of text = packed (joined text)

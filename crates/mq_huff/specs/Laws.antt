@@ -1,7 +1,7 @@
 -- The laws of the code.
-use Rattle.std.specs.Prelude.{◌≡◌, ℕ, ◌≤◌, ◌⊎◌, Bool, List, ◌++◌, length}
+use Rattle.std.specs.Prelude.{◌≡◌, ℕ, ◌+◌, ◌/◌, ◌≤◌, ◌⊎◌, Bool, List, ◌++◌, length}
 use Rattle.mq_huff.specs.Code.{code_of}
-use Rattle.mq_huff.specs.Coded.{IsCoded, MeetsEos, IsBadlyPadded, AreBytes}
+use Rattle.mq_huff.specs.Coded.{IsCoded, MeetsEos, IsBadlyPadded, AreBytes, coded_of, joined}
 
 -- no code begins another
 abbrev pub IsPrefixFree : Type 0
@@ -26,3 +26,15 @@ HaveTextOrFault = (text bytes : List ℕ) → IsCoded text bytes → MeetsEos by
 -- no bytes have both faults
 abbrev pub HaveOneFault : Type 0
 HaveOneFault = (bytes : List ℕ) → MeetsEos bytes → IsBadlyPadded bytes → ⊥
+
+-- all bytes are the code of a text, or have a fault
+abbrev pub HaveAnAnswer : Type 0
+HaveAnAnswer = (bytes : List ℕ) → ((text : List ℕ) × IsCoded text bytes) ⊎ (MeetsEos bytes ⊎ IsBadlyPadded bytes)
+
+-- the code of a text as bytes is its code
+abbrev pub IsTheCode : Type 0
+IsTheCode = (text : List ℕ) → AreBytes text → IsCoded text (coded_of text) × AreBytes (coded_of text)
+
+-- it is as long as its bits, in whole bytes
+abbrev pub HasItsLength : Type 0
+HasItsLength = (text coded : List ℕ) → IsCoded text coded → length coded ≡ (length (joined text) + 7) / 8

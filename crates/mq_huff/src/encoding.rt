@@ -1,7 +1,7 @@
 //! Encoding, by a word that collects the bits.
 ghost use Rattle.std.specs.Prelude.{◌≡◌, ◌+◌, ◌^◌, ◌<◌, ◌≤◌, ◌++◌, ◌-◌, OnErr, OnOk, IfErr, IfOk};
 ghost use Rattle.mq_huff.specs.Code.{bits_of};
-ghost use Rattle.mq_huff.specs.Coded.{joined};
+ghost use Rattle.mq_huff.specs.Coded.{coded_of, joined};
 ghost use Rattle.mq_huff.specs.Encoded.{Appends, AppendsBits, AppendsCoded, AppendsPadded};
 
 use crate::codes::code_at;
@@ -10,15 +10,18 @@ use crate::fault::HuffFault;
 /// Writes the code of a text at the end: each byte's code, and then ones up to a whole byte.
 pub fn encode(out: &mut Vec<u8>, text: &[u8]) -> Result<(), HuffFault>
     ensures ok { OnOk result (AppendsCoded out.old.items out.new.items text.now) }
+    ensures spelled { OnOk result (out.new.items ≡ out.old.items ++ coded_of text.now) }
     ensures err { OnErr result (out.new.items ≡ out.old.items) }
     ensures memory_alone { IfErr result (λ fault. fault ≡ HuffFault.NoMemory) }
 {
     let before = out.len();
-    if append(out, text).is_err() {
-        out.truncate(before);
-        return Err(HuffFault::NoMemory);
+    match append(out, text) {
+        Ok(()) => Ok(()),
+        Err(_) => {
+            out.truncate(before);
+            Err(HuffFault::NoMemory)
+        }
     }
-    Ok(())
 }
 
 /// Writes the codes and the padding. What an `Err` leaves behind the old bytes is to be cut off.

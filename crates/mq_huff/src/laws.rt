@@ -1,5 +1,5 @@
 //! What holds of the code itself.
-ghost use Rattle.mq_huff.specs.Laws.{HaveOneCoding, HaveOneFault, HaveOneReading, HaveTextOrFault, IsComplete, IsPrefixFree};
+ghost use Rattle.mq_huff.specs.Laws.{HaveAnAnswer, HaveOneCoding, HaveOneFault, HaveOneReading, HaveTextOrFault, IsComplete, IsPrefixFree, IsTheCode, HasItsLength};
 
 /// The table is a whole code: no code begins another, and any 30 bits begin with one.
 pub fn whole_code()
@@ -22,4 +22,15 @@ pub fn one_coding()
 pub fn one_answer()
     ensures text_or_fault { HaveTextOrFault }
     ensures one_fault { HaveOneFault }
+{}
+
+/// All bytes are the code of a text, or have one of the faults.
+pub fn an_answer()
+    ensures { HaveAnAnswer }
+{}
+
+/// The code of a text as bytes, `coded_of`, is its code, and each code is as long as its bits, in whole bytes.
+pub fn the_code()
+    ensures spelled { IsTheCode }
+    ensures len { HasItsLength }
 {}

@@ -14,5 +14,5 @@ mod tests;
 pub use decoding::decode;
 pub use encoding::encode;
 pub use fault::HuffFault;
-pub use laws::{one_answer, one_coding, one_reading, whole_code};
+pub use laws::{an_answer, one_answer, one_coding, one_reading, the_code, whole_code};
 pub use size::encoded_len;

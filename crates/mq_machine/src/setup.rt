@@ -1,30 +1,37 @@
-//! What a proxy is set up with.
+//! What a worker is set up with.
 ghost use Rattle.std.specs.Prelude.{◌≡◌, IfOk};
-ghost use Rattle.mq_machine.specs.Setup.{plain_setup};
 
 use mq_policy::Policy;
-use mq_target::{Kind, Template};
+use mq_target::Template;
 use mq_wire::NoMemory;
 use std::alloc::Global;
 
-/// What a proxy is set up with.
+/// What a worker is set up with.
 #[derive(Drop)]
 pub struct Setup {
-    /// The template of tunnels for UDP.
+    /// The template of tunnels for UDP (RFC 9298, section 2).
     pub udp: Template,
+    /// The template of tunnels for IP packets (RFC 9484, section 3).
+    pub ip: Template,
     /// What its clients may reach.
     pub policy: Policy,
+    /// The most bytes of an IP packet, from 1,280 on.
+    pub mtu: u32,
+    /// The number of the pump, which is the count of workers.
+    pub pump: u32,
 }
 
 impl Setup {
-    /// The setup of a proxy of which nothing was said: the well-known template, and everything is allowed.
-    #[tactic(auto, unfolding(crate::specs::Setup::plain_setup))]
-    pub fn new(alloc: Global) -> Result<Setup, NoMemory>
-        ensures { IfOk result (λ setup. setup ≡ plain_setup) }
+    /// An equal setup, for another worker.
+    pub fn copy(&self, alloc: Global) -> Result<Setup, NoMemory>
+        ensures { IfOk result (λ setup. setup ≡ self.now) }
     {
         Ok(Setup {
-            udp: Template::well_known(alloc, Kind::Udp)?,
-            policy: Policy::new(alloc),
+            udp: self.udp.copy(alloc)?,
+            ip: self.ip.copy(alloc)?,
+            policy: self.policy.copy()?,
+            mtu: self.mtu,
+            pump: self.pump,
         })
     }
 }

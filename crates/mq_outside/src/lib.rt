@@ -1,8 +1,27 @@
 //! The outside of the program: where bytes come from and where they go.
 #![tactic(auto)]
 
-ghost use Rattle.std.specs.Prelude.{◌≡◌, ℕ, ◌<◌, List, length, Option};
-ghost use Rattle.mq_outside.specs.Outside.{Reads, ReadCounts, Writes, TakesSome, WriteCounts};
+mod acceptor;
+mod bell;
+mod count;
+mod link;
+mod net;
+mod outside;
+mod port;
+mod ports;
+mod sink;
+mod source;
+
+pub use acceptor::{Acceptor, Arrival};
+pub use bell::{Bell, Gate};
+pub use count::{risen, risen_by, rises};
+pub use link::Link;
+pub use net::Net;
+pub use outside::Outside;
+pub use port::Port;
+pub use ports::{Binding, Failed, Ports};
+pub use sink::Sink;
+pub use source::Source;
 
 /// What a read answers.
 #[derive(Clone, Copy, Debug, PartialEq, Eq)]
@@ -24,31 +43,48 @@ pub enum Put {
     Failed,
 }
 
-/// Where bytes come from.
-pub trait Source {
-    /// The bytes that are left, where it tells them.
-    ghost left: { Self → Option (List ℕ) };
-    /// How often it has failed.
-    ghost faults: { Self → ℕ };
-
-    /// Reads some bytes to the front of a buffer.
-    fn read(&mut self, into: &mut [u8]) -> Got
-        requires { 0 < length into.old }
-        ensures reads { Reads (left self.old) (left self.new) into.new result }
-        ensures counts { ReadCounts (faults self.old) (faults self.new) result };
+/// What a read of a link answers.
+#[derive(Clone, Copy, Debug, PartialEq, Eq)]
+pub enum LinkGot {
+    /// So many bytes, at least one, stand at the front of the buffer.
+    Bytes(u32),
+    /// Nothing is there yet, and the read waits rose.
+    NotNow,
+    /// No byte is left.
+    End,
+    /// Nothing was read, and the faults rose.
+    Failed,
 }
 
-/// Where bytes go.
-pub trait Sink {
-    /// The bytes that it has taken, where it tells them.
-    ghost taken: { Self → Option (List ℕ) };
-    /// How often it has failed.
-    ghost faults: { Self → ℕ };
+/// What a write to a link answers.
+#[derive(Clone, Copy, Debug, PartialEq, Eq)]
+pub enum LinkPut {
+    /// So many bytes, at least one, were taken from the front.
+    Took(u32),
+    /// Nothing was taken, and the write waits rose.
+    NotNow,
+    /// Nothing was taken, and the faults rose.
+    Failed,
+}
 
-    /// Takes some bytes from the front.
-    fn write(&mut self, bytes: &[u8]) -> Put
-        requires { 0 < length bytes.now }
-        ensures some { TakesSome bytes.now result }
-        ensures writes { Writes (taken self.old) (taken self.new) bytes.now result }
-        ensures counts { WriteCounts (faults self.old) (faults self.new) result };
+/// What a send to a port or a network answers.
+#[derive(Clone, Copy, Debug, PartialEq, Eq)]
+pub enum PortPut {
+    /// All of it was taken.
+    Sent,
+    /// Nothing was taken, and the send waits rose.
+    NotNow,
+    /// Nothing was taken, and the faults rose.
+    Failed,
+}
+
+/// What a receive answers.
+#[derive(Clone, Copy, Debug, PartialEq, Eq)]
+pub enum PortGot {
+    /// A datagram of so many bytes stands at the front of the buffer.
+    Datagram(u32),
+    /// Nothing is there yet, and the receive waits rose.
+    NotNow,
+    /// Nothing was received, and the faults rose.
+    Failed,
 }

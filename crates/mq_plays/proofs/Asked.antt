@@ -5,11 +5,11 @@ use Rattle.mq_head.specs.Reader.{IsBegun}
 use Rattle.mq_capsule.specs.declared.item.Item.{Item}
 use Rattle.mq_capsule.specs.Items.{ItemsOf}
 use Rattle.mq_talk.specs.declared.goal.Goal.{Goal}
-use Rattle.mq_machine.specs.declared.act.Act.{Act}
-use Rattle.mq_machine.specs.declared.act.Act.TheVariants.{Bind, Refuse}
-use Rattle.mq_machine.specs.declared.setup.Setup.{Setup}
-use Rattle.mq_machine.specs.Capsule.{limit_of, acts_of}
-use Rattle.mq_machine.specs.Request.{AreBegun, Decides, AsksTunnel, AsksRefusal, Asks, IsRequest, IsRefusedRequest}
+use Rattle.mq_one_machine.specs.declared.act.Act.{Act}
+use Rattle.mq_one_machine.specs.declared.act.Act.TheVariants.{Bind, Refuse}
+use Rattle.mq_one_machine.specs.declared.setup.Setup.{Setup}
+use Rattle.mq_one_machine.specs.Capsule.{limit_of, acts_of}
+use Rattle.mq_one_machine.specs.Request.{AreBegun, Decides, AsksTunnel, AsksRefusal, Asks, IsRequest, IsRefusedRequest}
 use Rattle.mq_plays.specs.Setups.{IsTold}
 use Rattle.mq_plays.proofs.Requests.{Known, one_request, request_or_refused, one_refusal, begun_or_request, begun_or_refusal}
 

@@ -2,12 +2,12 @@
 use Rattle.std.proofs.Common.{◌≡◌, ℕ, zero, suc, min, Some, slice_get, append-nil, ◌+◌, ◌<◌, ◌≤◌, List, [], ◌∷◌, ◌++◌, length, refl, sym, ap, subst, ◌∙◌, arith, inl, inr}
 use Rattle.std.proofs.lemmas.List.{length-append}
 use Rattle.mq_text.specs.Cut.{Lacks}
-use Rattle.mq_machine.specs.declared.line.Line.{Line}
-use Rattle.mq_machine.specs.declared.line.Line.TheVariants.{Blank, Setting, Conn, Piece, FailBind, Steps}
-use Rattle.mq_machine.specs.Line.{Says, SaysOne}
-use Rattle.mq_machine.specs.declared.setting.SettingLine.{SettingLine}
-use Rattle.mq_machine.specs.Setting.{MayFollow}
-use Rattle.mq_machine.specs.Play.{Stage, Settings, Running, opened, Sets, IsUnset, LinePlays, IsBad, IsBadHere, HasFront, HasLine, HasBad, EndsLine, text_of, script_limit}
+use Rattle.mq_one_machine.specs.declared.line.Line.{Line}
+use Rattle.mq_one_machine.specs.declared.line.Line.TheVariants.{Blank, Setting, Conn, Piece, FailBind, Steps}
+use Rattle.mq_one_machine.specs.Line.{Says, SaysOne}
+use Rattle.mq_one_machine.specs.declared.setting.SettingLine.{SettingLine}
+use Rattle.mq_one_machine.specs.Setting.{MayFollow}
+use Rattle.mq_one_machine.specs.Play.{Stage, Settings, Running, opened, Sets, IsUnset, LinePlays, IsBad, IsBadHere, HasFront, HasLine, HasBad, EndsLine, text_of, script_limit}
 use Rattle.mq_plays.proofs.Counts.{AreAlike, opened_alike}
 
 pub at_within : {A : Type 0} → (xs : List A) (i : ℕ) (x : A) → slice_get xs i ≡ Some x → i < length xs

@@ -1,11 +1,11 @@
 -- Which settings were told, and how many links and workers there are, hangs on the lines alone.
 use Rattle.std.proofs.Common.{◌≡◌, ℕ, zero, suc, ◌+◌, List, [], ◌∷◌, ◌++◌, length, slice_set, refl, sym, ap, subst, ◌∙◌, arith, inl, inr, append_assoc}
-use Rattle.mq_machine.specs.declared.line.Line.{Line}
-use Rattle.mq_machine.specs.declared.line.Line.TheVariants.{Blank, Setting, Conn, Piece, FailBind, Steps}
-use Rattle.mq_machine.specs.Line.{SaysOne}
-use Rattle.mq_machine.specs.declared.setting.SettingLine.{SettingLine}
-use Rattle.mq_machine.specs.State.{Worker, State}
-use Rattle.mq_machine.specs.Play.{Runs, Arrives, Happens, Stage, Settings, Running, opened, Sets, LinePlays, Plays}
+use Rattle.mq_one_machine.specs.declared.line.Line.{Line}
+use Rattle.mq_one_machine.specs.declared.line.Line.TheVariants.{Blank, Setting, Conn, Piece, FailBind, Steps}
+use Rattle.mq_one_machine.specs.Line.{SaysOne}
+use Rattle.mq_one_machine.specs.declared.setting.SettingLine.{SettingLine}
+use Rattle.mq_one_machine.specs.State.{Worker, State}
+use Rattle.mq_one_machine.specs.Play.{Runs, Arrives, Happens, Stage, Settings, Running, opened, Sets, LinePlays, Plays}
 
 -- as many links, and as many workers
 pub record Alike (a b : State) : Type 0 where

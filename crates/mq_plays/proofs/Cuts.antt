@@ -1,7 +1,7 @@
 -- A script cut into lines in two ways.
 use Rattle.std.proofs.Common.{◌≡◌, ℕ, List, [], ◌∷◌, ◌++◌, refl, sym, ap, subst, ◌∙◌, ◌⊎◌, inl, inr, append_assoc}
 use Rattle.mq_text.specs.Cut.{Lacks, IsCutOnce}
-use Rattle.mq_machine.specs.Play.{text_of, AreLines, IsScript}
+use Rattle.mq_one_machine.specs.Play.{text_of, AreLines, IsScript}
 
 -- the bytes behind the line and its newline
 pub line_text : (line : List ℕ) (lines : List (List ℕ)) (rest : List ℕ) → text_of (line ∷ lines) ++ rest ≡ line ++ 10 ∷ (text_of lines ++ rest)

@@ -3,8 +3,8 @@ use Rattle.std.proofs.Common.{◌≡◌, ℕ, ◌+◌, ◌≤◌, List, [], ◌�
 use Rattle.std.proofs.lemmas.List.{length-append}
 use Rattle.std.proofs.lemmas.List.Concat.{flat_map-append}
 use Rattle.mq_text.specs.Cut.{Lacks, IsCutOnce}
-use Rattle.mq_machine.specs.Line.{SaysOne}
-use Rattle.mq_machine.specs.Play.{Stage, opening, Plays, HasFront, HasLine, HasBad, text_of, AreLines, with_tail, IsScript, IsPlayed, IsPlayedBad, line_limit, script_limit}
+use Rattle.mq_one_machine.specs.Line.{SaysOne}
+use Rattle.mq_one_machine.specs.Play.{Stage, opening, Plays, HasFront, HasLine, HasBad, text_of, AreLines, with_tail, IsScript, IsPlayed, IsPlayedBad, line_limit, script_limit}
 use Rattle.mq_plays.proofs.Cuts.{line_text, compare, none_more}
 use Rattle.mq_plays.proofs.Counts.{stage_alike_self, plays_alike, parted}
 use Rattle.mq_plays.proofs.Bads.{not_bad_here, not_bad, empty_good}

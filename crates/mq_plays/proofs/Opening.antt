@@ -4,19 +4,19 @@ use Rattle.std.proofs.lemmas.List.{length-append, length-take, length-drop}
 use Rattle.mq_capsule.specs.declared.item.Item.{Item}
 use Rattle.mq_capsule.specs.declared.item.Item.TheVariants.{Datagram, TooLongDatagram, Control, Bad}
 use Rattle.mq_head.specs.Answers.{refusal_text}
-use Rattle.mq_talk.specs.declared.book.Call.{Call}
-use Rattle.mq_talk.specs.declared.note.End.TheVariants as end
-use Rattle.mq_talk.specs.declared.note.Note.{Note}
-use Rattle.mq_talk.specs.declared.note.Note.TheVariants.{Accepted, Took, Ported, Opened, Refused, Sent, Dropped, Wrote, Closed, Ended}
-use Rattle.mq_talk.specs.declared.note.Why.TheVariants as why
+use Rattle.mq_one_machine.specs.declared.book.Call.{Call}
+use Rattle.mq_one_machine.specs.declared.note.End.TheVariants as end
+use Rattle.mq_one_machine.specs.declared.note.Note.{Note}
+use Rattle.mq_one_machine.specs.declared.note.Note.TheVariants.{Accepted, Took, Ported, Opened, Refused, Sent, Dropped, Wrote, Closed, Ended}
+use Rattle.mq_one_machine.specs.declared.note.Why.TheVariants as why
 use Rattle.mq_talk.specs.declared.place.Cause.TheVariants.{UnknownContext, TooLong}
-use Rattle.mq_machine.specs.declared.act.Act.{Act}
-use Rattle.mq_machine.specs.declared.act.Act.TheVariants as act
-use Rattle.mq_machine.specs.declared.setup.Setup.{Setup}
-use Rattle.mq_machine.specs.Capsule.{max_udp, limit_of, context_act, payload_act, is_malformed, then_acts, acts_of}
-use Rattle.mq_machine.specs.Request.{Asks}
-use Rattle.mq_machine.specs.State.{Conn, Tunnel, new_conn}
-use Rattle.mq_machine.specs.ConnNext.{is_on, without, WantNext, WroteNext, TookNext, starved}
+use Rattle.mq_one_machine.specs.declared.act.Act.{Act}
+use Rattle.mq_one_machine.specs.declared.act.Act.TheVariants as act
+use Rattle.mq_one_machine.specs.declared.setup.Setup.{Setup}
+use Rattle.mq_one_machine.specs.Capsule.{max_udp, limit_of, context_act, payload_act, is_malformed, then_acts, acts_of}
+use Rattle.mq_one_machine.specs.Request.{Asks}
+use Rattle.mq_one_machine.specs.State.{Conn, Tunnel, new_conn}
+use Rattle.mq_one_machine.specs.ConnNext.{is_on, without, WantNext, WroteNext, TookNext, starved}
 use Rattle.mq_plays.specs.Setups.{IsTold}
 use Rattle.mq_plays.proofs.Requests.{Known}
 use Rattle.mq_plays.proofs.Asked.{one_asked}

@@ -1,13 +1,13 @@
 -- What a play printed that stopped is a front of what the whole play prints.
 use Rattle.std.proofs.Common.{◌≡◌, ℕ, zero, suc, List, [], ◌∷◌, ◌++◌, refl, sym, ap, subst, ◌∙◌, arith, ◌⊎◌, inl, inr, append_assoc, append-nil}
 use Rattle.mq_text.specs.Cut.{Lacks, IsCutOnce}
-use Rattle.mq_talk.specs.declared.note.Note.{Note}
-use Rattle.mq_machine.specs.declared.line.Line.{Line}
-use Rattle.mq_machine.specs.declared.line.Line.TheVariants as line
-use Rattle.mq_machine.specs.Line.{Says, SaysOne}
-use Rattle.mq_machine.specs.Text.{note_line}
-use Rattle.mq_machine.specs.State.{State}
-use Rattle.mq_machine.specs.Play.{Runs, Stage, opening, opened, LinePlays, Plays, text_of, AreLines, IsScript, with_tail, EndsLine, HasFront, IsPlayed, IsPlayedPart, RunsPart, LinePart, StopsIn, IsFrontOf}
+use Rattle.mq_one_machine.specs.declared.note.Note.{Note}
+use Rattle.mq_one_machine.specs.declared.line.Line.{Line}
+use Rattle.mq_one_machine.specs.declared.line.Line.TheVariants as line
+use Rattle.mq_one_machine.specs.Line.{Says, SaysOne}
+use Rattle.mq_one_machine.specs.Text.{note_line}
+use Rattle.mq_one_machine.specs.State.{State}
+use Rattle.mq_one_machine.specs.Play.{Runs, Stage, opening, opened, LinePlays, Plays, text_of, AreLines, IsScript, with_tail, EndsLine, HasFront, IsPlayed, IsPlayedPart, RunsPart, LinePart, StopsIn, IsFrontOf}
 use Rattle.mq_plays.proofs.Requests.{Known}
 use Rattle.mq_plays.proofs.Cuts.{line_text, compare, none_more}
 use Rattle.mq_plays.proofs.Counts.{parted}

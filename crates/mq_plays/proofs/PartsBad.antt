@@ -2,11 +2,11 @@
 use Rattle.std.proofs.Common.{◌≡◌, ℕ, ◌+◌, List, [], ◌∷◌, ◌++◌, length, refl, sym, ap, subst, ◌∙◌, arith, inl, inr, append_assoc, append-nil}
 use Rattle.std.proofs.lemmas.List.{length-append}
 use Rattle.mq_text.specs.Cut.{IsCutOnce}
-use Rattle.mq_machine.specs.declared.line.Line.{Line}
-use Rattle.mq_machine.specs.declared.line.Line.TheVariants as line
-use Rattle.mq_machine.specs.Line.{Says, SaysOne}
-use Rattle.mq_machine.specs.Text.{bad_line}
-use Rattle.mq_machine.specs.Play.{Stage, opening, Plays, text_of, AreLines, HasFront, HasLine, HasBad, IsPlayed, IsPlayedSoFar, IsPlayedBad, IsPlayedPart, LinePart, StopsIn, IsFrontOf}
+use Rattle.mq_one_machine.specs.declared.line.Line.{Line}
+use Rattle.mq_one_machine.specs.declared.line.Line.TheVariants as line
+use Rattle.mq_one_machine.specs.Line.{Says, SaysOne}
+use Rattle.mq_one_machine.specs.Text.{bad_line}
+use Rattle.mq_one_machine.specs.Play.{Stage, opening, Plays, text_of, AreLines, HasFront, HasLine, HasBad, IsPlayed, IsPlayedSoFar, IsPlayedBad, IsPlayedPart, LinePart, StopsIn, IsFrontOf}
 use Rattle.mq_plays.proofs.Requests.{Known}
 use Rattle.mq_plays.proofs.Cuts.{line_text, compare}
 use Rattle.mq_plays.proofs.Bads.{not_bad}

@@ -1,13 +1,13 @@
 -- A script of which no step is refused memory is played in one way.
 use Rattle.std.proofs.Common.{◌≡◌, ◌≢◌, ℕ, zero, suc, ◌+◌, ◌≤◌, List, [], ◌∷◌, ◌++◌, length, slice_get, slice_set, Some, sym, ap, subst, ◌∙◌, arith, inl, inr, All}
-use Rattle.mq_talk.specs.declared.note.Note.{Note}
-use Rattle.mq_machine.specs.declared.line.Line.{Line}
-use Rattle.mq_machine.specs.declared.line.Line.TheVariants as line
-use Rattle.mq_machine.specs.Line.{SaysOne}
-use Rattle.mq_machine.specs.Text.{note_line, bad_line}
-use Rattle.mq_machine.specs.declared.setting.SettingLine.{SettingLine}
-use Rattle.mq_machine.specs.State.{Offer, Held, Worker, State}
-use Rattle.mq_machine.specs.Play.{OffersLink, with_piece, ArrivesOffered, ArrivesHeld, ArrivesLate, Arrives, Runs, Stage, Settings, Running, opening, opened, Sets, LinePlays, Plays, with_tail, IsPlayed, IsPlayedSoFar, IsPlayedBad}
+use Rattle.mq_one_machine.specs.declared.note.Note.{Note}
+use Rattle.mq_one_machine.specs.declared.line.Line.{Line}
+use Rattle.mq_one_machine.specs.declared.line.Line.TheVariants as line
+use Rattle.mq_one_machine.specs.Line.{SaysOne}
+use Rattle.mq_one_machine.specs.Text.{note_line, bad_line}
+use Rattle.mq_one_machine.specs.declared.setting.SettingLine.{SettingLine}
+use Rattle.mq_one_machine.specs.State.{Offer, Held, Worker, State}
+use Rattle.mq_one_machine.specs.Play.{OffersLink, with_piece, ArrivesOffered, ArrivesHeld, ArrivesLate, Arrives, Runs, Stage, Settings, Running, opening, opened, Sets, LinePlays, Plays, with_tail, IsPlayed, IsPlayedSoFar, IsPlayedBad}
 use Rattle.mq_plays.proofs.Requests.{Known}
 use Rattle.mq_plays.proofs.Bads.{at_within}
 use Rattle.mq_plays.proofs.Cuts.{one_script}

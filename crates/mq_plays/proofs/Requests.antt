@@ -14,9 +14,9 @@ use Rattle.mq_policy.specs.Decisions.{Decides, HasOneDecision}
 use Rattle.mq_head.specs.Reader.{IsBegun}
 use Rattle.mq_head.specs.Laws.{OneAnswer}
 use Rattle.mq_capsule.specs.Laws.{IsReadOnce}
-use Rattle.mq_machine.specs.declared.setup.Setup.{Setup}
-use Rattle.mq_machine.specs.Setup.{AllowsPath, RefusesTarget, RefusesPath}
-use Rattle.mq_machine.specs.Request.{IsRequest, IsRefusedRequest}
+use Rattle.mq_one_machine.specs.declared.setup.Setup.{Setup}
+use Rattle.mq_one_machine.specs.Setup.{AllowsPath, RefusesTarget, RefusesPath}
+use Rattle.mq_one_machine.specs.Request.{IsRequest, IsRefusedRequest}
 use Rattle.mq_plays.specs.Setups.{IsTold}
 use Rattle.mq_plays.proofs.Heads.{begun_or_up, begun_or_refused, up_or_refused, one_refused, one_up}
 

@@ -1,16 +1,16 @@
 -- The setup of a play: its template is one that a text tells, and no turn changes it.
 use Rattle.std.proofs.Common.{◌≡◌, ℕ, List, [], ◌∷◌, ◌++◌, codes, refl, sym, ap, subst, ◌∙◌, inl, inr}
 use Rattle.mq_addr.specs.declared.kind.Kind.TheVariants as kind
-use Rattle.mq_talk.specs.declared.note.Note.{Note}
+use Rattle.mq_one_machine.specs.declared.note.Note.{Note}
 use Rattle.mq_target.specs.Classes.{is_name_byte, is_unreserved, is_literal, is_delimiter}
 use Rattle.mq_target.specs.Template.{target_name, detail_name, IsPlain, well_known}
-use Rattle.mq_machine.specs.declared.setup.Setup.{Setup}
-use Rattle.mq_machine.specs.Setup.{plain_setup}
-use Rattle.mq_machine.specs.declared.setting.SettingLine.{SettingLine}
-use Rattle.mq_machine.specs.declared.setting.SettingLine.TheVariants as setting
-use Rattle.mq_machine.specs.Setting.{SaysSetting, with_setting, with_settings, setup_of}
-use Rattle.mq_machine.specs.State.{Held, Worker, Shared, State}
-use Rattle.mq_machine.specs.Next.{HeldNext, Try, Want, Write, Read, Seat, Offers, Of, SeatNext, Turn}
+use Rattle.mq_one_machine.specs.declared.setup.Setup.{Setup}
+use Rattle.mq_one_machine.specs.Setup.{plain_setup}
+use Rattle.mq_one_machine.specs.declared.setting.SettingLine.{SettingLine}
+use Rattle.mq_one_machine.specs.declared.setting.SettingLine.TheVariants as setting
+use Rattle.mq_one_machine.specs.Setting.{SaysSetting, with_setting, with_settings, setup_of}
+use Rattle.mq_one_machine.specs.State.{Held, Worker, Shared, State}
+use Rattle.mq_one_machine.specs.Next.{HeldNext, Try, Want, Write, Read, Seat, Offers, Of, SeatNext, Turn}
 use Rattle.mq_plays.specs.Setups.{IsTold}
 use Rattle.mq_plays.proofs.Turns.{reads, writes, accepts, ends_or_goes}
 

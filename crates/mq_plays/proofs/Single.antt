@@ -1,18 +1,18 @@
 -- The states that lines lead to: one worker, one link at most, one tunnel at most, and a template that a text tells.
 use Rattle.std.proofs.Common.{◌≡◌, ℕ, true, zero, suc, ◌+◌, ◌≤◌, List, [], ◌∷◌, ◌++◌, length, slice_get, slice_set, remove, Some, refl, sym, ap, subst, ◌∙◌, arith, ◌⊎◌, inl, inr}
 use Rattle.std.proofs.lemmas.List.{length-append}
-use Rattle.mq_talk.specs.declared.note.Note.{Note}
-use Rattle.mq_machine.specs.declared.line.Line.{Line}
-use Rattle.mq_machine.specs.declared.line.Line.TheVariants as line
-use Rattle.mq_machine.specs.declared.setting.SettingLine.{SettingLine}
-use Rattle.mq_machine.specs.declared.setup.Setup.{Setup}
-use Rattle.mq_machine.specs.Line.{Says}
-use Rattle.mq_machine.specs.Setting.{SaysSetting, setup_of}
-use Rattle.mq_machine.specs.Setup.{plain_setup}
-use Rattle.mq_machine.specs.State.{new_conn, Offer, Held, Worker, Shared, State, start_with}
-use Rattle.mq_machine.specs.ConnNext.{starved}
-use Rattle.mq_machine.specs.Next.{HeldNext, OfNext, Try, Want, Write, Read, Seat, Offers, Of, SeatNext, WorkerStarves, Turn, SilentTurn}
-use Rattle.mq_machine.specs.Play.{OffersLink, with_piece, Arrives, Runs, Stage, Settings, Running, opening, opened, Sets, LinePlays, Plays}
+use Rattle.mq_one_machine.specs.declared.note.Note.{Note}
+use Rattle.mq_one_machine.specs.declared.line.Line.{Line}
+use Rattle.mq_one_machine.specs.declared.line.Line.TheVariants as line
+use Rattle.mq_one_machine.specs.declared.setting.SettingLine.{SettingLine}
+use Rattle.mq_one_machine.specs.declared.setup.Setup.{Setup}
+use Rattle.mq_one_machine.specs.Line.{Says}
+use Rattle.mq_one_machine.specs.Setting.{SaysSetting, setup_of}
+use Rattle.mq_one_machine.specs.Setup.{plain_setup}
+use Rattle.mq_one_machine.specs.State.{new_conn, Offer, Held, Worker, Shared, State, start_with}
+use Rattle.mq_one_machine.specs.ConnNext.{starved}
+use Rattle.mq_one_machine.specs.Next.{HeldNext, OfNext, Try, Want, Write, Read, Seat, Offers, Of, SeatNext, WorkerStarves, Turn, SilentTurn}
+use Rattle.mq_one_machine.specs.Play.{OffersLink, with_piece, Arrives, Runs, Stage, Settings, Running, opening, opened, Sets, LinePlays, Plays}
 use Rattle.mq_plays.specs.Setups.{IsTold}
 use Rattle.mq_plays.proofs.Requests.{Known}
 use Rattle.mq_plays.proofs.Setups.{plain_told, more_told, same_told, turn_keeps}

@@ -1,18 +1,18 @@
 -- A connection is refused memory once at most, since it is ending from then on.
 use Rattle.std.proofs.Common.{◌≡◌, ℕ, Bool, zero, suc, ◌+◌, ◌≤◌, List, [], ◌∷◌, ◌++◌, length, slice_get, slice_set, remove, Option, Some, None, sym, ap, subst, ◌∙◌, arith, inl, inr}
 use Rattle.std.proofs.lemmas.List.{length-append}
-use Rattle.mq_talk.specs.declared.book.Call.{Call}
-use Rattle.mq_talk.specs.declared.note.End.{End}
-use Rattle.mq_talk.specs.declared.note.Note.{Note}
-use Rattle.mq_talk.specs.declared.note.Note.TheVariants.{Accepted, Took, Ported, Opened, Refused, Sent, Dropped, Wrote, Closed, Ended}
-use Rattle.mq_talk.specs.declared.note.Why.TheVariants as why
-use Rattle.mq_machine.specs.declared.line.Line.{Line}
-use Rattle.mq_machine.specs.declared.line.Line.TheVariants as line
-use Rattle.mq_machine.specs.declared.setting.SettingLine.{SettingLine}
-use Rattle.mq_machine.specs.State.{Conn, new_conn, Offer, Held, Worker, Shared, State}
-use Rattle.mq_machine.specs.ConnNext.{WantNext, starved}
-use Rattle.mq_machine.specs.Next.{HeldNext, OfNext, Try, Want, Write, Read, Seat, Offers, Of, SeatNext, WorkerStarves}
-use Rattle.mq_machine.specs.Play.{OffersLink, with_piece, Arrives, Runs, Stage, Settings, Running, opening, opened, Sets, LinePlays, Plays}
+use Rattle.mq_one_machine.specs.declared.book.Call.{Call}
+use Rattle.mq_one_machine.specs.declared.note.End.{End}
+use Rattle.mq_one_machine.specs.declared.note.Note.{Note}
+use Rattle.mq_one_machine.specs.declared.note.Note.TheVariants.{Accepted, Took, Ported, Opened, Refused, Sent, Dropped, Wrote, Closed, Ended}
+use Rattle.mq_one_machine.specs.declared.note.Why.TheVariants as why
+use Rattle.mq_one_machine.specs.declared.line.Line.{Line}
+use Rattle.mq_one_machine.specs.declared.line.Line.TheVariants as line
+use Rattle.mq_one_machine.specs.declared.setting.SettingLine.{SettingLine}
+use Rattle.mq_one_machine.specs.State.{Conn, new_conn, Offer, Held, Worker, Shared, State}
+use Rattle.mq_one_machine.specs.ConnNext.{WantNext, starved}
+use Rattle.mq_one_machine.specs.Next.{HeldNext, OfNext, Try, Want, Write, Read, Seat, Offers, Of, SeatNext, WorkerStarves}
+use Rattle.mq_one_machine.specs.Play.{OffersLink, with_piece, Arrives, Runs, Stage, Settings, Running, opening, opened, Sets, LinePlays, Plays}
 use Rattle.mq_plays.proofs.Counts.{set_length}
 use Rattle.mq_plays.proofs.Turns.{reads, writes, accepts, ends_or_goes}
 

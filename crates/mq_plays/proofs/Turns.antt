@@ -1,15 +1,15 @@
 -- The turn of a worker is one.
 use Rattle.std.proofs.Common.{◌≡◌, ℕ, ◌+◌, ◌<◌, List, [], ◌∷◌, ◌++◌, length, take, drop, slice_get, slice_set, remove, Some, refl, sym, ap, subst, ◌∙◌, arith, ◌⊎◌, inl, inr}
 use Rattle.std.proofs.lemmas.Bool.{cases_lt}
-use Rattle.mq_talk.specs.declared.book.Call.{Call}
-use Rattle.mq_talk.specs.declared.note.End.{End}
-use Rattle.mq_talk.specs.declared.note.Note.{Note}
-use Rattle.mq_talk.specs.declared.note.Note.TheVariants.{Accepted, Took, Wrote, Ended}
-use Rattle.mq_machine.specs.declared.act.Act.{Act}
-use Rattle.mq_machine.specs.declared.setup.Setup.{Setup}
-use Rattle.mq_machine.specs.State.{Conn, Offer, Held, Worker, Shared, State}
-use Rattle.mq_machine.specs.ConnNext.{TookNext, still_fails, IsOver}
-use Rattle.mq_machine.specs.Next.{Takes, without_empty, entries_of, ReadNext, DueNext, WriteNext, HasConn, AcceptNext, EndNext, OfNext, HeldNext, Try, Want, Write, Read, order, Seat, Offers, Of, place, SeatNext, NoLater, WorkerTurn, Turn, Quiet}
+use Rattle.mq_one_machine.specs.declared.book.Call.{Call}
+use Rattle.mq_one_machine.specs.declared.note.End.{End}
+use Rattle.mq_one_machine.specs.declared.note.Note.{Note}
+use Rattle.mq_one_machine.specs.declared.note.Note.TheVariants.{Accepted, Took, Wrote, Ended}
+use Rattle.mq_one_machine.specs.declared.act.Act.{Act}
+use Rattle.mq_one_machine.specs.declared.setup.Setup.{Setup}
+use Rattle.mq_one_machine.specs.State.{Conn, Offer, Held, Worker, Shared, State}
+use Rattle.mq_one_machine.specs.ConnNext.{TookNext, still_fails, IsOver}
+use Rattle.mq_one_machine.specs.Next.{Takes, without_empty, entries_of, ReadNext, DueNext, WriteNext, HasConn, AcceptNext, EndNext, OfNext, HeldNext, Try, Want, Write, Read, order, Seat, Offers, Of, place, SeatNext, NoLater, WorkerTurn, Turn, Quiet}
 use Rattle.mq_plays.specs.Setups.{IsTold}
 use Rattle.mq_plays.proofs.Requests.{Known}
 use Rattle.mq_plays.proofs.Asked.{one_asked}

@@ -1,19 +1,19 @@
 -- What a connection with one tunnel at most does next is one thing.
 use Rattle.std.proofs.Common.{◌≡◌, ℕ, Bool, true, false, inl, inr, zero, suc, ◌≤◌, List, [], ◌∷◌, ◌++◌, length, slice_get, remove, Option, Some, None, refl, sym, ap, ◌∙◌, arith}
 use Rattle.mq_head.specs.Answers.{success_text, refusal_text}
-use Rattle.mq_talk.specs.declared.book.Call.{Call}
-use Rattle.mq_talk.specs.declared.book.Call.TheVariants as call
+use Rattle.mq_one_machine.specs.declared.book.Call.{Call}
+use Rattle.mq_one_machine.specs.declared.book.Call.TheVariants as call
 use Rattle.mq_talk.specs.declared.goal.Goal.{Goal}
-use Rattle.mq_talk.specs.declared.note.End.{End}
-use Rattle.mq_talk.specs.declared.note.End.TheVariants as end
-use Rattle.mq_talk.specs.declared.note.From.TheVariants as origin
-use Rattle.mq_talk.specs.declared.note.Note.{Note}
-use Rattle.mq_talk.specs.declared.note.Note.TheVariants.{Accepted, Took, Ported, Opened, Refused, Sent, Dropped, Wrote, Closed, Ended}
-use Rattle.mq_talk.specs.declared.note.Why.TheVariants as why
-use Rattle.mq_machine.specs.declared.act.Act.{Act}
-use Rattle.mq_machine.specs.declared.act.Act.TheVariants as act
-use Rattle.mq_machine.specs.State.{Conn, Tunnel}
-use Rattle.mq_machine.specs.ConnNext.{goal_kind, without, WantNext, IsOver}
+use Rattle.mq_one_machine.specs.declared.note.End.{End}
+use Rattle.mq_one_machine.specs.declared.note.End.TheVariants as end
+use Rattle.mq_one_machine.specs.declared.note.From.TheVariants as origin
+use Rattle.mq_one_machine.specs.declared.note.Note.{Note}
+use Rattle.mq_one_machine.specs.declared.note.Note.TheVariants.{Accepted, Took, Ported, Opened, Refused, Sent, Dropped, Wrote, Closed, Ended}
+use Rattle.mq_one_machine.specs.declared.note.Why.TheVariants as why
+use Rattle.mq_one_machine.specs.declared.act.Act.{Act}
+use Rattle.mq_one_machine.specs.declared.act.Act.TheVariants as act
+use Rattle.mq_one_machine.specs.State.{Conn, Tunnel}
+use Rattle.mq_one_machine.specs.ConnNext.{goal_kind, without, WantNext, IsOver}
 
 -- a note, where it leads, and what it writes into the book
 abbrev pub Step : Type 0

@@ -1,12 +1,12 @@
 -- What is one for every script.
 use Rattle.std.specs.Prelude.{◌≡◌, ℕ, ◌≤◌, List, ◌++◌, length}
-use Rattle.mq_machine.specs.declared.act.Act.{Act}
-use Rattle.mq_machine.specs.declared.setup.Setup.{Setup}
-use Rattle.mq_machine.specs.Request.{Asks}
-use Rattle.mq_talk.specs.declared.note.Note.{Note}
-use Rattle.mq_machine.specs.State.{State}
-use Rattle.mq_machine.specs.Next.{Turn, Quiet}
-use Rattle.mq_machine.specs.Play.{Stage, opening, opened, Plays, IsScript, IsPlayed, IsPlayedSoFar, IsPlayedBad, IsPlayedPart, IsFrontOf}
+use Rattle.mq_one_machine.specs.declared.act.Act.{Act}
+use Rattle.mq_one_machine.specs.declared.setup.Setup.{Setup}
+use Rattle.mq_one_machine.specs.Request.{Asks}
+use Rattle.mq_one_machine.specs.declared.note.Note.{Note}
+use Rattle.mq_one_machine.specs.State.{State}
+use Rattle.mq_one_machine.specs.Next.{Turn, Quiet}
+use Rattle.mq_one_machine.specs.Play.{Stage, opening, opened, Plays, IsScript, IsPlayed, IsPlayedSoFar, IsPlayedBad, IsPlayedPart, IsFrontOf}
 use Rattle.mq_plays.specs.Setups.{IsTold}
 
 -- the reads of a connection ask for one list of acts, where the setup's template is one that a text tells

@@ -1,7 +1,7 @@
 //! A script is cut into lines in one way, and which of them is bad hangs on the lines alone.
 ghost use Rattle.mq_plays.specs.Laws.{IsCutInLines, IsGoodOrBad, HasOneBadLine};
 
-use mq_script::says_one;
+use mq_one_script::says_one;
 use mq_text::cut_once;
 
 /// A script is cut into lines in one way.

@@ -3,8 +3,8 @@ ghost use Rattle.mq_plays.specs.Laws.{IsPartFront, IsPartFrontOfBad, IsSoFarFron
 
 use mq_capsule::is_read_once;
 use mq_head::one_answer;
+use mq_one_script::says_one;
 use mq_policy::one_decision;
-use mq_script::says_one;
 use mq_target::one_reading;
 use mq_text::cut_once;
 

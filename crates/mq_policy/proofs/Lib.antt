@@ -1,4 +1,4 @@
 pub mod Decided
 pub mod Firsts
 pub mod Trees
-pub mod Within
+pub mod Versions

@@ -12,7 +12,3 @@ InArea (Some block) a = IsIn block a
 -- every address of the part is in the whole
 abbrev pub Covers : Option Prefix → Option Prefix → Type 0
 Covers whole part = (a : Addr) → InArea part a → InArea whole a
-
--- the same of two blocks
-abbrev pub IsWithin : Prefix → Prefix → Type 0
-IsWithin part whole = (a : Addr) → IsIn part a → IsIn whole a

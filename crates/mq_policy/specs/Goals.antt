@@ -4,7 +4,7 @@ use Rattle.std.specs.Option.{option_map}
 use Rattle.std.specs.FinMap as map
 use Rattle.mq_addr.specs.declared.addr.Addr.{Addr}
 use Rattle.mq_addr.specs.declared.prefix.Prefix.{Prefix}
-use Rattle.mq_addr.specs.Block.{width}
+use Rattle.mq_addr.specs.Block.{alone}
 use Rattle.mq_talk.specs.declared.goal.Goal.{Goal}
 use Rattle.mq_talk.specs.declared.goal.Goal.TheVariants as goal
 use Rattle.mq_target.specs.declared.target.Host.{Host}
@@ -14,10 +14,6 @@ use Rattle.mq_target.specs.declared.target.Area.TheVariants as area
 use Rattle.mq_target.specs.declared.target.Target.{Target}
 use Rattle.mq_target.specs.declared.target.Target.TheVariants as target
 use Rattle.mq_policy.specs.Names.{NameTable}
-
--- the block of one address
-abbrev pub alone : Addr → Prefix
-alone a = record { addr = a; length = width a }
 
 -- an address is itself, and a name is what the table says
 abbrev pub addr_of : NameTable → Host → Option Addr

@@ -1,9 +1,9 @@
 //! Where the target of a request leads, with its name looked up.
 ghost use Rattle.std.specs.Prelude.{◌≡◌};
-ghost use Rattle.mq_policy.specs.Goals.{addr_of, area_of, goal_of, alone};
+ghost use Rattle.mq_policy.specs.Goals.{addr_of, area_of, goal_of};
 
 use crate::names::Names;
-use mq_addr::{Addr, Prefix};
+use mq_addr::{Addr, Prefix, alone};
 use mq_talk::Goal;
 use mq_target::{Area, Host, Target};
 
@@ -50,15 +50,4 @@ impl Names {
             }
         }
     }
-}
-
-/// The block of one address.
-fn alone(addr: Addr) -> Prefix
-    ensures { result ≡ alone addr }
-{
-    let length = match addr {
-        Addr::V4(_) => 32,
-        Addr::V6(_) => 128,
-    };
-    Prefix { addr, length }
 }

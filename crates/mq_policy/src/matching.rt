@@ -4,7 +4,7 @@ ghost use Rattle.std.specs.List.{AllWithin, HoldsAt};
 ghost use Rattle.mq_policy.specs.Rules.{Matches, IsForPort, IsForProtocol, allows};
 ghost use Rattle.mq_policy.specs.Decisions.{DecidesGoal};
 
-use crate::area::{covers, has_addr};
+use crate::area::{covers_area, has_addr};
 use crate::{Decision, Rule};
 use mq_talk::Goal;
 
@@ -66,7 +66,7 @@ impl Rule {
                     area,
                     protocol: asked,
                 },
-            ) => { is_for_protocol(*protocol, *asked) && covers(block, area) }
+            ) => { is_for_protocol(*protocol, *asked) && covers_area(block, area) }
             _ => false,
         }
     }

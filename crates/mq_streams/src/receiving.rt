@@ -36,15 +36,15 @@ impl Receiving {
         })
     }
 
-    /// The window after so many of the bytes that came were consumed.
+    /// The window after so many of the bytes that came were consumed. No more are than came.
     pub fn after_consuming(self, length: u32) -> Receiving
-        requires { self.room + self.consumed + length ≤ 65535 }
         ensures room { result.room ≡ self.room }
-        ensures consumed { result.consumed ≡ self.consumed + length }
+        ensures consumed { self.room + self.consumed + length ≤ 65535 → result.consumed ≡ self.consumed + length }
     {
+        let most = FIRST_WINDOW - self.room - self.consumed;
         Receiving {
             room: self.room,
-            consumed: self.consumed + length,
+            consumed: self.consumed + length.min(most),
         }
     }
 

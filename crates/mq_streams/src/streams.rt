@@ -1,9 +1,10 @@
 //! The streams and windows of a connection, call by call. Each call is stated by what has happened so far.
 ghost use Rattle.std.specs.Prelude.{◌≡◌, ℕ, ◌+◌, ◌<◌, ◌≤◌, ◌∷◌, [], length, IsTrue, IfOk, MatchResult, min, true, false};
 ghost use Rattle.std.specs.List.{HoldsAt};
-ghost use Rattle.mq_streams.specs.History.{Arrived, Consumed, Sent, Finished, Dropped, Shifted, total, consumed_on, arrived_on, is_live};
+ghost use Rattle.std.specs.Option.{IfSome};
+ghost use Rattle.mq_streams.specs.History.{Arrived, Consumed, Sent, Finished, Dropped, Shifted, total, consumed_on, arrived_on, highest, live, is_live, has_finished};
 ghost use Rattle.mq_streams.specs.Answers.{begun, after_begin, count_of, after_count, next_update, after_update, grant_of, after_grant, room_of, can_shift, is_idle};
-ghost use Rattle.mq_streams.specs.Stand.{StandFor, InEach, InSome};
+ghost use Rattle.mq_streams.specs.Stand.{StandFor, InEach};
 ghost use Rattle.mq_streams.specs.Takers.{Takes, Declines};
 
 use crate::answers::{Began, Counted, Granted, Over};
@@ -80,7 +81,6 @@ impl Streams {
 
     /// So much of the DATA that `on_data` counted is consumed.
     pub fn consumed(&mut self, id: u32, length: u32)
-        requires { InSome self.old (λ h. total (consumed_on id) h + length ≤ total (arrived_on id) h) }
         ensures { InEach self.old (λ h. total (consumed_on id) h + length ≤ total (arrived_on id) h →
             StandFor self.new (Consumed id length ∷ h)) }
     {
@@ -94,7 +94,8 @@ impl Streams {
 
     /// The stream and the amount of the next WINDOW_UPDATE to be sent, where one is due. Stream 0 is the connection.
     pub fn give_back(&mut self) -> Option<(u32, u32)>
-        ensures { InEach self.old (λ h. (result ≡ next_update h) × StandFor self.new (after_update result h)) }
+        ensures answer { InEach self.old (λ h. (result ≡ next_update h) × StandFor self.new (after_update result h)) }
+        ensures bounded { IfSome result (λ update. (16384 ≤ update.1) × (update.1 ≤ 65535)) }
     {
         let amount = self.connection.receiving.consumed;
         if amount >= UPDATE_FROM {
@@ -149,10 +150,26 @@ impl Streams {
         id != 0 && (id % 2 == 0 || id > self.table.highest)
     }
 
+    /// The client has ended its side of a live stream.
+    pub fn has_ended(&self, id: u32) -> bool
+        ensures { InEach self.now (λ h. IsTrue (is_live id h) → result ≡ has_finished id h) }
+    {
+        match self.table.place(id) {
+            Some(at) => self.table.row(at).has_ended,
+            None => false,
+        }
+    }
+
+    /// The highest id that the client began, or 0.
+    pub fn highest(&self) -> u32
+        ensures { InEach self.now (λ h. result ≡ highest h) }
+    {
+        self.table.highest
+    }
+
     /// How many bytes may be sent on a live stream.
     pub fn room(&self, id: u32) -> u32
-        requires { InSome self.now (λ h. IsTrue (is_live id h)) }
-        ensures { InEach self.now (λ h. result ≡ room_of id h) }
+        ensures { InEach self.now (λ h. IsTrue (is_live id h) → result ≡ room_of id h) }
     {
         match self.table.place(id) {
             Some(at) => self.table.row(at).room(self.initial, self.connection.room),
@@ -162,8 +179,7 @@ impl Streams {
 
     /// Takes room for DATA of at most so many bytes on a live stream, and answers for how many.
     pub fn take_room(&mut self, id: u32, want: u32) -> u32
-        requires { InSome self.old (λ h. IsTrue (is_live id h)) }
-        ensures { InEach self.old (λ h. (result ≡ min want (room_of id h)) × StandFor self.new (Sent id result ∷ h)) }
+        ensures { InEach self.old (λ h. IsTrue (is_live id h) → (result ≡ min want (room_of id h)) × StandFor self.new (Sent id result ∷ h)) }
     {
         let Some(at) = self.table.place(id) else {
             return 0;
@@ -191,8 +207,7 @@ impl Streams {
 
     /// The client has ended its side of a live stream.
     pub fn ended(&mut self, id: u32)
-        requires { InSome self.old (λ h. IsTrue (is_live id h)) }
-        ensures { InEach self.old (λ h. StandFor self.new (Finished id ∷ h)) }
+        ensures { InEach self.old (λ h. IsTrue (is_live id h) → StandFor self.new (Finished id ∷ h)) }
     {
         if let Some(at) = self.table.place(id) {
             self.table.put(at, self.table.row(at).after_end());
@@ -201,8 +216,7 @@ impl Streams {
 
     /// A live stream closes.
     pub fn drop_stream(&mut self, id: u32)
-        requires { InSome self.old (λ h. IsTrue (is_live id h)) }
-        ensures { InEach self.old (λ h. StandFor self.new (Dropped id ∷ h)) }
+        ensures { InEach self.old (λ h. IsTrue (is_live id h) → StandFor self.new (Dropped id ∷ h)) }
     {
         if let Some(at) = self.table.place(id) {
             self.table.remove(at);
@@ -249,4 +263,9 @@ pub fn consumed_within_what_came()
     ensures within { (streams : Streams) (id : ℕ) → InEach streams (λ h. total (consumed_on id) h ≤ total (arrived_on id) h) }
     ensures at_once { (streams : Streams) (id size : ℕ) → InEach streams (λ h.
         total (consumed_on id) (Arrived id size ∷ h) + size ≤ total (arrived_on id) (Arrived id size ∷ h)) }
+{}
+
+/// At most a hundred streams are live.
+pub fn few_are_live()
+    ensures { (streams : Streams) → InEach streams (λ h. length (live h) ≤ 100) }
 {}

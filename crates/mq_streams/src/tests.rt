@@ -1,7 +1,4 @@
 //! Rows of calls on new streams, with the answers that the windows give.
-ghost use Rattle.mq_streams.specs.History.{History};
-ghost use Rattle.mq_streams.specs.Stand.{StandFor};
-
 use crate::{Began, Counted, Granted, Over, Streams};
 use std::test::Fail;
 
@@ -32,10 +29,7 @@ enum Answer {
     NotLive,
 }
 
-fn read(streams: &mut Streams, id: u32, length: u32) -> Counted
-    requires { (h : History) × StandFor streams.old h }
-    ensures { (h : History) × StandFor streams.new h }
-{
+fn read(streams: &mut Streams, id: u32, length: u32) -> Counted {
     let counted = streams.on_data(id, length);
     if let Counted::Yes = counted {
         streams.consumed(id, length);
@@ -43,10 +37,7 @@ fn read(streams: &mut Streams, id: u32, length: u32) -> Counted
     counted
 }
 
-fn on_live(streams: &mut Streams, id: u32, call: Call) -> Answer
-    requires { (h : History) × StandFor streams.old h }
-    ensures { (h : History) × StandFor streams.new h }
-{
+fn on_live(streams: &mut Streams, id: u32, call: Call) -> Answer {
     if !streams.is_live(id) {
         return Answer::NotLive;
     }
@@ -65,10 +56,7 @@ fn on_live(streams: &mut Streams, id: u32, call: Call) -> Answer
     }
 }
 
-fn make(streams: &mut Streams, call: Call) -> Answer
-    requires { (h : History) × StandFor streams.old h }
-    ensures { (h : History) × StandFor streams.new h }
-{
+fn make(streams: &mut Streams, call: Call) -> Answer {
     match call {
         Call::Begin(id) => Answer::Begins(streams.begin(id)),
         Call::Data(id, length) => Answer::Counts(streams.on_data(id, length)),
@@ -227,5 +215,9 @@ fn a_hundred_streams_are_live_and_no_more(rt: HostRuntime) -> Result<(), Fail> {
     assert!(rt; streams.is_live(199));
     assert!(rt; !streams.is_live(201));
     assert!(rt; streams.is_idle(203));
+    assert_eq!(rt; streams.highest(), 201);
+    assert!(rt; !streams.has_ended(199));
+    streams.ended(199);
+    assert!(rt; streams.has_ended(199));
     Ok(())
 }

@@ -3,11 +3,15 @@
 
 mod book;
 mod goal;
+mod mail;
 mod note;
+mod office;
 mod place;
 
-pub use book::{Call, Entry};
+pub use book::{Call, Config, Entry, Reply};
 pub use goal::Goal;
-pub use mq_addr::{Asked, Given, Kind};
+pub use mail::Mail;
+pub use mq_addr::{Asked, Flow, Given, Kind, Prefix, Range};
 pub use note::{End, From, Note, Why};
-pub use place::{Cause, Place};
+pub use office::Office;
+pub use place::{Cause, Judged, Origin, Parcel, Place, Pushed, Verdict};

@@ -2,7 +2,7 @@
 use Rattle.std.proofs.Common.{◌≡◌, ◌≢◌, ℕ, ◌+◌, ◌-◌, ◌<◌, ◌≤◌, List, [], ◌∷◌, ◌++◌, length, take, drop, refl, sym, ap, subst, ◌∙◌, arith, append_assoc, append-nil}
 use Rattle.std.proofs.lemmas.List.{length-append, length-take-le, length-drop, take-append-drop}
 use Rattle.std.proofs.lemmas.List.Concat.{flat_map-append}
-use Rattle.mq_machine.specs.Play.{text_of, AreLines, IsScript, HasFront, HasLine, HasLong, HasPast, line_limit, script_limit}
+use Rattle.mq_one_machine.specs.Play.{text_of, AreLines, IsScript, HasFront, HasLine, HasLong, HasPast, line_limit, script_limit}
 use Rattle.mq_text.specs.Cut.{Lacks}
 
 pub lacks_both : (b : ℕ) (xs ys : List ℕ) → Lacks b xs → Lacks b ys → Lacks b (xs ++ ys)

@@ -1,8 +1,8 @@
 -- How a replay ends.
 use Rattle.std.proofs.Common.{◌≡◌, ℕ, ◌+◌, List, [], ◌++◌, length, Option, Some, None, Err, refl, sym, ap, subst, ◌∙◌, append_assoc, append-nil, inl, inr}
 use Rattle.std.specs.Option.{IfSome, MatchOption}
-use Rattle.mq_machine.specs.Play.{IsPlayedSoFar, IsPlayedBad, IsPlayedPart}
-use Rattle.mq_machine.specs.Text.{bad_line}
+use Rattle.mq_one_machine.specs.Play.{IsPlayedSoFar, IsPlayedBad, IsPlayedPart}
+use Rattle.mq_one_machine.specs.Text.{bad_line}
 use Rattle.mq_outside.specs.Outside.{Rose, Gives}
 use Rattle.mq_top.proofs.Reading.{no_memory}
 use Rattle.mq_top.specs.Printing.{StopCounts}

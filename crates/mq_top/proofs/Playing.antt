@@ -1,33 +1,33 @@
 -- What the parts of a line's play say of the line.
 use Rattle.std.proofs.Common.{◌≡◌, ℕ, true, List, [], ◌∷◌, ◌++◌, Option, Some, None, Result, Ok, Err, refl, sym, subst, inl, inr}
-use Rattle.mq_machine.specs.Line.{Says}
-use Rattle.mq_machine.specs.Play as spec
-use Rattle.mq_machine.specs.Play.{Settings, Running, opened, LinePlays, IsBadHere}
-use Rattle.mq_machine.specs.State.{State}
-use Rattle.mq_machine.specs.declared.line.Line.{Line}
-use Rattle.mq_machine.specs.declared.line.Line.TheVariants as line
-use Rattle.mq_machine.specs.declared.line.Line.TheVariants.{Steps}
-use Rattle.mq_machine.specs.declared.setting.SettingLine.{SettingLine}
-use Rattle.mq_machine.specs.declared.setup.Setup.{Setup}
-use Rattle.mq_machine.specs.Next.{Turn}
-use Rattle.mq_machine.specs.Text.{note_line}
-use Rattle.mq_talk.specs.declared.note.Note.{Note}
-use Rattle.mq_script.specs.Settings as script
+use Rattle.mq_one_machine.specs.Line.{Says}
+use Rattle.mq_one_machine.specs.Play as spec
+use Rattle.mq_one_machine.specs.Play.{Settings, Running, opened, LinePlays, IsBadHere}
+use Rattle.mq_one_machine.specs.State.{State}
+use Rattle.mq_one_machine.specs.declared.line.Line.{Line}
+use Rattle.mq_one_machine.specs.declared.line.Line.TheVariants as line
+use Rattle.mq_one_machine.specs.declared.line.Line.TheVariants.{Steps}
+use Rattle.mq_one_machine.specs.declared.setting.SettingLine.{SettingLine}
+use Rattle.mq_one_machine.specs.declared.setup.Setup.{Setup}
+use Rattle.mq_one_machine.specs.Next.{Turn}
+use Rattle.mq_one_machine.specs.Text.{note_line}
+use Rattle.mq_one_machine.specs.declared.note.Note.{Note}
+use Rattle.mq_one_script.specs.Settings as script
 use Rattle.mq_top.specs.Playing.{StepTo, RunsTo, Answers, EventTo, SilentTo, LineTo}
 use Rattle.mq_top.specs.Printing.{Spills}
 use Rattle.mq_top.specs.Stages.{MayRun, IsStage, SetTo}
 use Rattle.mq_top.specs.declared.stage.Stage.{Stage}
 use Rattle.mq_top.specs.declared.status.Stop.{Stop}
 use Rattle.mq_top.specs.declared.status.Stop.TheVariants.{BadLine, WriteFault, NoMemory}
-use Rattle.mq_world.specs.declared.event.Event.{Event}
-use Rattle.mq_world.specs.declared.event.Event.TheVariants.{Conn, Piece, FailBind, Step}
-use Rattle.mq_world.specs.declared.event.Stepped.{Stepped}
-use Rattle.mq_world.specs.declared.event.Stepped.TheVariants.{Done, Did, Idle, Refused}
-use Rattle.mq_world.specs.declared.event.WorldFault.{WorldFault}
-use Rattle.mq_world.specs.declared.event.WorldFault.TheVariants as fault
-use Rattle.mq_world.specs.declared.world.World.{World}
-use Rattle.mq_world.specs.Worlds as world
-use Rattle.mq_world.specs.Worlds.{IsWorld}
+use Rattle.mq_one_world.specs.declared.event.Event.{Event}
+use Rattle.mq_one_world.specs.declared.event.Event.TheVariants.{Conn, Piece, FailBind, Step}
+use Rattle.mq_one_world.specs.declared.event.Stepped.{Stepped}
+use Rattle.mq_one_world.specs.declared.event.Stepped.TheVariants.{Done, Did, Idle, Refused}
+use Rattle.mq_one_world.specs.declared.event.WorldFault.{WorldFault}
+use Rattle.mq_one_world.specs.declared.event.WorldFault.TheVariants as fault
+use Rattle.mq_one_world.specs.declared.world.World.{World}
+use Rattle.mq_one_world.specs.Worlds as world
+use Rattle.mq_one_world.specs.Worlds.{IsWorld}
 
 -- the stage of a world that has begun
 abbrev pub running : script.Made → World → Stage

@@ -1,11 +1,11 @@
 -- The play of the lines that were cut.
 use Rattle.std.proofs.Common.{◌≡◌, ℕ, zero, suc, ◌+◌, ◌≤◌, List, [], ◌∷◌, ◌++◌, length, Result, Ok, Err, refl, sym, ap, subst, ◌∙◌, arith, append_assoc, append-nil, inl, inr}
 use Rattle.std.proofs.lemmas.List.{length-append}
-use Rattle.mq_machine.specs.Line.{Says}
-use Rattle.mq_machine.specs.State.{State}
-use Rattle.mq_machine.specs.Play.{Stage, opening, opened, Plays, Runs, RunsPart, LinePlays, LinePart, IsScript, HasFront, HasLine, HasBad, IsPlayed, IsPlayedPart, text_of, line_limit, script_limit}
-use Rattle.mq_machine.specs.declared.line.Line.{Line}
-use Rattle.mq_machine.specs.declared.line.Line.TheVariants.{Blank, Setting, Conn, Piece, FailBind, Steps}
+use Rattle.mq_one_machine.specs.Line.{Says}
+use Rattle.mq_one_machine.specs.State.{State}
+use Rattle.mq_one_machine.specs.Play.{Stage, opening, opened, Plays, Runs, RunsPart, LinePlays, LinePart, IsScript, HasFront, HasLine, HasBad, IsPlayed, IsPlayedPart, text_of, line_limit, script_limit}
+use Rattle.mq_one_machine.specs.declared.line.Line.{Line}
+use Rattle.mq_one_machine.specs.declared.line.Line.TheVariants.{Blank, Setting, Conn, Piece, FailBind, Steps}
 use Rattle.mq_text.specs.Cut.{Lacks}
 use Rattle.mq_top.proofs.Cutting.{begun_more, begun_ended, parts_length, has_front, no_front, has_line, has_last, has_long, has_past}
 use Rattle.mq_top.specs.Playing.{LineTo, IsCutLine}

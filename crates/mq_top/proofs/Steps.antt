@@ -2,17 +2,17 @@
 use Rattle.std.proofs.Common.{◌≡◌, ℕ, zero, suc, ◌+◌, ◌<◌, ◌≤◌, List, [], ◌∷◌, ◌++◌, length, Some, Ok, Err, refl, sym, ap, subst, ◌∙◌, arith, append_assoc, append-nil, ◌⊎◌, inl, inr}
 use Rattle.std.specs.List.{slice_get}
 use Rattle.std.proofs.lemmas.List.{length-set}
-use Rattle.mq_machine.specs.Next.{Turn, SilentTurn, Quiet}
-use Rattle.mq_machine.specs.Play.{Runs, RunsPart}
-use Rattle.mq_machine.specs.State.{State}
-use Rattle.mq_machine.specs.declared.setup.Setup.{Setup}
-use Rattle.mq_machine.specs.Text.{note_line, idle_line}
-use Rattle.mq_talk.specs.declared.note.Note.{Note}
+use Rattle.mq_one_machine.specs.Next.{Turn, SilentTurn, Quiet}
+use Rattle.mq_one_machine.specs.Play.{Runs, RunsPart}
+use Rattle.mq_one_machine.specs.State.{State}
+use Rattle.mq_one_machine.specs.declared.setup.Setup.{Setup}
+use Rattle.mq_one_machine.specs.Text.{note_line, idle_line}
+use Rattle.mq_one_machine.specs.declared.note.Note.{Note}
 use Rattle.mq_top.specs.Playing.{StepTo, Moves, IsActor, RunsTo}
 use Rattle.mq_top.specs.declared.status.Stop.{Stop}
 use Rattle.mq_top.specs.declared.status.Stop.TheVariants.{BadLine, WriteFault, NoMemory}
-use Rattle.mq_world.specs.declared.world.World.{World}
-use Rattle.mq_world.specs.Worlds.{IsWorld}
+use Rattle.mq_one_world.specs.declared.world.World.{World}
+use Rattle.mq_one_world.specs.Worlds.{IsWorld}
 
 pub got_within : {X : Type 0} (xs : List X) (i : ℕ) (x : X) → slice_get xs i ≡ Some x → i < length xs
 got_within [] i x e = absurd cc

@@ -3,3 +3,4 @@ pub mod Printing
 pub mod Playing
 pub mod Reading
 pub mod Replay
+pub mod Standard

@@ -1,28 +1,28 @@
 -- What the functions that play a line answer.
 use Rattle.std.specs.Prelude.{◌≡◌, ℕ, ◌≤◌, ◌<◌, ◌⊎◌, List, [], length, Result, Ok, Err}
-use Rattle.mq_machine.specs.declared.line.Line.{Line}
-use Rattle.mq_machine.specs.declared.line.Line.TheVariants as line
-use Rattle.mq_machine.specs.Line.{Says}
-use Rattle.mq_machine.specs.Next.{Turn, SilentTurn, Quiet}
-use Rattle.mq_machine.specs.declared.setup.Setup.{Setup}
-use Rattle.mq_machine.specs.Play as spec
-use Rattle.mq_machine.specs.Play.{Runs, RunsPart, LinePlays, LinePart, IsBad, IsBadHere}
-use Rattle.mq_machine.specs.State.{State}
-use Rattle.mq_machine.specs.Text.{note_line, idle_line}
-use Rattle.mq_talk.specs.declared.note.Note.{Note}
+use Rattle.mq_one_machine.specs.declared.line.Line.{Line}
+use Rattle.mq_one_machine.specs.declared.line.Line.TheVariants as line
+use Rattle.mq_one_machine.specs.Line.{Says}
+use Rattle.mq_one_machine.specs.Next.{Turn, SilentTurn, Quiet}
+use Rattle.mq_one_machine.specs.declared.setup.Setup.{Setup}
+use Rattle.mq_one_machine.specs.Play as spec
+use Rattle.mq_one_machine.specs.Play.{Runs, RunsPart, LinePlays, LinePart, IsBad, IsBadHere}
+use Rattle.mq_one_machine.specs.State.{State}
+use Rattle.mq_one_machine.specs.Text.{note_line, idle_line}
+use Rattle.mq_one_machine.specs.declared.note.Note.{Note}
 use Rattle.mq_top.specs.declared.play.Moved.{Moved}
 use Rattle.mq_top.specs.declared.play.Moved.TheVariants.{Acted, Idle}
 use Rattle.mq_top.specs.declared.status.Stop.{Stop}
 use Rattle.mq_top.specs.declared.status.Stop.TheVariants.{BadLine, WriteFault, NoMemory}
-use Rattle.mq_world.specs.declared.event.Event.{Event}
-use Rattle.mq_world.specs.declared.event.Event.TheVariants.{Conn, Piece, FailBind, Step}
-use Rattle.mq_world.specs.declared.event.Stepped.{Stepped}
-use Rattle.mq_world.specs.declared.event.WorldFault.{WorldFault}
-use Rattle.mq_world.specs.declared.event.WorldFault.TheVariants as fault
+use Rattle.mq_one_world.specs.declared.event.Event.{Event}
+use Rattle.mq_one_world.specs.declared.event.Event.TheVariants.{Conn, Piece, FailBind, Step}
+use Rattle.mq_one_world.specs.declared.event.Stepped.{Stepped}
+use Rattle.mq_one_world.specs.declared.event.WorldFault.{WorldFault}
+use Rattle.mq_one_world.specs.declared.event.WorldFault.TheVariants as fault
 use Rattle.mq_top.specs.declared.stage.Stage.{Stage}
 use Rattle.mq_top.specs.Stages.{IsStage}
-use Rattle.mq_world.specs.declared.world.World.{World}
-use Rattle.mq_world.specs.Worlds.{IsWorld}
+use Rattle.mq_one_world.specs.declared.world.World.{World}
+use Rattle.mq_one_world.specs.Worlds.{IsWorld}
 
 -- a step had a note, and showed it; or it was refused memory, and showed nothing
 abbrev pub Moves : Setup → State → ℕ → List ℕ → World → Type 0

@@ -1,6 +1,6 @@
 -- How far a script was read and played.
 use Rattle.std.specs.Prelude.{◌≡◌, ℕ, ◌+◌, ◌≤◌, ◌<◌, ◌⊎◌, List, [], ◌++◌, length, Option, Some, None, Result, Ok, Err}
-use Rattle.mq_machine.specs.Play.{Stage, opening, Plays, IsScript, HasBad, IsPlayed, IsPlayedBad, IsPlayedPart, line_limit, script_limit}
+use Rattle.mq_one_machine.specs.Play.{Stage, opening, Plays, IsScript, HasBad, IsPlayed, IsPlayedBad, IsPlayedPart, line_limit, script_limit}
 use Rattle.mq_top.specs.Stages.{IsStage}
 use Rattle.mq_top.specs.declared.session.Session.{Session}
 use Rattle.mq_outside.specs.Outside.{Rose}

@@ -1,15 +1,15 @@
 -- What the stage of a script stands for.
 use Rattle.std.specs.Prelude.{Option, Some, None, Result, Ok, Err}
-use Rattle.mq_machine.specs.Play as spec
-use Rattle.mq_machine.specs.Play.{Settings, Running, Sets, IsUnset}
-use Rattle.mq_machine.specs.declared.setting.SettingLine.{SettingLine}
-use Rattle.mq_script.specs.Settings as script
-use Rattle.mq_script.specs.Settings.{IsSettings}
+use Rattle.mq_one_machine.specs.Play as spec
+use Rattle.mq_one_machine.specs.Play.{Settings, Running, Sets, IsUnset}
+use Rattle.mq_one_machine.specs.declared.setting.SettingLine.{SettingLine}
+use Rattle.mq_one_script.specs.Settings as script
+use Rattle.mq_one_script.specs.Settings.{IsSettings}
 use Rattle.mq_top.specs.declared.stage.Stage.{Stage}
 use Rattle.mq_top.specs.declared.status.Stop.{Stop}
 use Rattle.mq_top.specs.declared.status.Stop.TheVariants.{BadLine, WriteFault, NoMemory}
-use Rattle.mq_world.specs.declared.world.World.{World}
-use Rattle.mq_world.specs.Worlds.{IsWorld}
+use Rattle.mq_one_world.specs.declared.world.World.{World}
+use Rattle.mq_one_world.specs.Worlds.{IsWorld}
 
 -- settings alone, or a world of their setup
 abbrev pub MayRun : script.Made → Option World → spec.Stage → Type 0

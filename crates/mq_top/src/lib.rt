@@ -2,8 +2,6 @@
 #![tactic(auto)]
 
 mod command;
-mod mem_sink;
-mod mem_source;
 mod play;
 mod print;
 mod script;
@@ -15,8 +13,6 @@ mod status;
 mod tests;
 
 pub use command::run;
-pub use mem_sink::MemSink;
-pub use mem_source::MemSource;
 pub use script::replay;
 pub use standard::{StandardSink, StandardSource};
 pub use status::Status;

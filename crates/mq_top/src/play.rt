@@ -1,19 +1,19 @@
 //! A line of a script is played, and what it prints gathers.
 ghost use Rattle.std.specs.Prelude.{◌≡◌, ℕ, ◌<◌, ◌≤◌, List, ◌++◌, length, Option, Some, None, Ok, Err};
-ghost use Rattle.mq_machine.specs.State.{State};
-ghost use Rattle.mq_world.specs.Worlds.{IsWorld};
+ghost use Rattle.mq_one_machine.specs.State.{State};
+ghost use Rattle.mq_one_world.specs.Worlds.{IsWorld};
 ghost use Rattle.mq_top.specs.Printing.{Prints, StopCounts, IsSilent};
-ghost use Rattle.mq_machine.specs.Play as spec;
+ghost use Rattle.mq_one_machine.specs.Play as spec;
 ghost use Rattle.mq_top.specs.Playing.{StepTo, RunsTo, Answers, EventTo, LineTo};
 ghost use Rattle.mq_top.specs.Stages.{IsStage};
 
 use crate::print::spill;
 use crate::stage::Stage;
 use crate::status::Stop;
-use mq_machine::{Line, Setup};
+use mq_one_machine::{Line, Setup};
+use mq_one_script::{LineFault, parse_line, print_idle, print_note};
+use mq_one_world::{Event, Stepped, World, WorldFault};
 use mq_outside::Sink;
-use mq_script::{LineFault, parse_line, print_idle, print_note};
-use mq_world::{Event, Stepped, World, WorldFault};
 use std::alloc::Global;
 
 /// What an actor did.

@@ -8,8 +8,8 @@ ghost use Rattle.mq_top.specs.Replay.{Replayed, SourceCounts, SinkCounts};
 use crate::print::flush;
 use crate::session::Session;
 use crate::status::{Status, Stop};
+use mq_one_script::print_bad_line;
 use mq_outside::{Got, Sink, Source};
-use mq_script::print_bad_line;
 use std::alloc::Global;
 
 /// The most bytes that one read asks for.

@@ -1,6 +1,6 @@
 //! The bytes of a script are cut into lines, and each line is played as soon as it is whole.
 ghost use Rattle.std.specs.Prelude.{◌≡◌, ◌≢◌, ℕ, ◌+◌, ◌<◌, ◌≤◌, List, [], ◌∷◌, ◌++◌, length, Ok, Err, IfOk};
-ghost use Rattle.mq_machine.specs.Play as spec;
+ghost use Rattle.mq_one_machine.specs.Play as spec;
 ghost use Rattle.mq_top.specs.Stages.{IsStage};
 ghost use Rattle.mq_text.specs.Cut.{Lacks};
 ghost use Rattle.mq_top.specs.Printing.{Prints, StopCounts, IsSilent};

@@ -1,14 +1,14 @@
 //! How far a script has come: its settings, and the world, once a line was none.
 ghost use Rattle.std.specs.Prelude.{◌≡◌, IfOk};
-ghost use Rattle.mq_machine.specs.Play as spec;
+ghost use Rattle.mq_one_machine.specs.Play as spec;
 ghost use Rattle.mq_top.specs.Stages.{IsStage, SetTo};
 ghost use Rattle.mq_top.specs.Printing.{IsSilent};
 
 use crate::status::Stop;
-use mq_machine::SettingLine;
-use mq_script::Settings;
+use mq_one_machine::SettingLine;
+use mq_one_script::Settings;
+use mq_one_world::World;
 use mq_wire::NoMemory;
-use mq_world::World;
 use std::alloc::Global;
 
 /// The settings of a script, and the world, which begins with the first line that is no setting.

@@ -1,6 +1,6 @@
 //! The limits of a line and of a script.
 
-use super::{PLAIN, Way, replayed};
+use super::{NEVER, PLAIN, Way, replayed};
 use crate::Status;
 use std::alloc::{AllocError, Global};
 use std::test::Fail;
@@ -20,9 +20,9 @@ fn a_line_has_at_most_200000_bytes(rt: HostRuntime) -> Result<(), Fail> {
     for (length, want, text) in cases {
         for read in [4_096, u32::MAX] {
             let way = Way {
-                fail_read: 0,
+                fail_read: NEVER,
                 read,
-                fail_write: 0,
+                fail_write: NEVER,
                 written: u32::MAX,
             };
             let mut script = comment(rt.alloc(), length)?;

@@ -1,4 +1,4 @@
-use Rattle.mq_machine.specs.Play.{opening}
+use Rattle.mq_one_machine.specs.Play.{opening}
 use Rattle.mq_plays.proofs.Single.{plays_single, opening_single}
 use Rattle.mq_plays.proofs.asking.always_told.Goals as goal
 

@@ -1,4 +1,4 @@
-use Rattle.mq_machine.specs.Play.{opening, opened}
+use Rattle.mq_one_machine.specs.Play.{opening, opened}
 use Rattle.mq_plays.proofs.Requests.{Known}
 use Rattle.mq_plays.proofs.Turns.{one_actor_turn}
 use Rattle.mq_plays.proofs.Single.{plays_single, opening_single, settles}

@@ -1,7 +1,7 @@
 use Rattle.std.proofs.Common.{sym, subst}
-use Rattle.mq_machine.specs.Play.{opened}
-use Rattle.mq_machine.specs.declared.setup.Setup.{Setup}
-use Rattle.mq_world.specs.Worlds.{IsWorld, Happens}
+use Rattle.mq_one_machine.specs.Play.{opened}
+use Rattle.mq_one_machine.specs.declared.setup.Setup.{Setup}
+use Rattle.mq_one_world.specs.Worlds.{IsWorld, Happens}
 use Rattle.mq_top.proofs.Playing.{world_of, happened}
 use Rattle.mq_top.proofs.play.happen.Goals as goal
 

@@ -1,6 +1,6 @@
 use Rattle.std.proofs.Common.{[], Err, refl, ap, inl}
-use Rattle.mq_script.specs.declared.fault.LineFault.{LineFault}
-use Rattle.mq_machine.specs.declared.line.Line.TheVariants.{Blank, Conn, Piece, FailBind}
+use Rattle.mq_one_script.specs.declared.fault.LineFault.{LineFault}
+use Rattle.mq_one_machine.specs.declared.line.Line.TheVariants.{Blank, Conn, Piece, FailBind}
 use Rattle.mq_top.proofs.Playing.{silent_line, setting_line, steps_line}
 use Rattle.mq_top.proofs.Shown.{prints_none, silent_counts}
 use Rattle.mq_top.proofs.play.play_line.Goals as goal

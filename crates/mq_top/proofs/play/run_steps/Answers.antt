@@ -1,7 +1,7 @@
 use Rattle.std.proofs.Common.{[], refl, sym, subst, inl}
-use Rattle.mq_machine.specs.Play.{opened}
-use Rattle.mq_machine.specs.declared.setup.Setup.{Setup}
-use Rattle.mq_world.specs.Worlds.{IsWorld}
+use Rattle.mq_one_machine.specs.Play.{opened}
+use Rattle.mq_one_machine.specs.declared.setup.Setup.{Setup}
+use Rattle.mq_one_world.specs.Worlds.{IsWorld}
 use Rattle.mq_top.specs.Playing.{RunsTo}
 use Rattle.mq_top.proofs.Playing.{world_of}
 use Rattle.mq_top.proofs.Shown.{prints_none}

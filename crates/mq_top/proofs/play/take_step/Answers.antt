@@ -1,6 +1,6 @@
 use Rattle.std.proofs.Common.{[], refl, sym, ◌∙◌, append-nil, inl, inr}
 use Rattle.std.proofs.lemmas.Result.{err_from_is_err_and}
-use Rattle.mq_machine.specs.Text.{note_line}
+use Rattle.mq_one_machine.specs.Text.{note_line}
 use Rattle.mq_top.proofs.Playing.{spilled, unprinted}
 use Rattle.mq_top.proofs.Shown.{prints_none, prints_said, prints_flushed}
 use Rattle.mq_top.proofs.play.take_step.Goals as goal

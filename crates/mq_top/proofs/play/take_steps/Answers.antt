@@ -3,7 +3,7 @@ use Rattle.std.proofs.lemmas.Result.{err_from_is_err_and}
 use Rattle.mq_top.proofs.Shown.{prints_none, prints_more}
 use Rattle.mq_top.proofs.Steps.{far_none, far_moves, far_done, far_idle, far_stopped}
 use Rattle.mq_top.proofs.play.take_steps.Goals as goal
-use Rattle.mq_world.specs.Worlds.{IsWorld}
+use Rattle.mq_one_world.specs.Worlds.{IsWorld}
 
 pub returns-in_err-take_step-clause-runs : goal.returns-in_err-take_step-clause-runs
 returns-in_err-take_step-clause-runs g c =

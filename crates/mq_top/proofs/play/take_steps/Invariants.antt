@@ -1,9 +1,9 @@
 use Rattle.std.proofs.Common.{◌≡◌, ℕ, List}
-use Rattle.mq_machine.specs.State.{State}
+use Rattle.mq_one_machine.specs.State.{State}
 use Rattle.mq_top.specs.Printing.{Prints}
 use Rattle.mq_top.proofs.Steps.{Far}
 use Rattle.mq_top.proofs.play.take_steps.Given as goal
-use Rattle.mq_world.specs.Worlds.{IsWorld}
+use Rattle.mq_one_world.specs.Worlds.{IsWorld}
 
 -- the steps so far were taken and shown
 abbrev pub invariant-loop-left : goal.invariant-loop-left

@@ -1,5 +1,5 @@
 use Rattle.std.proofs.Common.{[], ◌+◌, sym, ◌∙◌, append-nil}
-use Rattle.mq_machine.specs.Text.{bad_line}
+use Rattle.mq_one_machine.specs.Text.{bad_line}
 use Rattle.mq_top.proofs.Ending.{unsaid, bad_said}
 use Rattle.mq_top.proofs.script.say.Goals as goal
 

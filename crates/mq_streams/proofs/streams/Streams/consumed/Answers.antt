@@ -6,16 +6,6 @@ use Rattle.mq_streams.proofs.Events.{consumed_row, consumed_connection}
 use Rattle.mq_streams.proofs.Steps.{after_put, found_row}
 use Rattle.mq_streams.proofs.streams.Streams.consumed.Goals as goal
 
-pub after_consuming-self-requires : goal.after_consuming-self-requires
-after_consuming-self-requires c = let r = c.requires in connection_has_place r.0 _ _ _ _ r.1 c.args.id c.args.length r.2
-
-pub after_consuming-receiving-requires : goal.after_consuming-receiving-requires
-after_consuming-receiving-requires c =
-    let r = c.requires in
-    let here = c.in-Some.ensures in
-    let row = found_row r.0 _ _ _ c.args.self.now.table.rows.items r.1 c.in-Some.at here.0 c.row-stream.result c.row-stream.ensures c.args.id here.1 in
-    row_has_place r.0 _ _ _ _ r.1 c.args.id c.args.length r.2 c.row-stream.result row
-
 pub returns-in-Some : goal.returns-in-Some
 returns-in-Some c = λ h is within.
     let table = c.args.self.now.table in
@@ -25,6 +15,8 @@ returns-in-Some c = λ h is within.
     let done = c.with_receiving.ensures in
     let inner = c.after_consuming-receiving.ensures in
     let outer = c.after_consuming-self.ensures in
+    let some = inner.consumed (row_has_place h _ _ _ _ is c.args.id c.args.length within old row) in
+    let all = outer.consumed (connection_has_place h _ _ _ _ is c.args.id c.args.length within) in
     after_put h _ _ _ _ (record { is = is; rise = table.rising; upto = table.begun }) (Consumed c.args.id c.args.length) (record { highest_is = refl; initial_is = refl; live_is = refl })
     _ c.put.ensures.highest _ _ c.with_receiving.result
     (record {
@@ -35,8 +27,8 @@ returns-in-Some c = λ h is within.
       new_id = done.id ∙ ap (λ (row : Stream). row.id) (sym (c.row-stream.ensures old)) ∙ here.1 old;
       rows_are = c.put.ensures.rows;
       of = refl;
-      row = consumed_row h c.args.id old row _ c.args.length done.ended (rw done.receiving inner.room) (rw done.receiving inner.consumed) done.balance;
-      connection = consumed_connection h _ is.connection_is _ c.args.id c.args.length outer.room outer.consumed refl;
+      row = consumed_row h c.args.id old row _ c.args.length done.ended (rw done.receiving inner.room) (rw done.receiving some) done.balance;
+      connection = consumed_connection h _ is.connection_is _ c.args.id c.args.length outer.room all refl;
       came = (within, is.came_first);
     })
 
@@ -44,5 +36,6 @@ pub returns-in_default : goal.returns-in_default
 returns-in_default c = λ h is within.
     let table = c.args.self.now.table in
     let outer = c.after_consuming-self.ensures in
+    let all = outer.consumed (connection_has_place h _ _ _ _ is c.args.id c.args.length within) in
     consumed_elsewhere h _ _ _ _ is c.args.id c.args.length within (record { is = is; rise = table.rising; upto = table.begun }) c.in_default.ensures _
-    (consumed_connection h _ is.connection_is _ c.args.id c.args.length outer.room outer.consumed refl)
+    (consumed_connection h _ is.connection_is _ c.args.id c.args.length outer.room all refl)

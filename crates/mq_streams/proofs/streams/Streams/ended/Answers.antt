@@ -7,7 +7,7 @@ use Rattle.mq_streams.proofs.Steps.{after_put, found_row}
 use Rattle.mq_streams.proofs.streams.Streams.ended.Goals as goal
 
 pub returns-in-Some : goal.returns-in-Some
-returns-in-Some c = λ h is.
+returns-in-Some c = λ h is lives.
     let table = c.args.self.now.table in
     let here = c.in-Some.ensures in
     let row = found_row h _ _ _ table.rows.items is c.in-Some.at here.0 c.row.result c.row.ensures c.args.id here.1 in
@@ -28,4 +28,4 @@ returns-in-Some c = λ h is.
     })
 
 pub returns-in_default : goal.returns-in_default
-returns-in_default c = λ h is. absurd (live_is_found c.requires.0 _ _ _ _ c.requires.1 c.args.id c.in_default.ensures c.requires.2)
+returns-in_default c = λ h is lives. absurd (live_is_found h _ _ _ _ is c.args.id c.in_default.ensures lives)

@@ -6,8 +6,8 @@ use Rattle.mq_streams.proofs.Steps.{after_put, after_none, found_row, of_another
 use Rattle.mq_streams.proofs.Updates.{connection_next, none_next, stream_next}
 use Rattle.mq_streams.proofs.streams.Streams.give_back.Goals as goal
 
-pub returns-then-amount-ge-UPDATE_FROM : goal.returns-then-amount-ge-UPDATE_FROM
-returns-then-amount-ge-UPDATE_FROM c = λ h is.
+pub returns-then-amount-ge-UPDATE_FROM-clause-answer : goal.returns-then-amount-ge-UPDATE_FROM-clause-answer
+returns-then-amount-ge-UPDATE_FROM-clause-answer c = λ h is.
     let table = c.args.self.now.table in
     let back = c.after_giving_back-self.ensures in
     let amount = c.args.self.now.connection.receiving.consumed in (
@@ -17,11 +17,11 @@ returns-then-amount-ge-UPDATE_FROM c = λ h is.
           _ is.first_is _ (given_back_connection h _ is.connection_is _ back.room back.consumed refl) is.came_first,
     )
 
-pub returns-in_default : goal.returns-in_default
-returns-in_default c = λ h is. (none_next h _ _ _ _ is c.if-amount-ge-UPDATE_FROM.false c.in_default.ensures, is)
+pub returns-in_default-clause-answer : goal.returns-in_default-clause-answer
+returns-in_default-clause-answer c = λ h is. (none_next h _ _ _ _ is c.if-amount-ge-UPDATE_FROM.false c.in_default.ensures, is)
 
-pub returns : goal.returns
-returns c = λ h is.
+pub returns-clause-answer : goal.returns-clause-answer
+returns-clause-answer c = λ h is.
     let table = c.args.self.now.table in
     let here = c.in-Some.ensures in
     let old = c.row-stream.result in

@@ -55,8 +55,9 @@ returns-in-Err c = λ h is.
     let window = c.in-Some.ensures in
     let room = window_is h _ _ _ _ is in
     let why = c.in-Err.ensures.answer h is in
-    let outer = c.after_consuming-self.ensures in (
+    let outer = c.after_consuming-self.ensures in
+    let took = outer.consumed (omega (arith, window.0, window.1, c.args.self.now.connection.receiving.within)) in (
       sym (begun_count h c.args.id c.args.length (le-ltb _ _ (omega arith)) idle ∙ why.answer),
       after_discard h _ _ _ _ (record { is = is; rise = table.rising; upto = table.begun }) c.args.id c.args.length _
-          (discarded_connection h _ is.connection_is _ c.args.id c.args.length (rw outer.room window.0) (rw (outer.consumed, window.1) refl) refl) c.in-Err.declined why.cause,
+          (discarded_connection h _ is.connection_is _ c.args.id c.args.length (rw outer.room window.0) (rw (took, window.1) refl) refl) c.in-Err.declined why.cause,
     )

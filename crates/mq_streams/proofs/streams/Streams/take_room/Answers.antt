@@ -11,13 +11,13 @@ min_swap : (a b : ℕ) → min a b ≡ min b a
 min_swap a b = omega arith
 
 pub returns-in_default : goal.returns-in_default
-returns-in_default c = λ h is. absurd (live_is_found c.requires.0 _ _ _ _ c.requires.1 c.args.id c.in_default.ensures c.requires.2)
+returns-in_default c = λ h is lives. absurd (live_is_found h _ _ _ _ is c.args.id c.in_default.ensures lives)
 
 pub after_sending-self-requires : goal.after_sending-self-requires
 after_sending-self-requires c = let low = c.room.ensures.limited in let m = c.min-length.ensures in omega arith
 
 pub returns : goal.returns
-returns c = λ h is.
+returns c = λ h is lives.
     let table = c.args.self.now.table in
     let here = c.in-Some.ensures in
     let old = c.row-stream.result in

@@ -1,6 +1,6 @@
 use Rattle.std.proofs.Common.{◌≡◌, ℕ, List, [], refl, sym, ap, subst, arith, length, append-nil}
 use Rattle.std.proofs.lemmas.Grind.{common_steps}
-use Rattle.mq_machine.specs.Play.{IsPlayed, IsPlayedPart}
+use Rattle.mq_one_machine.specs.Play.{IsPlayed, IsPlayedPart}
 use Rattle.mq_top.proofs.Shown.{prints_none}
 use Rattle.mq_top.proofs.Reading.{no_bytes, ends_empty, ends_line}
 use Rattle.mq_top.specs.Playing.{LineTo}

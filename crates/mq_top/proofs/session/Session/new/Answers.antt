@@ -1,5 +1,5 @@
 use Rattle.std.proofs.Common.{ℕ, List, [], length, refl, sym, ap, subst, arith}
-use Rattle.mq_machine.specs.Play.{IsScript, opening}
+use Rattle.mq_one_machine.specs.Play.{IsScript, opening}
 use Rattle.mq_top.proofs.session.Session.new.Goals as goal
 
 pub returns : goal.returns

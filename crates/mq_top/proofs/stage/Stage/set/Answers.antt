@@ -1,5 +1,5 @@
 use Rattle.std.proofs.Common.{Bool, Ok, subst}
-use Rattle.mq_script.specs.Settings.{Adds}
+use Rattle.mq_one_script.specs.Settings.{Adds}
 use Rattle.mq_top.proofs.Playing.{setting_stands}
 use Rattle.mq_top.proofs.stage.Stage.set.Goals as goal
 

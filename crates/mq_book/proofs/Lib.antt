@@ -1,0 +1,10 @@
+pub mod More
+pub mod Legal
+pub mod Members
+pub mod Apart
+pub mod Owners
+pub mod Verdicts
+pub mod Standing
+pub mod Judged
+pub mod Treating
+pub mod Changes

@@ -1,0 +1,4 @@
+pub mod Journal
+pub mod Laws
+pub mod Stand
+pub mod Treat

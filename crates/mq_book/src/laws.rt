@@ -1,0 +1,27 @@
+//! What holds of every history, and of every legal one. The functions do nothing.
+ghost use Rattle.mq_book.specs.Laws.{BeginsLegal, EachReplyFits, HasOneOwner, HasOneVerdict, IsOwnedOnce};
+
+/// A reply is of a kind that its call may get.
+pub fn each_reply_fits()
+    ensures { EachReplyFits }
+{}
+
+/// What a legal history begins with is legal.
+pub fn begins_legal()
+    ensures { BeginsLegal }
+{}
+
+/// On a legal history no address lies in blocks or accepted ranges of two live tunnels.
+pub fn one_owner()
+    ensures { HasOneOwner }
+{}
+
+/// On a legal history no address is owned by two live tunnels, whatever the protocols.
+pub fn owned_once()
+    ensures { IsOwnedOnce }
+{}
+
+/// A legal history determines the verdict on a packet.
+pub fn one_verdict()
+    ensures { HasOneVerdict }
+{}

@@ -1,0 +1,17 @@
+//! The book: one history of tunnels and addresses, in which no address has two tunnels.
+#![tactic(auto)]
+
+mod assign;
+mod book;
+mod judge;
+mod laws;
+mod ledger;
+mod setup;
+mod tunnel;
+
+pub use book::Book;
+pub use laws::{begins_legal, each_reply_fits, one_owner, one_verdict, owned_once};
+pub use mq_talk::Config;
+
+#[cfg(test)]
+mod tests;

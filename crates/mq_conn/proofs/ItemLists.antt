@@ -1,0 +1,109 @@
+-- What items ask for, one behind the other.
+use Rattle.std.proofs.Common.{◌≡◌, ℕ, ◌+◌, Bool, true, false, cond, ◌||◌, List, [], ◌∷◌, ◌++◌, Option, Some, None, refl, sym, ap, ◌∙◌, subst, arith, append_assoc, append-nil}
+use Rattle.std.proofs.lemmas.List.{nil_from_length}
+use Rattle.std.specs.Iterator.{Yields}
+use Rattle.std.specs.List.{list_any}
+use Rattle.std.specs.Vec.Iter.{into_iter_items, into_iter_len, into_iter_steps}
+use Rattle.std.specs.declared.vec.IntoIter.{IntoIter}
+use Rattle.mq_addr.specs.declared.kind.Kind.TheVariants as kind
+use Rattle.mq_capsule.specs.declared.item.Item.{Item}
+use Rattle.mq_capsule.specs.declared.item.Item.TheVariants as item
+use Rattle.mq_machine.specs.declared.act.Act.TheVariants as act
+use Rattle.mq_machine.specs.declared.act.Due.{Due}
+use Rattle.mq_machine.specs.declared.act.Due.TheVariants as due
+use Rattle.mq_machine.specs.declared.act.StreamAct.{StreamAct}
+use Rattle.mq_machine.specs.Reading.{item_acts, acts_of, payload_count, is_payload, is_close, on_stream, then_acts}
+use Rattle.mq_conn.specs.Items.{HasNoValue, HaveNoValue, PutsItem, PutsUnless, Puts}
+
+abbrev pub close_in : List StreamAct → Bool
+close_in acts = list_any is_close acts
+
+pub any_both : (xs ys : List StreamAct) → close_in (xs ++ ys) ≡ (close_in xs || close_in ys)
+any_both [] ys = refl
+any_both (x ∷ xs) ys = ap (λ (b : Bool). is_close x || b) (any_both xs ys) ∙ assoc (is_close x) (close_in xs) (close_in ys)
+  where
+    assoc : (a b c : Bool) → (a || (b || c)) ≡ ((a || b) || c)
+    assoc true b c = refl
+    assoc false b c = refl
+
+-- acts, and behind them others unless they close
+then_more : (b : Bool) (a m i : List StreamAct) → close_in a ≡ b
+    → a ++ cond b [] (m ++ cond (close_in m) [] i) ≡ (a ++ cond b [] m) ++ cond (close_in (a ++ cond b [] m)) [] i
+then_more true a m i is =
+    let none : close_in (a ++ []) ≡ true = ap close_in (append-nil a) ∙ is in
+    sym (append-nil (a ++ [])) ∙ ap (λ (c : Bool). (a ++ []) ++ cond c [] i) (sym none)
+then_more false a m i is =
+    let both : close_in (a ++ m) ≡ close_in m = any_both a m ∙ ap (λ (c : Bool). c || close_in m) is in
+    sym (append_assoc a m (cond (close_in m) [] i)) ∙ ap (λ (c : Bool). (a ++ m) ++ cond c [] i) (sym both)
+
+then_more_of : (a m i : List StreamAct) → then_acts a (then_acts m i) ≡ then_acts (then_acts a m) i
+then_more_of a m i = then_more (close_in a) a m i refl
+
+pub then_none : (a : List StreamAct) → then_acts a [] ≡ a
+then_none a = either (close_in a) ∙ append-nil a
+  where
+    either : (b : Bool) → a ++ cond b [] [] ≡ a ++ []
+    either true = refl
+    either false = refl
+
+-- what one more item asks for
+pub acts_last : (mtu n : ℕ) (xs : List Item) (i : Item)
+    → acts_of kind.Udp mtu n (xs ++ i ∷ []) ≡ then_acts (acts_of kind.Udp mtu n xs) (item_acts kind.Udp mtu (n + payload_count xs) i)
+acts_last mtu n [] i = then_none (item_acts kind.Udp mtu n i) ∙ ap (λ (k : ℕ). item_acts kind.Udp mtu k i) (omega arith)
+acts_last mtu n (x ∷ xs) i =
+    let here = n + cond (is_payload x) 1 0 in
+    ap (λ (acts : List StreamAct). then_acts (item_acts kind.Udp mtu n x) acts) (acts_last mtu here xs i)
+    ∙ then_more_of (item_acts kind.Udp mtu n x) (acts_of kind.Udp mtu here xs) (item_acts kind.Udp mtu (here + payload_count xs) i)
+    ∙ ap (λ (k : ℕ). then_acts (acts_of kind.Udp mtu n (x ∷ xs)) (item_acts kind.Udp mtu k i)) (omega arith)
+
+pub payloads_last : (xs : List Item) (i : Item) → payload_count (xs ++ i ∷ []) ≡ payload_count xs + cond (is_payload i) 1 0
+payloads_last [] i = omega arith
+payloads_last (x ∷ xs) i = let rest = payloads_last xs i in omega (arith, rest)
+
+on_both : (xs ys : List StreamAct) → on_stream 0 (xs ++ ys) ≡ on_stream 0 xs ++ on_stream 0 ys
+on_both [] ys = refl
+on_both (x ∷ xs) ys = ap (λ (ds : List Due). due.Do (act.OfStream 0 x) ∷ ds) (on_both xs ys)
+
+no_values_both : (xs ys : List Item) → HaveNoValue (xs ++ ys) → HaveNoValue xs × HaveNoValue ys
+no_values_both [] ys h = (tt, h)
+no_values_both (x ∷ xs) ys h = let r = no_values_both xs ys h.1 in ((h.0, r.0), r.1)
+
+-- what the items so far ask for was put
+abbrev pub Went : ℕ → List Item → List Due → List Due → ℕ → Bool → Type 0
+Went n items old new next closes = (mtu : ℕ) → HaveNoValue items
+    → (new ≡ old ++ on_stream 0 (acts_of kind.Udp mtu n items)) × (next ≡ n + payload_count items) × (closes ≡ close_in (acts_of kind.Udp mtu n items))
+
+pub went_none : (n : ℕ) (old : List Due) → Went n [] old old n false
+went_none n old = λ mtu h. (sym (append-nil old), omega arith, refl)
+
+-- one more item
+unless_puts : (b c : Bool) (n : ℕ) (i : Item) (mid new : List Due) (mtu : ℕ) → PutsUnless b n i mid new c → HasNoValue i
+    → (new ≡ mid ++ on_stream 0 (cond b [] (item_acts kind.Udp mtu n i))) × (c ≡ (b || close_in (cond b [] (item_acts kind.Udp mtu n i))))
+unless_puts true c n i mid new mtu p h = (p.0 ∙ sym (append-nil mid), p.1)
+unless_puts false c n i mid new mtu p h = p mtu h
+
+pub went_more : (n k : ℕ) (xs : List Item) (i : Item) (old mid new : List Due) (next : ℕ) (b c : Bool) → Went n xs old mid k b → PutsUnless b k i mid new c
+    → next ≡ k + cond (is_payload i) 1 0 → Went n (xs ++ i ∷ []) old new next c
+went_more n k xs i old mid new next b c was puts next_is mtu h =
+    let parts = no_values_both xs (i ∷ []) h in
+    let w = was mtu parts.0 in
+    let u = unless_puts b c k i mid new mtu puts parts.1.0 in
+    let acts = acts_of kind.Udp mtu n xs in
+    let F : ℕ → Bool → List StreamAct = λ m d. cond d [] (item_acts kind.Udp mtu m i) in
+    let here : F k b ≡ F (n + payload_count xs) (close_in acts) = ap (λ (m : ℕ). F m b) w.1 ∙ ap (λ (d : Bool). F (n + payload_count xs) d) w.2 in
+    let whole : acts ++ F k b ≡ acts_of kind.Udp mtu n (xs ++ i ∷ []) = ap (λ (ys : List StreamAct). acts ++ ys) here ∙ sym (acts_last mtu n xs i) in
+    let pay = payloads_last xs i in
+    (
+      u.0 ∙ ap (λ (ds : List Due). ds ++ on_stream 0 (F k b)) w.0 ∙ append_assoc old (on_stream 0 acts) (on_stream 0 (F k b))
+          ∙ ap (λ (ds : List Due). old ++ ds) (sym (on_both acts (F k b)) ∙ ap (λ (ys : List StreamAct). on_stream 0 ys) whole),
+      omega (arith, next_is, pay, w.1),
+      u.1 ∙ ap (λ (d : Bool). d || close_in (F k b)) w.2 ∙ sym (any_both acts (F k b)) ∙ ap close_in whole,
+    )
+
+-- what the iterator of a vector has given is a front of its items
+pub taken_front : {X A : Type 0} (s : IntoIter X A) (xs : List X) (t : IntoIter X A) → Yields into_iter_steps s xs t → into_iter_items s ≡ xs ++ into_iter_items t
+taken_front s [] t y = ap into_iter_items y
+taken_front s (x ∷ xs) t y = y.1.0 ∙ ap (λ ys. x ∷ ys) (taken_front y.0 xs t y.2)
+
+pub none_left : {X A : Type 0} (it : IntoIter X A) → into_iter_len it ≡ 0 → into_iter_items it ≡ []
+none_left it none = nil_from_length (into_iter_items it) (let is = it.rest.ok in omega arith)

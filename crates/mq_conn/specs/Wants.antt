@@ -1,0 +1,18 @@
+-- What the code's word for a want stands for.
+use Rattle.std.specs.Prelude.{◌≡◌, ℕ, List}
+use Rattle.mq_talk.specs.declared.goal.Goal.TheVariants as goal
+use Rattle.mq_talk.specs.declared.place.Parcel.{Parcel}
+use Rattle.mq_machine.specs.Want as machine
+use Rattle.mq_conn.specs.declared.want.Want.{Want}
+use Rattle.mq_conn.specs.declared.want.Want.TheVariants as want
+
+-- the want of the machine that this is
+abbrev pub IsWant : Want → machine.Want → Type 0
+IsWant want.Nothing m = m ≡ machine.Nothing
+IsWant want.Say m = m ≡ machine.Say
+IsWant (want.Bind addr port) m = m ≡ machine.Bind 0 (goal.Udp addr port)
+IsWant (want.Ask call) m = m ≡ machine.Ask call
+IsWant (want.SendUdp tunnel n) m = (payload : List ℕ) × (m ≡ machine.Send tunnel n payload)
+IsWant (want.Ended why) m = m ≡ machine.Over why
+IsWant (want.Judge tunnel n flow) m = m ≡ machine.Judge tunnel n flow
+IsWant (want.Push to) m = (parcel : Parcel) × (m ≡ machine.Push parcel)

@@ -1,0 +1,66 @@
+//! What is due, in order.
+ghost use Rattle.std.specs.Prelude.{◌≡◌, List, [], ◌∷◌, ◌++◌, ◌==◌, length, MatchOption, OnOk};
+ghost use Rattle.mq_machine.specs.declared.act.Due.{Due};
+
+use mq_machine::Due;
+use mq_wire::NoMemory;
+use std::alloc::Global;
+use std::collections::VecDeque;
+use std::marker::Model;
+
+/// What the bytes of a connection ask for and isn't done.
+#[derive(Drop)]
+pub struct Dues {
+    items: VecDeque<Due>,
+}
+
+impl Model for Dues {
+    ghost use Rattle.std.specs.Prelude.{List};
+    ghost use Rattle.mq_machine.specs.declared.act.Due.{Due};
+
+    ghost Value = { List Due };
+
+    ghost view = { λ s. s.items.items };
+}
+
+impl Dues {
+    pub fn new(alloc: Global) -> Dues
+        ensures { result ≡ [] }
+    {
+        Dues {
+            items: VecDeque::new(alloc),
+        }
+    }
+
+    pub fn is_empty(&self) -> bool
+        ensures { result ≡ (length self.now == 0) }
+    {
+        self.items.is_empty()
+    }
+
+    /// What is due first.
+    pub fn first(&self) -> Option<&Due>
+        ensures { MatchOption result (self.now ≡ []) (λ d. (rest : List Due) × (self.now ≡ d.now ∷ rest)) }
+    {
+        self.items.front()
+    }
+
+    pub fn pop(&mut self) -> Option<Due>
+        ensures { MatchOption result ((self.old ≡ []) × (self.new ≡ [])) (λ d. self.old ≡ d ∷ self.new) }
+    {
+        self.items.pop_front()
+    }
+
+    pub fn push(&mut self, due: Due) -> Result<(), NoMemory>
+        ensures { OnOk result (self.new ≡ self.old ++ due ∷ []) }
+    {
+        self.items.push_back(due)?;
+        Ok(())
+    }
+
+    pub fn clear(&mut self)
+        ensures { self.new ≡ [] }
+    {
+        self.items.clear();
+    }
+}

@@ -1,0 +1,121 @@
+//! How far the bytes of a connection were read, and what a piece leads to.
+ghost use Rattle.std.specs.Prelude.{◌≡◌, ◌++◌, ◌∷◌, [], IfOk, OnOk};
+ghost use Rattle.mq_machine.specs.declared.act.Act.TheVariants as asks;
+ghost use Rattle.mq_machine.specs.declared.act.Due.TheVariants.{Do};
+ghost use Rattle.mq_conn.specs.Feeding.{ReadsData, ReadsFirst, ReadsHead, Reads};
+
+use crate::dues::Dues;
+use crate::items::put_items;
+use crate::judge::{Verdict, judge};
+use mq_capsule::Reader;
+use mq_head::{HeadReader, HeadStep};
+use mq_machine::{Act, Due, Setup};
+use mq_talk::Goal;
+use mq_wire::NoMemory;
+use std::alloc::Global;
+
+/// The data stream of a request that may open: its reader, and the number of its next payload.
+#[derive(Drop)]
+pub struct DataStream {
+    pub reader: Reader,
+    pub n: u64,
+}
+
+/// How far the bytes of a connection were read.
+#[derive(Drop)]
+pub enum Front {
+    /// Nothing is decided yet.
+    Head(HeadReader),
+    /// The head asked for a tunnel.
+    Data(DataStream),
+    /// Nothing more is read.
+    Shut,
+}
+
+/// Reads more bytes of a data stream, and puts what they ask for at the back of the list.
+fn read_data(
+    alloc: Global,
+    stream: DataStream,
+    bytes: &[u8],
+    due: &mut Dues,
+) -> Result<DataStream, NoMemory>
+    ensures { IfOk result (λ new. ReadsData stream bytes.now due.old due.new new) }
+{
+    if bytes.is_empty() {
+        return Ok(stream);
+    }
+    let DataStream { mut reader, n } = stream;
+    let items = reader.feed(alloc, bytes)?;
+    let n = put_items(n, items.into_vec(), due)?;
+    Ok(DataStream { reader, n })
+}
+
+/// The request is refused, and nothing more is read.
+fn refuse(status: u16, rule: u32, due: &mut Dues) -> Result<Front, NoMemory>
+    ensures { IfOk result (λ new. (due.new ≡ due.old ++ Do (asks.Refuse 0 status rule) ∷ []) × (new ≡ Front.Shut)) }
+{
+    due.push(Due::Do(Act::Refuse {
+        stream: 0,
+        status,
+        rule,
+    }))?;
+    Ok(Front::Shut)
+}
+
+/// The request may open: its port is to be bound, and behind its head its data stream begins.
+fn lead(alloc: Global, goal: Goal, bytes: &[u8], due: &mut Dues) -> Result<DataStream, NoMemory>
+    ensures { IfOk result (λ new. ReadsFirst bytes.now (due.old ++ Do (asks.Bind 0 goal) ∷ []) due.new new) }
+{
+    due.push(Due::Do(Act::Bind { stream: 0, goal }))?;
+    let stream = DataStream {
+        reader: Reader::new(false),
+        n: 0,
+    };
+    read_data(alloc, stream, bytes, due)
+}
+
+/// Reads a piece of the head, and the capsules behind it where it ends there.
+fn read_head(
+    alloc: Global,
+    setup: &Setup,
+    mut reader: HeadReader,
+    bytes: &[u8],
+    due: &mut Dues,
+) -> Result<Front, NoMemory>
+    ensures { IfOk result (λ new. ReadsHead setup.now reader bytes.now due.old due.new new) }
+{
+    match reader.feed(alloc, bytes)? {
+        HeadStep::More => Ok(Front::Head(reader)),
+        HeadStep::Refuse { status } => refuse(status, 0, due),
+        HeadStep::Upgrade { kind, path, used } => {
+            match judge(alloc, setup, kind, path.as_slice())? {
+                Verdict::Refused { status, rule } => refuse(status, rule, due),
+                Verdict::Leads(goal) => {
+                    let (_, rest) = bytes.split_at((used as usize).min(bytes.len()));
+                    let stream = lead(alloc, goal, rest, due)?;
+                    Ok(Front::Data(stream))
+                }
+            }
+        }
+    }
+}
+
+/// Reads one more piece, puts what it asks for at the back of the list, and answers how far the bytes are read then.
+pub fn read(
+    alloc: Global,
+    setup: &Setup,
+    front: Front,
+    bytes: &[u8],
+    due: &mut Dues,
+) -> Result<Front, NoMemory>
+    ensures { IfOk result (λ new. Reads setup.now front bytes.now due.old due.new new) }
+{
+    match front {
+        Front::Head(reader) => read_head(alloc, setup, reader, bytes, due),
+        Front::Data(stream) => {
+            let stream = read_data(alloc, stream, bytes, due)?;
+            Ok(Front::Data(stream))
+        }
+        Front::Shut => Ok(Front::Shut),
+    }
+}

@@ -1,0 +1,6 @@
+use Rattle.mq_frame.specs.declared.place.Place.TheVariants.{First}
+use Rattle.mq_frame.proofs.Told.{all_bounded}
+use Rattle.mq_frame.proofs.laws.stays_bounded.Goals as goal
+
+pub returns : goal.returns
+returns c = λ bytes frames of. all_bounded First bytes frames of.0 of.1 of.2

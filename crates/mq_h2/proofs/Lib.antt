@@ -1,0 +1,12 @@
+pub mod Cores
+pub mod Lives
+pub mod Coming
+pub mod Doings
+pub mod Given
+pub mod Draining
+pub mod Telling
+pub mod Phases
+pub mod Rooms
+pub mod OneRead
+pub mod Outcome
+pub mod Held

@@ -1,0 +1,29 @@
+-- What holds of all reads.
+use Rattle.std.specs.Prelude.{◌≡◌, ℕ, ◌+◌, ◌≤◌, List, length}
+use Rattle.mq_frame.specs.Numbers.{max_frame_size}
+use Rattle.mq_streams.specs.Answers.{send_window, connection_send_window}
+use Rattle.mq_streams.specs.History.{total, arrived_on, consumed_on}
+use Rattle.mq_h2.specs.declared.event.StreamEvent.{StreamEvent}
+use Rattle.mq_h2.specs.Acts.{SendsData}
+use Rattle.mq_h2.specs.State.{State}
+use Rattle.mq_h2.specs.Reading.{told_in, ReadTo}
+
+-- a read gives one list of events, and leads to one state
+abbrev pub IsOneRead : Type 0
+IsOneRead = (s : State) (piece : List ℕ) (events others : List StreamEvent) (t u : State) → ReadTo s piece events t → ReadTo s piece others u → (events ≡ others) × (t ≡ u)
+
+-- each read of each state gives events, and leads to a state
+abbrev pub HasOutcome : Type 0
+HasOutcome = (s : State) (piece : List ℕ) → (events : List StreamEvent) × (t : State) × ReadTo s piece events t
+
+-- DATA that is sent has no more bytes than either window had, than a frame may have, and than were given (sections 4.2
+-- and 6.9.1)
+abbrev pub SendsWithin : Type 0
+SendsWithin = (id : ℕ) (bytes : List ℕ) (count : ℕ) (s t : State) → SendsData id bytes count s t
+    → (count ≤ send_window id s.history) × (count ≤ connection_send_window s.history) × (count ≤ max_frame_size) × (count ≤ length bytes)
+
+-- What arrived on a stream and isn't consumed grows by what a read tells: the events that last tell the DATA that is still
+-- to be consumed.
+abbrev pub IsTold : Type 0
+IsTold = (s : State) (piece : List ℕ) (events : List StreamEvent) (t : State) (id : ℕ) → ReadTo s piece events t
+    → total (arrived_on id) t.history + total (consumed_on id) s.history ≡ total (arrived_on id) s.history + told_in id events + total (consumed_on id) t.history

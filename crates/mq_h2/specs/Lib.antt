@@ -1,0 +1,10 @@
+pub mod Codes
+pub mod Fields
+pub mod State
+pub mod Frames
+pub mod Reading
+pub mod Laws
+pub mod Acts
+pub mod Left
+pub mod Stand
+pub mod Doing

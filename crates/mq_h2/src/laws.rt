@@ -1,0 +1,32 @@
+//! Laws of the definitions that the core goes by. The functions do nothing.
+ghost use Rattle.mq_h2.specs.Laws.{IsOneRead, HasOutcome, SendsWithin, IsTold};
+
+use mq_frame::{is_read_once, is_readable, stays_read};
+use mq_hpack::has_one_reading;
+
+/// What a read gives, and where it leads, is one.
+pub fn one_read()
+    ensures { IsOneRead }
+{
+    has_one_reading();
+    is_read_once();
+}
+
+/// Each read of each state comes to something.
+pub fn each_read_has_an_outcome()
+    ensures { HasOutcome }
+{
+    is_readable();
+    stays_read();
+    mq_hpack::is_readable();
+}
+
+/// DATA that is put is within both of its windows, and fits a frame.
+pub fn data_is_within_its_windows()
+    ensures { SendsWithin }
+{}
+
+/// The DATA that a read tells is that which arrived in it and isn't consumed.
+pub fn what_is_told_is_held()
+    ensures { IsTold }
+{}

@@ -1,0 +1,27 @@
+//! The core of a server's connection of HTTP/2 (RFC 9113), behind the client's preface: bytes and acts go in, events and
+//! bytes come out.
+#![tactic(auto)]
+
+mod acts;
+mod block;
+mod codes;
+mod event;
+mod fields;
+mod frames;
+mod h2;
+mod laws;
+mod owed;
+mod parts;
+mod read;
+mod stop;
+mod text;
+mod writing;
+
+pub use event::StreamEvent;
+pub use h2::H2;
+pub use laws::{
+    data_is_within_its_windows, each_read_has_an_outcome, one_read, what_is_told_is_held,
+};
+
+#[cfg(test)]
+mod tests;

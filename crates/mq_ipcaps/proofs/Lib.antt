@@ -1,0 +1,8 @@
+mod Back
+mod Bounds
+mod Fields
+mod Front
+mod Items
+mod Loop
+mod Order
+mod Wide

@@ -1,0 +1,4 @@
+pub mod Hops
+pub mod Sums
+pub mod Taken
+pub mod Walking

@@ -1,0 +1,20 @@
+//! The headers of IP packets: what a packet says, whether it is taken, and the packet behind the next hop. Nothing here
+//! takes memory, and no byte behind the headers is looked at.
+#![tactic(auto)]
+
+mod address;
+mod checksum;
+mod extensions;
+mod hop;
+mod packet;
+mod version4;
+mod version6;
+
+pub use hop::{HopLimit, onward, taken_onward};
+pub use mq_addr::{HeaderFault, IpView};
+pub use packet::check;
+
+#[cfg(test)]
+mod table;
+#[cfg(test)]
+mod tests;

@@ -1,0 +1,127 @@
+//! The worked packets, and a table of packets whose answers come from another program.
+use crate::table::{REFUSED, TAKEN};
+use crate::{HeaderFault, HopLimit, IpView, check, onward};
+use mq_addr::{Addr, Flow};
+use std::test::Fail;
+
+/// A UDP packet from 192.0.2.1 to 198.51.100.9.
+const PACKET: &[u8] =
+    b"\x45\x00\x00\x15\x00\x00\x00\x00\x40\x11\x8e\x9a\xc0\x00\x02\x01\xc6\x33\x64\x09\xaa";
+/// The same behind the next hop.
+const BEHIND: &[u8] =
+    b"\x45\x00\x00\x15\x00\x00\x00\x00\x3f\x11\x8f\x9a\xc0\x00\x02\x01\xc6\x33\x64\x09\xaa";
+/// The same at its last hop.
+const LAST: &[u8] =
+    b"\x45\x00\x00\x15\x00\x00\x00\x00\x01\x11\xcd\x9a\xc0\x00\x02\x01\xc6\x33\x64\x09\xaa";
+
+fn view(hop: u8) -> IpView {
+    IpView {
+        version: 4,
+        flow: Flow {
+            source: Addr::V4(0xc000_0201),
+            target: Addr::V4(0xc633_6409),
+            protocol: 17,
+        },
+        hop,
+        header: 20,
+        length: 21,
+    }
+}
+
+#[test]
+fn a_packet_is_taken(rt: HostRuntime) {
+    assert_eq!(rt; check(PACKET), Ok(view(64)));
+    assert_eq!(rt; check(BEHIND), Ok(view(63)));
+    assert_eq!(rt; check(LAST), Ok(view(1)));
+}
+
+#[test]
+fn a_packet_with_a_fault_is_not_taken(rt: HostRuntime) -> Result<(), Fail> {
+    let mut wrong = Vec::from_slice(rt.alloc(), PACKET)?;
+    wrong[11] = 0x9b;
+    assert_eq!(rt; check(wrong.as_slice()), Err(HeaderFault::Checksum));
+    assert_eq!(rt; check(PACKET.split_at(20).0), Err(HeaderFault::Length));
+    assert_eq!(rt; check(PACKET.split_at(19).0), Err(HeaderFault::Short));
+    assert_eq!(rt; check(b"\x50"), Err(HeaderFault::Version));
+    Ok(())
+}
+
+#[test]
+fn a_packet_goes_on(rt: HostRuntime) -> Result<(), Fail> {
+    let mut packet = Vec::from_slice(rt.alloc(), PACKET)?;
+    if let Ok(view) = check(packet.as_slice()) {
+        assert_eq!(rt; onward(packet.as_mut_slice(), &view), Ok(()));
+    }
+    assert_eq!(rt; packet.as_slice(), BEHIND);
+    Ok(())
+}
+
+#[test]
+fn the_last_hop_changes_nothing(rt: HostRuntime) -> Result<(), Fail> {
+    let mut packet = Vec::from_slice(rt.alloc(), LAST)?;
+    if let Ok(view) = check(packet.as_slice()) {
+        assert_eq!(rt; onward(packet.as_mut_slice(), &view), Err(HopLimit));
+    }
+    assert_eq!(rt; packet.as_slice(), LAST);
+    Ok(())
+}
+
+#[test]
+fn packets_are_taken(rt: HostRuntime) {
+    for row in &TAKEN {
+        match check(row.packet) {
+            Ok(view) => {
+                let flow = Flow {
+                    source: row.source,
+                    target: row.target,
+                    protocol: row.protocol,
+                };
+                assert_eq!(rt; view.flow, flow, "{:?}", row.packet);
+                assert_eq!(rt; view.hop, row.hop, "{:?}", row.packet);
+                assert_eq!(rt; view.header, row.header, "{:?}", row.packet);
+                assert_eq!(rt; view.length as usize, row.packet.len(), "{:?}", row.packet);
+            }
+            Err(fault) => assert!(rt; false, "{fault:?} {:?}", row.packet),
+        }
+    }
+}
+
+#[test]
+fn packets_go_on(rt: HostRuntime) -> Result<(), Fail> {
+    for row in &TAKEN {
+        let mut packet = Vec::from_slice(rt.alloc(), row.packet)?;
+        if let Ok(view) = check(packet.as_slice()) {
+            assert_eq!(rt; onward(packet.as_mut_slice(), &view), Ok(()));
+        }
+        assert_eq!(rt; packet.as_slice(), row.behind);
+    }
+    Ok(())
+}
+
+#[test]
+fn packets_with_a_fault_are_not_taken(rt: HostRuntime) {
+    for (packet, fault) in &REFUSED {
+        assert_eq!(rt; check(packet), Err(*fault), "{packet:?}");
+    }
+}
+
+#[test]
+fn every_hop_limit_is_lowered_by_one(rt: HostRuntime) -> Result<(), Fail> {
+    let mut packet = Vec::new(rt.alloc());
+    packet.extend_from_slice(b"\x60\0\0\0\0\0\x3b\0")?;
+    packet.extend_from_slice(b"\x20\x01\x0d\xb8\0\0\0\0\0\0\0\0\0\0\0\x01")?;
+    packet.extend_from_slice(b"\x20\x01\x0d\xb8\0\0\0\0\0\0\0\0\0\0\0\x09")?;
+    for hop in 0..=255u8 {
+        if let [_, _, _, _, _, _, _, place, ..] = packet.as_mut_slice() {
+            *place = hop;
+        }
+        if let Ok(view) = check(packet.as_slice()) {
+            let answer = onward(packet.as_mut_slice(), &view);
+            let wanted = if hop < 2 { Err(HopLimit) } else { Ok(()) };
+            assert_eq!(rt; answer, wanted, "{hop}");
+        }
+        let left = if hop < 2 { hop } else { hop - 1 };
+        assert_eq!(rt; check(packet.as_slice()).map(|view| view.hop), Ok(left));
+    }
+    Ok(())
+}

@@ -1,0 +1,7 @@
+pub mod Settling
+pub mod Turns
+pub mod Silents
+pub mod Told
+pub mod Readings
+pub mod Quiets
+pub mod Samples

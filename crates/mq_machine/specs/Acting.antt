@@ -1,0 +1,277 @@
+-- The contract of a worker's step over any office, any mail, and links and ports that may tell nothing.
+use Rattle.std.specs.Prelude.{◌≡◌, ◌≢◌, ◌↔◌, ◌⊎◌, ⊤, ℕ, ◌+◌, ◌<◌, ◌≤◌, ◌||◌, true, false, not, List, [], ◌∷◌, map, length, All, Contains, take_while, slice_get, Option, Some, None, Result, Ok, Err}
+use Rattle.mq_wire.specs.declared.NoMemory.{NoMemory}
+use Rattle.mq_talk.specs.declared.book.Call.TheVariants as call
+use Rattle.mq_talk.specs.declared.book.Entry.{Entry}
+use Rattle.mq_talk.specs.declared.goal.Goal.{Goal}
+use Rattle.mq_talk.specs.declared.note.Note.{Note}
+use Rattle.mq_talk.specs.declared.place.Parcel.{Parcel}
+use Rattle.mq_talk.specs.Book.{is_live}
+use Rattle.mq_talk.specs.Mails.{box_at, IsTold}
+use Rattle.mq_talk.specs.Offices.{Seen, Sees}
+use Rattle.mq_machine.specs.State.{Tunnel, Link, new_link, Port, Net, new_net, Offer, Held, Worker, Pump, Shared, owed, held_of}
+use Rattle.mq_machine.specs.Want.{Want, Nothing, Send, Answer, Bound, want_of}
+use Rattle.mq_machine.specs.Steps.{can_read, framed}
+use Rattle.mq_machine.specs.Silent.{Reached, WorkerStarves}
+use Rattle.mq_machine.specs.Turn.{Seat, Offers, Inbox, Of, can_act, ring_from, seats_of, turn_of, most_live, SeatNext, PumpTurn, last_of}
+
+-- ---- what an actor sees of the outside
+
+-- how often the calls of a link answered that nothing goes on now, and how often they failed
+pub record LinkCounts : Type 0 where
+  pub read_waits : ℕ
+  pub write_waits : ℕ
+  pub faults : ℕ
+
+pub record PortCounts : Type 0 where
+  pub send_waits : ℕ
+  pub receive_waits : ℕ
+  pub faults : ℕ
+
+-- what the links of connections and the ports of tunnels hold, where they tell it, and their counts
+pub record Outside : Type 0 where
+  pub link : (conn : ℕ) → Option Link
+  pub link_counts : (conn : ℕ) → LinkCounts
+  pub port : (tunnel : ℕ) → Option Port
+  pub port_counts : (tunnel : ℕ) → PortCounts
+  -- the failures of binds
+  pub bind_faults : ℕ
+
+-- what an actor sees of the outside, its office and its mail
+pub record Sight : Type 0 where
+  pub outside : Outside
+  pub seen : Seen
+  -- the inboxes, where the mail tells them
+  pub boxes : Option (List (List Parcel))
+
+-- the state has what is told of links and ports
+abbrev pub PortsTold : Outside → List Port → Type 0
+PortsTold o [] = ⊤
+PortsTold o (p ∷ ports) = IsTold (o.port p.tunnel) p × PortsTold o ports
+
+abbrev pub ConnsTold : Outside → List Held → Type 0
+ConnsTold o [] = ⊤
+ConnsTold o (h ∷ hs) = IsTold (o.link h.conn.number) h.link × PortsTold o h.ports × ConnsTold o hs
+
+abbrev pub OffersTold : Outside → List Offer → Type 0
+OffersTold o [] = ⊤
+OffersTold o (f ∷ fs) = IsTold (o.link f.number) f.link × OffersTold o fs
+
+abbrev pub HasTold : Outside → Worker → Type 0
+HasTold o w = ConnsTold o w.conns × OffersTold o w.offered
+
+-- every link and port of the state tells what the state has
+abbrev pub PortsTell : Outside → List Port → Type 0
+PortsTell o [] = ⊤
+PortsTell o (p ∷ ports) = (o.port p.tunnel ≡ Some p) × PortsTell o ports
+
+abbrev pub ConnsTell : Outside → List Held → Type 0
+ConnsTell o [] = ⊤
+ConnsTell o (h ∷ hs) = (o.link h.conn.number ≡ Some h.link) × PortsTell o h.ports × ConnsTell o hs
+
+abbrev pub OffersTell : Outside → List Offer → Type 0
+OffersTell o [] = ⊤
+OffersTell o (f ∷ fs) = (o.link f.number ≡ Some f.link) × OffersTell o fs
+
+abbrev pub TellsAll : Outside → Worker → Type 0
+TellsAll o w = ConnsTell o w.conns × OffersTell o w.offered
+
+-- ---- states that differ in what the outside holds alone
+
+abbrev pub bare_port : Port → Port
+bare_port p = record p { arrived = []; received = 0; sent = []; send_fails = false; send_waits = false; receive_fails = false }
+
+abbrev pub bare_held : Held → Held
+bare_held h = record h { link = new_link; ports = map bare_port h.ports }
+
+abbrev pub bare : Worker → Worker
+bare w = record w { offered = map (λ (o : Offer). record o { link = new_link }) w.offered; conns = map bare_held w.conns }
+
+-- the state with other contents where nothing is told
+pub record Refills (o : Outside) (s t : Worker) : Type 0 where
+  pub same : bare t ≡ bare s
+  pub told : HasTold o t
+
+-- ---- what is shared
+
+-- What is shared before and after a step fits what office and mail tell: the office has then seen the book that the step left.
+pub record Meets (old new : Sight) (sh after : Shared) : Type 0 where
+  pub config : sh.config ≡ old.seen.config
+  pub book : Sees old.seen sh.book
+  pub wrote : new.seen.entries ≡ after.book
+  pub boxes : IsTold old.boxes sh.boxes
+  pub count : length sh.boxes ≡ sh.config.workers + 1
+  pub boxes_after : IsTold new.boxes after.boxes
+
+-- what the inbox had when it was tried, which is what sh has where the mail tells
+abbrev pub WasInbox : Option (List (List Parcel)) → ℕ → List Parcel → Type 0
+WasInbox None id box = ⊤
+WasInbox (Some boxes) id box = slice_get boxes id ≡ Some box
+
+-- ---- what was asked in vain
+
+-- a count rose, or stands at its end
+abbrev pub count_end : ℕ
+count_end = 18446744073709551615
+
+abbrev pub Rose : ℕ → ℕ → Type 0
+Rose old new = (old < new) ⊎ ((new ≡ count_end) × (old ≡ count_end))
+
+-- no want could be done: there was none, or it was a send, and its port answered that nothing goes on now
+abbrev pub WantWaited : Outside → Outside → Want → Type 0
+WantWaited old new Nothing = ⊤
+WantWaited old new (Send tunnel n payload) = Rose (old.port_counts tunnel).send_waits (new.port_counts tunnel).send_waits
+WantWaited old new want = ⊥
+
+-- A connection had nothing to do, and everything of the outside that could have changed that was asked in vain.
+pub record ConnWaited (old new : Outside) (h : Held) : Type 0 where
+  pub want : WantWaited old new (want_of h.conn)
+  pub frame : framed h.conn ≡ None
+  pub write : owed h.conn ≢ [] → Rose (old.link_counts h.conn.number).write_waits (new.link_counts h.conn.number).write_waits
+  pub read : can_read h.conn ≡ true → Rose (old.link_counts h.conn.number).read_waits (new.link_counts h.conn.number).read_waits
+  pub ports : All (λ (p : Port). Rose (old.port_counts p.tunnel).receive_waits (new.port_counts p.tunnel).receive_waits) h.ports
+
+-- a seat was passed over
+abbrev pub SeatWaited : Outside → Outside → Worker → List Parcel → Seat → Type 0
+SeatWaited old new w box Offers = (w.offered ≡ []) ⊎ (most_live ≤ length w.conns)
+SeatWaited old new w box Inbox = box ≡ []
+SeatWaited old new w box (Of conn) = (h : Held) → held_of w conn ≡ Some h → ConnWaited old new h
+
+-- the seats that are tried before this one
+abbrev pub seats_before : Worker → List Parcel → List Seat
+seats_before w box = take_while (λ seat. not (can_act w box seat)) (ring_from w.next_seat (seats_of w))
+
+-- a link or a port that tells nothing fails only where it failed in this step
+pub record FaultsFit (old new : Outside) (w : Worker) : Type 0 where
+  pub links : All (λ (h : Held). old.link h.conn.number ≡ None → h.link.read_fails || h.link.write_fails ≡ true → Rose (old.link_counts h.conn.number).faults (new.link_counts h.conn.number).faults) w.conns
+  pub ports : All (λ (h : Held). All (λ (p : Port). old.port p.tunnel ≡ None → p.send_fails || p.receive_fails ≡ true → Rose (old.port_counts p.tunnel).faults (new.port_counts p.tunnel).faults) h.ports) w.conns
+
+-- a bind is answered as the ports failed
+abbrev pub BindFits : Outside → Outside → Answer → Type 0
+BindFits old new (Bound done) = (done ≡ false) ↔ Rose old.bind_faults new.bind_faults
+BindFits old new answer = ⊤
+
+-- ---- what ties a worker to its office
+
+-- a tunnel of this worker, with its connection, stream and goal
+pub record HasTunnel (w : Worker) (tunnel conn stream : ℕ) (goal : Goal) : Type 0 where
+  pub held : Held
+  pub t : Tunnel
+  pub at : held_of w conn ≡ Some held
+  pub has : Contains held.conn.tunnels t
+  pub id : t.id ≡ tunnel
+  pub on : t.stream ≡ stream
+  pub leads : t.goal ≡ goal
+
+-- a live tunnel that this actor opened
+pub record IsOpen (book : List Entry) (actor tunnel conn stream : ℕ) (goal : Goal) : Type 0 where
+  pub entry : Entry
+  pub at : slice_get book tunnel ≡ Some entry
+  pub call : entry.call ≡ call.Open conn stream actor goal
+  pub by : entry.actor ≡ actor
+  pub live : is_live book tunnel ≡ true
+
+-- The worker's tunnels are those that are live by what its office has seen, and every number that it ever used was seen.
+pub record Known (sight : Sight) (w : Worker) : Type 0 where
+  pub id : w.id < sight.seen.config.workers
+  pub pump : w.setup.pump ≡ sight.seen.config.workers
+  pub tunnels : (tunnel conn stream : ℕ) (goal : Goal) → HasTunnel w tunnel conn stream goal ↔ IsOpen sight.seen.entries w.id tunnel conn stream goal
+  pub last : All (λ (h : Held). h.conn.next_tunnel ≤ length sight.seen.entries) w.conns
+
+-- ---- the step
+
+-- The step gave this note: of the worker with contents with which what the outside answered fits, it is the turn.
+pub record StepDone (old new : Sight) (s : Worker) (note : Note) (t : Worker) : Type 0 where
+  pub now : Worker
+  pub box : List Parcel
+  pub seat : Seat
+  pub answer : Answer
+  pub sh : Shared
+  pub after : Shared
+  pub refills : Refills old.outside s now
+  pub was : WasInbox old.boxes s.id box
+  pub meets : Meets old new sh after
+  pub turn : turn_of now box ≡ Some seat
+  pub waited : All (SeatWaited old.outside new.outside now box) (seats_before now box)
+  pub faults : FaultsFit old.outside new.outside now
+  pub binds : BindFits old.outside new.outside answer
+  pub next : SeatNext now sh seat answer note t after
+
+-- The step gave no note: every seat was passed over, and the book is the same.
+pub record StepQuiet (old new : Sight) (s : Worker) (t : Worker) : Type 0 where
+  pub box : List Parcel
+  pub was : WasInbox old.boxes s.id box
+  pub waited : All (SeatWaited old.outside new.outside s box) (seats_of s)
+  pub seen : new.seen.entries ≡ old.seen.entries
+  pub boxes : new.boxes ≡ old.boxes
+  pub refills : bare t ≡ bare s
+
+-- The step was refused memory when it had come so far.
+pub record StepSilent (old new : Sight) (s : Worker) (t : Worker) : Type 0 where
+  pub now : Worker
+  pub box : List Parcel
+  pub answer : Answer
+  pub sh : Shared
+  pub after : Shared
+  pub reached : Reached
+  pub refills : Refills old.outside s now
+  pub was : WasInbox old.boxes s.id box
+  pub meets : Meets old new sh after
+  pub starves : WorkerStarves now box sh reached answer t after
+
+abbrev pub StepGives : Sight → Sight → Worker → Result (Option Note) NoMemory → Worker → Type 0
+StepGives old new s (Ok (Some note)) t = StepDone old new s note t
+StepGives old new s (Ok None) t = StepQuiet old new s t
+StepGives old new s (Err fault) t = StepSilent old new s t
+
+-- What `step` promises of a worker's actor: for each state for which it stood, and whose tunnels the office knows, it stands
+-- for one to which this step leads, whose tunnels the office knows. The value's words are `stands`, which leaves out what links
+-- and ports hold that don't tell it, and its sight.
+abbrev pub Steps : (before after : Worker → Type 0) (old new : Sight) (result : Result (Option Note) NoMemory) → Type 0
+Steps before after old new result =
+    (s : Worker) → before s → Known old s → (t : Worker) × after t × HasTold new.outside t × Known new t × StepGives old new s result t
+
+-- ---- the pump
+
+-- what the pump sees: its network, where that tells, with its counts, its office and its mail
+pub record PumpSight : Type 0 where
+  pub net : Option Net
+  pub counts : PortCounts
+  pub seen : Seen
+  pub boxes : Option (List (List Parcel))
+
+abbrev pub bare_net : Net
+bare_net = new_net
+
+-- the office and the mail alone
+abbrev pub shared_sight : Outside → PumpSight → Sight
+shared_sight o p = record { outside = o; seen = p.seen; boxes = p.boxes }
+
+pub record PumpGave (o : Outside) (old new : PumpSight) (s : Pump) (note : Note) (t : Pump) : Type 0 where
+  pub now : Pump
+  pub box : List Parcel
+  pub sh : Shared
+  pub after : Shared
+  pub refills : record now { net = bare_net } ≡ record s { net = bare_net }
+  pub told : IsTold old.net now.net
+  pub was : WasInbox old.boxes (last_of sh.boxes) box
+  pub meets : Meets (shared_sight o old) (shared_sight o new) sh after
+  pub fails : now.net.send_fails || now.net.receive_fails ≡ true → old.net ≡ None → Rose old.counts.faults new.counts.faults
+  pub turn : PumpTurn now box sh note t after
+
+-- The pump gave no note: it held nothing for pushing; what it held for sending waited, or nothing came through its inbox; and
+-- nothing came from the network, or that failed.
+pub record PumpQuiet (old new : PumpSight) (s t : Pump) : Type 0 where
+  pub box : List Parcel
+  pub was : (boxes : List (List Parcel)) → old.boxes ≡ Some boxes → box ≡ box_at boxes (last_of boxes)
+  pub push : s.to_push ≡ None
+  pub send : (parcel : Parcel) → s.to_send ≡ Some parcel → Rose old.counts.send_waits new.counts.send_waits
+  pub pop : s.to_send ≡ None → box ≡ []
+  pub receive : Rose old.counts.receive_waits new.counts.receive_waits ⊎ Rose old.counts.faults new.counts.faults
+  pub seen : new.seen.entries ≡ old.seen.entries
+  pub refills : record t { net = bare_net } ≡ record s { net = bare_net }
+
+abbrev pub PumpGives : Outside → PumpSight → PumpSight → Pump → Result (Option Note) NoMemory → Pump → Type 0
+PumpGives o old new s (Ok (Some note)) t = PumpGave o old new s note t
+PumpGives o old new s (Ok None) t = PumpQuiet old new s t
+PumpGives o old new s (Err fault) t = record t { net = bare_net } ≡ record s { net = bare_net }

@@ -1,0 +1,110 @@
+-- What is one, whatever the state.
+use Rattle.std.specs.Prelude.{slice_get, ◌≡◌, ⊤, ℕ, true, List, [], ◌∷◌, Some}
+use Rattle.mq_talk.specs.declared.book.Call.{Call}
+use Rattle.mq_talk.specs.declared.book.Reply.{Reply}
+use Rattle.mq_talk.specs.declared.note.Note.{Note}
+use Rattle.mq_talk.specs.declared.note.End.TheVariants as end
+use Rattle.mq_addr.specs.declared.range.Flow.{Flow}
+use Rattle.mq_talk.specs.declared.place.Origin.{Origin}
+use Rattle.mq_talk.specs.declared.place.Parcel.{Parcel}
+use Rattle.mq_talk.specs.declared.place.Verdict.{Verdict}
+use Rattle.mq_machine.specs.declared.act.Due.{Due}
+use Rattle.mq_machine.specs.declared.act.Due.TheVariants as due
+use Rattle.mq_machine.specs.declared.setup.Setup.{Setup}
+use Rattle.mq_talk.specs.Answers.{IsAnswer}
+use Rattle.mq_talk.specs.Judging.{IsJudged}
+use Rattle.mq_machine.specs.Settle.{settle}
+use Rattle.mq_machine.specs.State.{Conn, Held, held_of, Worker, Shared, State}
+use Rattle.mq_machine.specs.Want.{Answer}
+use Rattle.mq_machine.specs.Done.{done}
+use Rattle.mq_machine.specs.Steps.{can_read}
+use Rattle.mq_target.specs.Template.{IsTemplate}
+use Rattle.mq_machine.specs.Reading.{TookNext}
+use Rattle.mq_machine.specs.Silent.{Reached, ConnStarves, SilentTurn}
+use Rattle.mq_machine.specs.Acting.{Sight, TellsAll, StepDone}
+use Rattle.mq_machine.specs.Turn.{WorkerTurn, Actor, Turn, Quiet}
+use Rattle.mq_talk.specs.declared.book.Config.{Config}
+use Rattle.mq_talk.specs.declared.book.Entry.{Entry}
+
+-- by this setup a read brings one thing: a law of the readers of heads and capsules
+abbrev pub ReadsOnce : Setup → Type 0
+ReadsOnce setup = (old a b : Conn) (bytes : List ℕ) → TookNext setup old bytes a → TookNext setup old bytes b → a ≡ b
+
+-- by the setup of each worker
+abbrev pub ReadsOnceIn : State → Type 0
+ReadsOnceIn s = (number : ℕ) (w : Worker) → slice_get s.workers number ≡ Some w → ReadsOnce w.setup
+
+-- and it isn't so that it brings nothing
+abbrev pub ReadsAlways : Type 0
+ReadsAlways = (setup : Setup) (old : Conn) (bytes : List ℕ) → can_read old ≡ true → ((new : Conn) → TookNext setup old bytes new → ⊥) → ⊥
+
+-- the book says one thing
+pub record SaysOne (config : Config) (book : List Entry) : Type 0 where
+  pub answers : (call : Call) (a b : Reply) → IsAnswer config book call a → IsAnswer config book call b → a ≡ b
+  pub judges : (from : Origin) (flow : Flow) (a b : Verdict) → IsJudged config book from flow a → IsJudged config book from flow b → a ≡ b
+
+-- and it isn't so that it says nothing
+pub record SaysSome (config : Config) (book : List Entry) : Type 0 where
+  pub answers : (call : Call) → ((reply : Reply) → IsAnswer config book call reply → ⊥) → ⊥
+  pub judges : (from : Origin) (flow : Flow) → ((verdict : Verdict) → IsJudged config book from flow verdict → ⊥) → ⊥
+
+-- what an answer does to a connection is one thing
+abbrev pub IsDoneOnce : Type 0
+IsDoneOnce = (c a b : Conn) (answer : Answer) (n m : Note) → done c answer ≡ Some (n, a) → done c answer ≡ Some (m, b) → (n ≡ m) × (a ≡ b)
+
+-- a worker's turn, by one answer of the outside, is one note, and leads to one state
+abbrev pub HasOneWorkerTurn : Type 0
+HasOneWorkerTurn = (old : Worker) (box : List Parcel) (sh : Shared) (answer : Answer) (n m : Note) (a b : Worker) (s t : Shared) → ReadsOnce old.setup → SaysOne sh.config sh.book
+    → WorkerTurn old box sh answer n a s → WorkerTurn old box sh answer m b t → (n ≡ m) × (a ≡ b) × (s ≡ t)
+
+-- an actor's turn is one note, and leads to one state
+abbrev pub HasOneTurn : Type 0
+HasOneTurn = (old : State) (actor : Actor) (n m : Note) (a b : State) → ReadsOnceIn old → SaysOne old.shared.config old.shared.book → Turn old actor n a → Turn old actor m b → (n ≡ m) × (a ≡ b)
+
+-- an actor that has a turn isn't quiet
+abbrev pub IsTurnOrQuiet : Type 0
+IsTurnOrQuiet = (old new : State) (actor : Actor) (note : Note) → Turn old actor note new → Quiet old actor → ⊥
+
+-- an actor that has none is
+abbrev pub IsQuietOrTurn : Type 0
+IsQuietOrTurn = (old : State) (actor : Actor) → ReadsAlways → SaysSome old.shared.config old.shared.book → ((note : Note) (new : State) → Turn old actor note new → ⊥) → Quiet old actor
+
+-- an act is in front, or nothing
+abbrev pub BeginsWithAct : List Due → Type 0
+BeginsWithAct [] = ⊤
+BeginsWithAct (due.Do act ∷ rest) = ⊤
+BeginsWithAct (due.Spend stream size ∷ rest) = ⊥
+BeginsWithAct (due.Fault code ∷ rest) = ⊥
+
+-- where no mark is in front, the end of an act changes nothing
+abbrev pub SettlesNothing : Type 0
+SettlesNothing = (c : Conn) → BeginsWithAct c.due → settle c ≡ c
+
+-- a step of an actor that was refused memory when it had come so far leads to one state
+abbrev pub HasOneSilentTurn : Type 0
+HasOneSilentTurn = (old : State) (actor : Actor) (reached : Reached) (a b : State) → SaysOne old.shared.config old.shared.book → SilentTurn old actor reached a → SilentTurn old actor reached b → a ≡ b
+
+-- and its actor isn't quiet
+abbrev pub IsSilentOrQuiet : Type 0
+IsSilentOrQuiet = (old new : State) (actor : Actor) (reached : Reached) → SilentTurn old actor reached new → Quiet old actor → ⊥
+
+-- where links, ports, office and mail tell all, a step that gave a note is the worker's turn
+abbrev pub IsToldTurn : Type 0
+IsToldTurn = (old new : Sight) (s t : Worker) (note : Note) (boxes : List (List Parcel)) → TellsAll old.outside s → old.seen.is_whole ≡ true
+    → old.boxes ≡ Some boxes → StepDone old new s note t
+    → (answer : Answer) × (box : List Parcel) × (sh : Shared) × (after : Shared) × (slice_get boxes s.id ≡ Some box) × (sh.book ≡ old.seen.entries)
+    × (sh.boxes ≡ boxes) × WorkerTurn s box sh answer note t after
+
+-- the template of tunnels for UDP is one that a text tells
+pub record IsToldSetup (setup : Setup) : Type 0 where
+  pub udp_text : List ℕ
+  pub udp : IsTemplate udp_text setup.udp
+
+-- a read brings one thing, by a setup whose templates are ones that texts tell
+abbrev pub BringsOnce : Type 0
+BringsOnce = (setup : Setup) → IsToldSetup setup → ReadsOnce setup
+
+-- a connection is refused memory once at most: then it is ending for want of it
+abbrev pub StarvesOnce : Type 0
+StarvesOnce = (old new : Worker) (sh after : Shared) (number : ℕ) (reached : Reached) (answer : Answer) (h : Held) → ConnStarves old sh number reached answer new after
+    → held_of old number ≡ Some h → h.conn.ending ≡ Some end.NoMemory → ⊥

@@ -1,0 +1,67 @@
+//! Laws of the machine's definitions, each the contract of a function without a body.
+ghost use Rattle.mq_machine.specs.Laws.{StarvesOnce, BringsOnce, IsToldTurn, HasOneSilentTurn, IsSilentOrQuiet, HasOneTurn, HasOneWorkerTurn, IsDoneOnce, IsQuietOrTurn, IsTurnOrQuiet, SettlesNothing};
+
+use mq_capsule::is_read_once;
+use mq_head::one_answer;
+use mq_policy::one_decision;
+use mq_target::one_reading;
+
+/// What an answer does to a connection is one thing.
+pub fn done_once()
+    ensures { IsDoneOnce }
+{}
+
+/// Where no mark is in front, the end of an act changes nothing.
+pub fn settles_nothing()
+    ensures { SettlesNothing }
+{}
+
+/// A worker's turn, by one answer of the outside, is one.
+pub fn one_worker_turn()
+    ensures { HasOneWorkerTurn }
+{}
+
+/// An actor's turn is one.
+pub fn one_turn()
+    ensures { HasOneTurn }
+{}
+
+/// An actor that has a turn isn't quiet.
+pub fn turn_or_quiet()
+    ensures { IsTurnOrQuiet }
+{}
+
+/// An actor that has no turn is quiet.
+pub fn quiet_or_turn()
+    ensures { IsQuietOrTurn }
+{}
+
+/// A step that was refused memory leads to one state, by how far it had come.
+pub fn one_silent_turn()
+    ensures { HasOneSilentTurn }
+{}
+
+/// Its actor isn't quiet.
+pub fn silent_or_quiet()
+    ensures { IsSilentOrQuiet }
+{}
+
+/// Where all is told, a step that gave a note is the worker's turn.
+pub fn told_turn()
+    ensures { IsToldTurn }
+{}
+
+/// A read brings one thing.
+pub fn brings_once()
+    ensures { BringsOnce }
+{
+    one_answer();
+    is_read_once();
+    one_reading();
+    one_decision();
+}
+
+/// A connection is refused memory once at most.
+pub fn starves_once()
+    ensures { StarvesOnce }
+{}

@@ -1,0 +1,4 @@
+pub mod Lists
+pub mod Unread
+pub mod Telling
+pub mod Boxes

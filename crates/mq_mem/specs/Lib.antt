@@ -1,0 +1,5 @@
+pub mod Calls
+pub mod Streams
+pub mod Links
+pub mod Ports
+pub mod Mails

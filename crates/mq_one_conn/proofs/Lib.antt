@@ -1,0 +1,4 @@
+pub mod Doing
+pub mod HeadsRead
+pub mod Items
+pub mod Phases

@@ -1,0 +1,10 @@
+pub mod Capsule
+pub mod Setup
+pub mod Request
+pub mod State
+pub mod ConnNext
+pub mod Next
+pub mod Text
+pub mod Setting
+pub mod Line
+pub mod Play
