@@ -147,8 +147,7 @@ ported c id goal rest none is = does_so c _ (Bound true) _ (λ s stands some.
     let pop = pops c s (due.Do (act.Bind id goal)) rest stands none is in
     let a = pop.acts in
     let f = pop.follows in
-    let t : machine.Conn = acting c p (due.Do (act.Open 0 goal)) rest in
-    (
+    let t : machine.Conn = acting c p (due.Do (act.Open 0 goal)) rest in (
       t,
       record {
         past = p;
@@ -186,8 +185,7 @@ refused_so c s status rule d rest answer stands a none is =
     let e = refused_conn c status in
     let q : Past = record { out = p.out ++ text; given = p.given; front = p.front; streams = [] } in
     let G : List Due → List Stream → machine.Front → Done = λ ds ss f.
-        Some (note.Refused c.number 0 status rule, passing ds (record (state c p) { front = f; ending = Some end.Refused; due = ds; streams = ss; out = p.out ++ text })) in
-    (
+    Some (note.Refused c.number 0 status rule, passing ds (record (state c p) { front = f; ending = Some end.Refused; due = ds; streams = ss; out = p.out ++ text })) in (
       state e q,
       record {
         past = q;
@@ -211,7 +209,7 @@ bind_failed c id goal rest none is = does_so c _ (Bound false) _ (λ s stands so
     let p = stands.past in
     let pop = pops c s (due.Do (act.Bind id goal)) rest stands none is in
     refused_so c s 502 0 (due.Do (act.Bind id goal)) rest (Bound false) stands pop.acts (without_all rest pop.follows.3)
-        (ap (λ (n : ℕ). done (acting c p (due.Do (act.Bind n goal)) rest) (Bound false)) pop.follows.1))
+    (ap (λ (n : ℕ). done (acting c p (due.Do (act.Bind n goal)) rest) (Bound false)) pop.follows.1))
 
 pub said_refusal : (c : Conn) (id status rule : ℕ) (rest : List Due) → c.first ≡ None → c.due ≡ due.Do (act.Refuse id status rule) ∷ rest
     → Does c (refused_conn c status) Said (note.Refused c.number 0 status rule)
@@ -219,7 +217,7 @@ said_refusal c id status rule rest none is = does_so c _ Said _ (λ s stands som
     let p = stands.past in
     let pop = pops c s (due.Do (act.Refuse id status rule)) rest stands none is in
     refused_so c s status rule (due.Do (act.Refuse id status rule)) rest Said stands pop.acts (ap (λ (ds : List Due). filter (λ d. not (is_on 0 d)) ds) pop.follows.2)
-        (ap (λ (n : ℕ). done (acting c p (due.Do (act.Refuse n status rule)) rest) Said) pop.follows.1))
+    (ap (λ (n : ℕ). done (acting c p (due.Do (act.Refuse n status rule)) rest) Said) pop.follows.1))
 
 pub history_full : (c : Conn) (goal : Goal) (waiting : List machine.Waiting) (entries live : ℕ) → c.first ≡ Some (first.Open goal waiting)
     → Does c (refused_conn c 503) (Replied (reply.HistoryFull entries live)) (note.Refused c.number 0 503 0)
@@ -249,14 +247,14 @@ stood_on c s rest d stands a follows =
     let p = stands.past in
     let x : machine.Conn = record (state c p) { due = rest } in
     record {
-        past = p;
-        is = ap (λ (e : Option End). record x { front = OverHttp1; ending = e }) (sym a.ending) ∙ ap (λ (g : machine.Front). record x { front = g }) (sym a.front);
-        read = stands.read;
-        owed = stands.owed;
-        given = stands.given;
-        due = due_from c.ending p.front (is_some c.tunnel) None rest a.ending a.front follows;
-        udp = stands.udp;
-        begun = stands.begun;
+      past = p;
+      is = ap (λ (e : Option End). record x { front = OverHttp1; ending = e }) (sym a.ending) ∙ ap (λ (g : machine.Front). record x { front = g }) (sym a.front);
+      read = stands.read;
+      owed = stands.owed;
+      given = stands.given;
+      due = due_from c.ending p.front (is_some c.tunnel) None rest a.ending a.front follows;
+      udp = stands.udp;
+      begun = stands.begun;
     }
 
 follows_live : (o : Option Tunnel) (t : Tunnel) (rest : List Due) → o ≡ Some t → Follows true rest → Follows (is_some o) rest
@@ -267,8 +265,7 @@ pub stays : (c : Conn) (t : Tunnel) (id : ℕ) (a : StreamAct) (rest : List Due)
 stays c t id a rest answer said none is live by = does_so c _ answer said (λ s stands some.
     let p = stands.past in
     let pop = pops c s (due.Do (act.OfStream id a)) rest stands none is in
-    let x : machine.Conn = acting c p (due.Do (act.OfStream 0 a)) rest in
-    (
+    let x : machine.Conn = acting c p (due.Do (act.OfStream 0 a)) rest in (
       record x { due = rest },
       stood_on c s rest (due.Do (act.OfStream id a)) stands pop.acts (follows_live c.tunnel t rest live pop.follows.3),
       done_acting c p (due.Do (act.OfStream id a)) rest answer pop.acts
@@ -324,7 +321,7 @@ sends c d rest t id n payload answer limit said is none first live puts s stands
     let x : machine.Conn = record (acting c p (due.Do (act.OfStream id a)) rest) { due = rest } in
     let P : Done → Type 0 = λ o. is_some o ≡ true in
     let can = put_some x (tunnel_on x id) n payload answer limit
-        (subst P (ap (λ (y : machine.Conn). done y (Put answer limit)) stands.is ∙ done_acting c p (due.Do (act.OfStream id a)) rest (Put answer limit) pop.acts) some) in
+    (subst P (ap (λ (y : machine.Conn). done y (Put answer limit)) stands.is ∙ done_acting c p (due.Do (act.OfStream id a)) rest (Put answer limit) pop.acts) some) in
     popped c d rest (Put answer limit) said is none (stays c t id a rest (Put answer limit) said none first live (λ y. puts can y (tunnel_is t) refl)) s stands some
 
 -- ---- what it wants
@@ -348,8 +345,8 @@ wants_stream c s id a rest w stands none is by =
     let live = some_live c.tunnel f.0 in
     let x : machine.Conn = acting c p (due.Do (act.OfStream id a)) rest in
     let e : want_of s ≡ stream_want (tunnel_is live.0) a = ap want_of stands.is ∙ want_acting c p (due.Do (act.OfStream id a)) rest pop.acts
-        ∙ ap (λ (o : Option Tunnel). want_of (record x { tunnels = tunnels_of o })) live.1
-        ∙ ap (λ (n : ℕ). want_of (record x { due = due.Do (act.OfStream n a) ∷ rest; tunnels = tunnels_of (Some live.0) })) f.1 in
+    ∙ ap (λ (o : Option Tunnel). want_of (record x { tunnels = tunnels_of o })) live.1
+    ∙ ap (λ (n : ℕ). want_of (record x { due = due.Do (act.OfStream n a) ∷ rest; tunnels = tunnels_of (Some live.0) })) f.1 in
     let P : machine_want.Want → Type 0 = λ v. IsWant w v in
     subst P (sym e) (by live.0 live.1 f.2)
 
@@ -373,14 +370,14 @@ gave c count s stands fits =
     let size : length (machine.owed s) ≡ length (drop p.given p.out) = ap (λ (x : machine.Conn). length (machine.owed x)) stands.is in
     let cut = length-drop p.given p.out in
     subst P (sym stands.is) (record {
-        past = record p { given = p.given + count };
-        is = settles c.ending p.front (is_some c.tunnel) c.first c.due (record (state c p) { given = p.given + count }) stands.due;
-        read = stands.read;
-        owed = ap (λ (xs : List ℕ). drop count xs) stands.owed ∙ drop-drop count p.given p.out;
-        given = omega (arith, stands.given, size, cut, fits);
-        due = stands.due;
-        udp = stands.udp;
-        begun = stands.begun;
+      past = record p { given = p.given + count };
+      is = settles c.ending p.front (is_some c.tunnel) c.first c.due (record (state c p) { given = p.given + count }) stands.due;
+      read = stands.read;
+      owed = ap (λ (xs : List ℕ). drop count xs) stands.owed ∙ drop-drop count p.given p.out;
+      given = omega (arith, stands.given, size, cut, fits);
+      due = stands.due;
+      udp = stands.udp;
+      begun = stands.begun;
     })
 
 pub owed_length : (c : Conn) (s : machine.Conn) → IsConn c s → length (machine.owed s) ≡ length c.owed

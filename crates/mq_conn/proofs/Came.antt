@@ -55,14 +55,14 @@ drops c s t tunnel from n packet stands live id_is full =
     let C : Option Tunnel → Type 0 = λ o. IsDue c.ending p.front (is_some o) c.first c.due in
     let U : Option Tunnel → Type 0 = λ o. IsUdpTunnel o in
     comes_live c (record c { tunnel = Some t }) s t tunnel from n packet (note.Dropped from n cause.QueueFull) true stands live id_is full refl (record {
-        past = p;
-        is = settles c.ending p.front (is_some c.tunnel) c.first c.due (lives c p t) stands.due;
-        read = stands.read;
-        owed = stands.owed;
-        given = stands.given;
-        due = subst C live stands.due;
-        udp = subst U live stands.udp;
-        begun = stands.begun;
+      past = p;
+      is = settles c.ending p.front (is_some c.tunnel) c.first c.due (lives c p t) stands.due;
+      read = stands.read;
+      owed = stands.owed;
+      given = stands.given;
+      due = subst C live stands.due;
+      udp = subst U live stands.udp;
+      begun = stands.begun;
     })
 
 pub queues : (c : Conn) (s : machine.Conn) (t : Tunnel) (tunnel : ℕ) (from : From) (n : ℕ) (packet : List ℕ) → IsConn c s → c.tunnel ≡ Some t → t.id ≡ tunnel → is_full t.waiting packet ≡ false
@@ -74,15 +74,15 @@ queues c s t tunnel from n packet stands live id_is full =
     let C : Option Tunnel → Type 0 = λ o. IsDue c.ending p.front (is_some o) c.first c.due in
     let U : Option Tunnel → Type 0 = λ o. IsUdpTunnel o in
     comes_live c (record c { tunnel = Some u }) s t tunnel from n packet (note.Queued from n tunnel) false stands live id_is full (ap (λ (k : ℕ). note.Queued from n k) (sym id_is)) (record {
-        past = p;
-        is = settles c.ending p.front (is_some c.tunnel) c.first c.due (with_waiting t.id w (lives c p t)) stands.due
-            ∙ ap (λ (b : Bool). record (state c p) { tunnels = cond b (tunnel_is u) (tunnel_is t) ∷ [] }) (eq-eqb t.id t.id refl);
-        read = stands.read;
-        owed = stands.owed;
-        given = stands.given;
-        due = subst C live stands.due;
-        udp = (let V : Option Tunnel → Type 0 = λ o. IsUdpTunnel o in subst V live stands.udp);
-        begun = stands.begun;
+      past = p;
+      is = settles c.ending p.front (is_some c.tunnel) c.first c.due (with_waiting t.id w (lives c p t)) stands.due
+          ∙ ap (λ (b : Bool). record (state c p) { tunnels = cond b (tunnel_is u) (tunnel_is t) ∷ [] }) (eq-eqb t.id t.id refl);
+      read = stands.read;
+      owed = stands.owed;
+      given = stands.given;
+      due = subst C live stands.due;
+      udp = (let V : Option Tunnel → Type 0 = λ o. IsUdpTunnel o in subst V live stands.udp);
+      begun = stands.begun;
     })
 
 pub not_true : (b : Bool) → not b ≡ true → b ≡ false

@@ -41,25 +41,34 @@ left c p end = state (closed_conn c end) (record p { streams = [] })
 
 pub stands_closed : (c : Conn) (s : machine.Conn) (end : End) (stands : IsConn c s) → IsConn (closed_conn c end) (left c stands.past end)
 stands_closed c s end stands = record {
-    past = record stands.past { streams = [] };
-    is = refl;
-    read = shut end stands.past.front;
-    owed = stands.owed;
-    given = stands.given;
-    due = (refl, refl);
-    udp = tt;
-    begun = stands.begun;
+  past = record stands.past { streams = [] };
+  is = refl;
+  read = shut end stands.past.front;
+  owed = stands.owed;
+  given = stands.given;
+  due = (refl, refl);
+  udp = tt;
+  begun = stands.begun;
 }
 
 -- all that goes with the tunnel is gone
 gone : (c : Conn) (s : machine.Conn) (t : Tunnel) (said : Note) (end : End) (dues : List Due) (f : machine.Front) (e : Option End) (stands : IsConn c s) → f ≡ stands.past.front → dues ≡ [] → e ≡ Some end
-    → ◌≡◌ {A = Done} (Some (said, passing dues (record (state c stands.past) { front = f; ending = e; due = dues; streams = filter (λ (s : Stream). not (s.id == 0)) stands.past.streams;
-        tunnels = filter (λ (u : machine.Tunnel). not (u.id == t.id)) (tunnel_is t ∷ []); out = stands.past.out ++ [] }))) (Some (said, left c stands.past end))
+    → ◌≡◌ {A = Done} (Some (
+      said,
+      passing dues (record (state c stands.past) {
+        front = f;
+        ending = e;
+        due = dues;
+        streams = filter (λ (s : Stream). not (s.id == 0)) stands.past.streams;
+        tunnels = filter (λ (u : machine.Tunnel). not (u.id == t.id)) (tunnel_is t ∷ []);
+        out = stands.past.out ++ [];
+      }),
+    )) (Some (said, left c stands.past end))
 gone c s t said end dues f e stands front none ending =
     let p = stands.past in
     let x : machine.Conn = state c p in
     let F : machine.Front → Option End → List Due → List Stream → List machine.Tunnel → List ℕ → Option (Note × machine.Conn) = λ f e ds ss ts o.
-        Some (said, passing ds (record x { front = f; ending = e; due = ds; streams = ss; tunnels = ts; out = o })) in
+    Some (said, passing ds (record x { front = f; ending = e; due = ds; streams = ss; tunnels = ts; out = o })) in
     let ss = filter (λ (s : Stream). not (s.id == 0)) p.streams in
     let ts = filter (λ (u : machine.Tunnel). not (u.id == t.id)) (tunnel_is t ∷ []) in
     ap (λ g. F g e dues ss ts (p.out ++ [])) front
@@ -97,8 +106,17 @@ closes_ending c s t end stands is live =
     let dues : behind c.first c.due ≡ [] = ap (λ (fi : Option First). behind fi c.due) none.0 ∙ none.1 in
     let x : machine.Conn = record (state c p) { ending = Some end } in
     let put = closing_conn p.front (tunnel_is t) in
-    let G : Putting → Done = λ z. Some (said, record (state c p) { front = z.front; ending = Some end; due = []; streams = filter (λ (s : Stream). not (s.id == 0)) p.streams;
-        tunnels = filter (λ (u : machine.Tunnel). not (u.id == t.id)) (tunnel_is t ∷ []); out = p.out ++ z.text }) in
+    let G : Putting → Done = λ z. Some (
+      said,
+      record (state c p) {
+        front = z.front;
+        ending = Some end;
+        due = [];
+        streams = filter (λ (s : Stream). not (s.id == 0)) p.streams;
+        tunnels = filter (λ (u : machine.Tunnel). not (u.id == t.id)) (tunnel_is t ∷ []);
+        out = p.out ++ z.text;
+      },
+    ) in
     ap (λ (e : Option End). done (record (state c p) { ending = e }) (Replied reply.Closed)) is
     ∙ ap (λ (o : Option Tunnel). done (record x { tunnels = tunnels_of o }) (Replied reply.Closed)) live
     ∙ ap (λ (ds : List Due). done (record x { tunnels = tunnels_of (Some t); due = ds }) (Replied reply.Closed)) dues
@@ -165,11 +183,11 @@ by_ending c s reason end stands (Some x) some is cl same =
     let P : Option End → Type 0 = λ o. is_some (done (record (state c stands.past) { ending = o }) (Replied reply.Closed)) ≡ true in
     let live = ending_live c.tunnel (state c stands.past) x (subst P is some) in
     record {
-        t = live.0;
-        live = live.1;
-        is = closes_ending c s live.0 x stands is live.1
-            ∙ ap (λ (w : Why). Some (note.Closed live.0.id w (length (filter is_packet live.0.waiting)), left c stands.past x)) r
-            ∙ ap (λ (z : End). Some (note.Closed live.0.id reason (length (filter is_packet live.0.waiting)), left c stands.past z)) (sym same);
+      t = live.0;
+      live = live.1;
+      is = closes_ending c s live.0 x stands is live.1
+          ∙ ap (λ (w : Why). Some (note.Closed live.0.id w (length (filter is_packet live.0.waiting)), left c stands.past x)) r
+          ∙ ap (λ (z : End). Some (note.Closed live.0.id reason (length (filter is_packet live.0.waiting)), left c stands.past z)) (sym same);
     }
 
 pub closes : (c d : Conn) (reason : Why) (end : End) (said : Note) → closing c.ending c.first c.due ≡ Some reason
@@ -191,29 +209,32 @@ pub closes_none : (c d : Conn) (said : Note) → closing c.ending c.first c.due 
 closes_none c d said cl s stands some =
     let P : machine.Conn → Type 0 = λ x. is_some (done x (Replied reply.Closed)) ≡ true in
     absurd (by c.ending c.first c.due (subst P stands.is some) stands.due cl) where
-  y : machine.Conn
-  y = state c stands.past
-  other : (ds : List Due) (a : StreamAct) → close_due (due.Do (act.OfStream 0 a)) ≡ None → IsAsked a → (t : machine.Tunnel) → stream_done (record y { ending = None; due = ds }) t a (Replied reply.Closed) ≡ None
-  other ds (stream.Payload n payload) c h t = refl
-  other ds (stream.Packet n packet flow) c h t = refl
-  other ds (stream.Push n to packet) c h t = refl
-  other ds (stream.Drop n cause) c h t = refl
-  other ds (stream.Assign asked) c h t = absurd h
-  other ds (stream.Advertise ranges) c h t = absurd h
-  other ds (stream.Close reason) c h t = absurd cc
-  by_due : (f : machine.Front) (live : Bool) (dues : List Due) → is_some (done (record y { ending = None; due = dues }) (Replied reply.Closed)) ≡ true → IsDue None f live None dues → closing None None dues ≡ None → ⊥
-  by_due f live [] some h cl = cc
-  by_due (Head bytes) live (d ∷ ds) some h cl = let e = h.2 in cc
-  by_due OverHttp1 live (due.Do (act.Bind i goal) ∷ ds) some h cl = cc
-  by_due OverHttp1 live (due.Do (act.Open i goal) ∷ ds) some h cl = h
-  by_due OverHttp1 live (due.Do (act.Refuse i status rule) ∷ ds) some h cl = cc
-  by_due OverHttp1 live (due.Do (act.Reset i code) ∷ ds) some h cl = h
-  by_due OverHttp1 live (due.Do (act.OfStream i a) ∷ ds) some h cl =
-      none_of (record y { ending = None; due = ds }) (tunnel_on (record y { ending = None; due = ds }) i) a (Replied reply.Closed) (other ds a cl h.2) some
-  by_due OverHttp1 live (due.Spend i size ∷ ds) some h cl = h
-  by_due OverHttp1 live (due.Fault code ∷ ds) some h cl = h
-  by : (e : Option End) (fi : Option First) (dues : List Due) → is_some (done (record y { ending = e; due = behind fi dues }) (Replied reply.Closed)) ≡ true → IsDue e stands.past.front (is_some c.tunnel) fi dues → closing e fi dues ≡ None → ⊥
-  by (Some end) fi dues some h cl = cc
-  by None (Some (first.Open goal waiting)) dues some h cl = cc
-  by None (Some (first.Close reason)) dues some h cl = cc
-  by None None dues some h cl = by_due stands.past.front (is_some c.tunnel) dues some h cl
+      y : machine.Conn
+      y = state c stands.past
+
+      other : (ds : List Due) (a : StreamAct) → close_due (due.Do (act.OfStream 0 a)) ≡ None → IsAsked a → (t : machine.Tunnel) → stream_done (record y { ending = None; due = ds }) t a (Replied reply.Closed) ≡ None
+      other ds (stream.Payload n payload) c h t = refl
+      other ds (stream.Packet n packet flow) c h t = refl
+      other ds (stream.Push n to packet) c h t = refl
+      other ds (stream.Drop n cause) c h t = refl
+      other ds (stream.Assign asked) c h t = absurd h
+      other ds (stream.Advertise ranges) c h t = absurd h
+      other ds (stream.Close reason) c h t = absurd cc
+
+      by_due : (f : machine.Front) (live : Bool) (dues : List Due) → is_some (done (record y { ending = None; due = dues }) (Replied reply.Closed)) ≡ true → IsDue None f live None dues → closing None None dues ≡ None → ⊥
+      by_due f live [] some h cl = cc
+      by_due (Head bytes) live (d ∷ ds) some h cl = let e = h.2 in cc
+      by_due OverHttp1 live (due.Do (act.Bind i goal) ∷ ds) some h cl = cc
+      by_due OverHttp1 live (due.Do (act.Open i goal) ∷ ds) some h cl = h
+      by_due OverHttp1 live (due.Do (act.Refuse i status rule) ∷ ds) some h cl = cc
+      by_due OverHttp1 live (due.Do (act.Reset i code) ∷ ds) some h cl = h
+      by_due OverHttp1 live (due.Do (act.OfStream i a) ∷ ds) some h cl =
+          none_of (record y { ending = None; due = ds }) (tunnel_on (record y { ending = None; due = ds }) i) a (Replied reply.Closed) (other ds a cl h.2) some
+      by_due OverHttp1 live (due.Spend i size ∷ ds) some h cl = h
+      by_due OverHttp1 live (due.Fault code ∷ ds) some h cl = h
+
+      by : (e : Option End) (fi : Option First) (dues : List Due) → is_some (done (record y { ending = e; due = behind fi dues }) (Replied reply.Closed)) ≡ true → IsDue e stands.past.front (is_some c.tunnel) fi dues → closing e fi dues ≡ None → ⊥
+      by (Some end) fi dues some h cl = cc
+      by None (Some (first.Open goal waiting)) dues some h cl = cc
+      by None (Some (first.Close reason)) dues some h cl = cc
+      by None None dues some h cl = by_due stands.past.front (is_some c.tunnel) dues some h cl

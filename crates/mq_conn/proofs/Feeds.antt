@@ -60,7 +60,7 @@ of_capsules (c ∷ cs) =
 pub no_values : (bytes : List ℕ) (items : List Item) → ItemsOf false bytes items → HaveNoValue items
 no_values bytes items is =
     subst HaveNoValue (sym is.items_are) (up_to (filter_map (item_of false) is.capsules ++ head_items false (head_of is.rest))
-        (no_values_both (filter_map (item_of false) is.capsules) (head_items false (head_of is.rest)) (of_capsules is.capsules) (of_head (head_of is.rest))))
+    (no_values_both (filter_map (item_of false) is.capsules) (head_items false (head_of is.rest)) (of_capsules is.capsules) (of_head (head_of is.rest))))
 
 no_values_behind : (xs ys : List Item) → HaveNoValue (xs ++ ys) → HaveNoValue ys
 no_values_behind [] ys h = h
@@ -93,7 +93,7 @@ asked_items mtu n (i ∷ items) h =
     let here = item_acts kind.Udp mtu n i in
     let later = acts_of kind.Udp mtu (n + cond (is_payload i) 1 0) items in
     asked_both here (cond (list_any is_close here) [] later) (asked_item mtu n i h.0)
-        (either (list_any is_close here) MayAsk [] later refl (asked_items mtu (n + cond (is_payload i) 1 0) items h.1))
+    (either (list_any is_close here) MayAsk [] later refl (asked_items mtu (n + cond (is_payload i) 1 0) items h.1))
 
 payloads_both : (xs ys : List Item) → payload_count (xs ++ ys) ≡ payload_count xs + payload_count ys
 payloads_both [] ys = omega arith
@@ -114,19 +114,18 @@ reads_some old new bytes given before after some gives on puts mtu addr port kno
     let put = puts mtu none in
     let acts = acts_of kind.Udp mtu (payload_count items) given in
     record {
-        asked = acts;
-        after_is = put.0 ∙ ap (λ (n : ℕ). before ++ on_stream 0 (acts_of kind.Udp mtu n given)) n_is;
-        asks = asks_so mtu addr port known bytes acts some (record { before = items; items = given; last = []; was = are; is = whole; ends_in = refl; acts_are = sym (then_none acts) });
-        follows = asked_items mtu (payload_count items) given none;
-        stream = record {
-            addr = addr;
-            port = port;
-            bytes = known ++ bytes;
-            items = items ++ given;
-            only = refl;
-            stands = on false known stands;
-            items_are = whole;
-            next = put.1 ∙ ap (λ (n : ℕ). n + payload_count given) n_is ∙ sym (payloads_both items given);
-        };
+      asked = acts;
+      after_is = put.0 ∙ ap (λ (n : ℕ). before ++ on_stream 0 (acts_of kind.Udp mtu n given)) n_is;
+      asks = asks_so mtu addr port known bytes acts some (record { before = items; items = given; last = []; was = are; is = whole; ends_in = refl; acts_are = sym (then_none acts) });
+      follows = asked_items mtu (payload_count items) given none;
+      stream = record {
+        addr = addr;
+        port = port;
+        bytes = known ++ bytes;
+        items = items ++ given;
+        only = refl;
+        stands = on false known stands;
+        items_are = whole;
+        next = put.1 ∙ ap (λ (n : ℕ). n + payload_count given) n_is ∙ sym (payloads_both items given);
+      };
     }
-

@@ -50,8 +50,10 @@ live_front OverHttp1 live fi dues h is = refl
 
 -- it is framed
 framed_so : (y : machine.Conn) (t : Tunnel) (packet : Packet) (rest : List Waiting) → y.front ≡ OverHttp1 → y.tunnels ≡ record { id = t.id; stream = 0; goal = t.goal; waiting = waiting_of packet ∷ rest } ∷ [] → can_go_on y ≡ true
-    → framed y ≡ Some (note.Delivered packet.from packet.n t.id packet.packet,
-        settle (record y { out = y.out ++ capsule_text (datagram packet.packet); tunnels = record { id = t.id; stream = 0; goal = t.goal; waiting = rest } ∷ []; next_tunnel = t.id + 1 }))
+    → framed y ≡ Some (
+      note.Delivered packet.from packet.n t.id packet.packet,
+      settle (record y { out = y.out ++ capsule_text (datagram packet.packet); tunnels = record { id = t.id; stream = 0; goal = t.goal; waiting = rest } ∷ []; next_tunnel = t.id + 1 }),
+    )
 framed_so y t packet rest front tunnels goes =
     let w = waiting_of packet in
     let m : machine.Tunnel = record { id = t.id; stream = 0; goal = t.goal; waiting = w ∷ rest } in
@@ -87,16 +89,16 @@ frames_both old mid new id p goes put pop =
     let took = pop put.t live in
     let same : capsule_text (datagram put.p.packet) ≡ capsule_text (datagram p.packet) = ap capsule_first (sym put.first ∙ took.first) in
     record {
-        t = put.t;
-        p = p;
-        rest = took.rest;
-        goes_on = goes;
-        live = put.live;
-        first = took.first;
-        said_is = ap (λ (n : ℕ). note.Delivered p.from p.n n p.packet) took.id_is;
-        new_is = took.new_is
-            ∙ ap (λ (x : Conn). record x { tunnel = Some (record put.t { waiting = took.rest }); next_tunnel = put.t.id + 1 }) put.new_is
-            ∙ ap (λ (text : List ℕ). record old { tunnel = Some (record put.t { waiting = took.rest }); owed = old.owed ++ text; next_tunnel = put.t.id + 1 }) same;
+      t = put.t;
+      p = p;
+      rest = took.rest;
+      goes_on = goes;
+      live = put.live;
+      first = took.first;
+      said_is = ap (λ (n : ℕ). note.Delivered p.from p.n n p.packet) took.id_is;
+      new_is = took.new_is
+          ∙ ap (λ (x : Conn). record x { tunnel = Some (record put.t { waiting = took.rest }); next_tunnel = put.t.id + 1 }) put.new_is
+          ∙ ap (λ (text : List ℕ). record old { tunnel = Some (record put.t { waiting = took.rest }); owed = old.owed ++ text; next_tunnel = put.t.id + 1 }) same;
     }
 
 -- ---- the machine's frame
@@ -112,7 +114,7 @@ frames c d said f s stands =
     let front = live_front p.front (is_some c.tunnel) c.first c.due (subst D idle.ending stands.due) (ap (λ (o : Option Tunnel). is_some o) f.live) in
     let y : machine.Conn = record (state c p) { tunnels = record { id = t.id; stream = 0; goal = t.goal; waiting = waiting_of f.p ∷ f.rest } ∷ [] } in
     let same : s ≡ y = stands.is ∙ ap (λ (o : Option Tunnel). record (state c p) { tunnels = tunnels_of o }) f.live
-        ∙ ap (λ (ws : List Waiting). record (state c p) { tunnels = record { id = t.id; stream = 0; goal = t.goal; waiting = ws } ∷ [] }) f.first in
+    ∙ ap (λ (ws : List Waiting). record (state c p) { tunnels = record { id = t.id; stream = 0; goal = t.goal; waiting = ws } ∷ [] }) f.first in
     let C : machine.Conn → Type 0 = λ x. can_go_on x ≡ true in
     let u : Tunnel = record t { waiting = f.rest } in
     let e : Conn = record c { tunnel = Some u; owed = c.owed ++ text; next_tunnel = t.id + 1 } in
@@ -132,6 +134,6 @@ frames c d said f s stands =
         begun = stands.begun;
       }),
       ap framed same ∙ framed_so y t f.p f.rest front refl (subst C same can)
-        ∙ ap (λ (z : machine.Conn). Some (note.Delivered f.p.from f.p.n t.id f.p.packet, z)) (settles c.ending p.front (is_some c.tunnel) c.first c.due (state e q) stands.due)
-        ∙ ap (λ (n : Note). Some (n, state e q)) (sym f.said_is),
+          ∙ ap (λ (z : machine.Conn). Some (note.Delivered f.p.from f.p.n t.id f.p.packet, z)) (settles c.ending p.front (is_some c.tunnel) c.first c.due (state e q) stands.due)
+          ∙ ap (λ (n : Note). Some (n, state e q)) (sym f.said_is),
     )

@@ -98,16 +98,16 @@ begun_more (k ∷ known) bytes h = refl
 pub more_so : (setup : Setup) (reader : HeadReader) (known bytes : List ℕ) (before : List Due) → IsStep known bytes More → IsHeadOf reader (known ++ bytes)
     → ReadTo setup (InHead known) [] bytes before before (front.Head reader)
 more_so setup reader known bytes before is begun = record {
-    events = [];
-    front = InHead (known ++ bytes);
-    acts = [];
-    others = [];
-    after_is = sym (append-nil before);
-    brings = ((More, is, (refl, refl)), refl);
-    asks = λ ts. (refl, refl);
-    read = (begun, refl);
-    begun = λ h. begun_more known bytes h;
-    follows = λ live h. h;
+  events = [];
+  front = InHead (known ++ bytes);
+  acts = [];
+  others = [];
+  after_is = sym (append-nil before);
+  brings = ((More, is, (refl, refl)), refl);
+  asks = λ ts. (refl, refl);
+  read = (begun, refl);
+  begun = λ h. begun_more known bytes h;
+  follows = λ live h. h;
 }
 
 -- no data stream was asked for
@@ -121,16 +121,16 @@ refused_so : (setup : Setup) (known bytes behind : List ℕ) (before after : Lis
 refused_so setup known bytes behind before after status rule new brings after_is shut =
     let P : Front → Type 0 = λ f. ReadTo setup (InHead known) [] bytes before after f in
     subst P (sym shut) (record {
-        events = Request 0 (Refused status rule) false ∷ content_of behind;
-        front = OverHttp1;
-        acts = due.Do (act.Refuse 0 status rule) ∷ [];
-        others = [];
-        after_is = after_is;
-        brings = (brings, refl);
-        asks = λ ts. (due.Do (act.Refuse 0 status rule) ∷ [], [], [], (refl, refl), content_none setup.mtu ts behind, refl);
-        read = refl;
-        begun = λ h. tt;
-        follows = λ live h. (h.0, refl, refl);
+      events = Request 0 (Refused status rule) false ∷ content_of behind;
+      front = OverHttp1;
+      acts = due.Do (act.Refuse 0 status rule) ∷ [];
+      others = [];
+      after_is = after_is;
+      brings = (brings, refl);
+      asks = λ ts. (due.Do (act.Refuse 0 status rule) ∷ [], [], [], (refl, refl), content_none setup.mtu ts behind, refl);
+      read = refl;
+      begun = λ h. tt;
+      follows = λ live h. (h.0, refl, refl);
     })
 
 pub refused_head : (setup : Setup) (reader : HeadReader) (bytes : List ℕ) (before after : List Due) (status : ℕ) (result : Result Front NoMemory)
@@ -163,16 +163,16 @@ leads_by setup known bytes path k used before after (goal.Udp addr port) new is 
     let r = reads setup.mtu addr port in
     let bind = due.Do (act.Bind 0 g) in
     record {
-        events = Request 0 (Leads g) false ∷ content_of behind;
-        front = OverHttp1;
-        acts = bind ∷ on_stream 0 r.asked;
-        others = record { id = 0; goal = g; bytes = behind } ∷ [];
-        after_is = r.after_is ∙ append_assoc before (bind ∷ []) (on_stream 0 r.asked);
-        brings = ((Upgrade k path used, is, (Leads g, means, refl, refl)), refl);
-        asks = λ ts. (bind ∷ [], record { id = 0; goal = g; bytes = [] } ∷ [], on_stream 0 r.asked, (refl, refl), content_some setup.mtu ts g [] behind r.asked r.asks, refl);
-        read = r.stream;
-        begun = λ h. tt;
-        follows = λ live h. (h.0, refl, tt, r.follows);
+      events = Request 0 (Leads g) false ∷ content_of behind;
+      front = OverHttp1;
+      acts = bind ∷ on_stream 0 r.asked;
+      others = record { id = 0; goal = g; bytes = behind } ∷ [];
+      after_is = r.after_is ∙ append_assoc before (bind ∷ []) (on_stream 0 r.asked);
+      brings = ((Upgrade k path used, is, (Leads g, means, refl, refl)), refl);
+      asks = λ ts. (bind ∷ [], record { id = 0; goal = g; bytes = [] } ∷ [], on_stream 0 r.asked, (refl, refl), content_some setup.mtu ts g [] behind r.asked r.asks, refl);
+      read = r.stream;
+      begun = λ h. tt;
+      follows = λ live h. (h.0, refl, tt, r.follows);
     }
 
 pub leads_so : (setup : Setup) (reader : HeadReader) (bytes behind path : List ℕ) (k : Kind) (used : ℕ) (before after : List Due) (g : Goal) (new : DataStream)
@@ -194,16 +194,16 @@ data_so setup old new bytes before after OverHttp1 streams reads is =
     let r = reads setup.mtu is.addr is.port is.bytes is.items is.stands is.items_are is.next in
     let P : List Stream → Type 0 = λ ss. ReadTo setup OverHttp1 ss bytes before after (front.Data new) in
     subst P (sym is.only) (record {
-        events = content_of bytes;
-        front = OverHttp1;
-        acts = on_stream 0 r.asked;
-        others = record { id = 0; goal = goal.Udp is.addr is.port; bytes = is.bytes ++ bytes } ∷ [];
-        after_is = r.after_is;
-        brings = (refl, refl, refl);
-        asks = λ ts. content_some setup.mtu ts (goal.Udp is.addr is.port) is.bytes bytes r.asked r.asks;
-        read = r.stream;
-        begun = λ h. tt;
-        follows = λ live h. (let Q : Bool → Type 0 = λ b. Follows b (on_stream 0 r.asked) in subst Q (sym h) r.follows);
+      events = content_of bytes;
+      front = OverHttp1;
+      acts = on_stream 0 r.asked;
+      others = record { id = 0; goal = goal.Udp is.addr is.port; bytes = is.bytes ++ bytes } ∷ [];
+      after_is = r.after_is;
+      brings = (refl, refl, refl);
+      asks = λ ts. content_some setup.mtu ts (goal.Udp is.addr is.port) is.bytes bytes r.asked r.asks;
+      read = r.stream;
+      begun = λ h. tt;
+      follows = λ live h. (let Q : Bool → Type 0 = λ b. Follows b (on_stream 0 r.asked) in subst Q (sym h) r.follows);
     })
 
 pub shut_so : (setup : Setup) (bytes : List ℕ) (before : List Due) (f : machine.Front) (streams : List Stream) → IsRead front.Shut None f streams → ReadTo setup f streams bytes before before front.Shut
@@ -211,14 +211,14 @@ shut_so setup bytes before (InHead known) streams is = absurd is
 shut_so setup bytes before OverHttp1 streams is =
     let P : List Stream → Type 0 = λ ss. ReadTo setup OverHttp1 ss bytes before before front.Shut in
     subst P (sym is) (record {
-        events = content_of bytes;
-        front = OverHttp1;
-        acts = [];
-        others = [];
-        after_is = sym (append-nil before);
-        brings = (refl, refl, refl);
-        asks = λ ts. content_none setup.mtu ts bytes;
-        read = refl;
-        begun = λ h. tt;
-        follows = λ live h. h;
+      events = content_of bytes;
+      front = OverHttp1;
+      acts = [];
+      others = [];
+      after_is = sym (append-nil before);
+      brings = (refl, refl, refl);
+      asks = λ ts. content_none setup.mtu ts bytes;
+      read = refl;
+      begun = λ h. tt;
+      follows = λ live h. h;
     })

@@ -68,14 +68,14 @@ opens_by y None OverHttp1 live None (due.Do (act.Refuse i status rule) ∷ dues)
 opens_by y None OverHttp1 live None (due.Do (act.Reset i code) ∷ dues) id routes h some = absurd h
 opens_by y None OverHttp1 live None (due.Do (act.OfStream i a) ∷ dues) id routes h some =
     absurd (none_of (record y { ending = None; front = OverHttp1; due = dues }) (tunnel_on (record y { ending = None; front = OverHttp1; due = dues }) i) a (Replied (reply.Opened id routes)) (other a) some) where
-  other : (a : StreamAct) → (t : machine.Tunnel) → stream_done (record y { ending = None; front = OverHttp1; due = dues }) t a (Replied (reply.Opened id routes)) ≡ None
-  other (stream.Payload n payload) t = refl
-  other (stream.Packet n packet flow) t = refl
-  other (stream.Push n to packet) t = refl
-  other (stream.Drop n cause) t = refl
-  other (stream.Assign asked) t = refl
-  other (stream.Advertise ranges) t = refl
-  other (stream.Close reason) t = refl
+      other : (a : StreamAct) → (t : machine.Tunnel) → stream_done (record y { ending = None; front = OverHttp1; due = dues }) t a (Replied (reply.Opened id routes)) ≡ None
+      other (stream.Payload n payload) t = refl
+      other (stream.Packet n packet flow) t = refl
+      other (stream.Push n to packet) t = refl
+      other (stream.Drop n cause) t = refl
+      other (stream.Assign asked) t = refl
+      other (stream.Advertise ranges) t = refl
+      other (stream.Close reason) t = refl
 opens_by y None OverHttp1 live None (due.Spend i size ∷ dues) id routes h some = absurd h
 opens_by y None OverHttp1 live None (due.Fault code ∷ dues) id routes h some = absurd h
 
@@ -117,8 +117,7 @@ opened c id goal waiting routes is = does_so c _ (Replied (reply.Opened id route
     let said = note.Opened id c.number 0 (kind_of goal) in
     let with : List machine.Waiting → machine.Conn = λ ws. record y { tunnels = record { id = id; stream = 0; goal = goal; waiting = ws } ∷ [] } in
     let Z : List machine.Waiting → Option (Note × machine.Conn) = λ ws. Some (said, passing c.due (with ws)) in
-    let first_of : machine.Conn → Option (Note × machine.Conn) = λ x. done x (Replied (reply.Opened id routes)) in
-    (
+    let first_of : machine.Conn → Option (Note × machine.Conn) = λ x. done x (Replied (reply.Opened id routes)) in (
       state e q,
       record {
         past = q;
@@ -131,12 +130,12 @@ opened c id goal waiting routes is = does_so c _ (Replied (reply.Opened id route
         begun = stands.begun;
       },
       done_acting c p d c.due (Replied (reply.Opened id routes)) b.acts
-        ∙ ap (λ (o : Option Tunnel). first_of (record (acting c p d c.due) { tunnels = tunnels_of o })) none
-        ∙ ap Z (ap (λ k. first_waiting k routes) udp)
-        ∙ ap Z (sym f.2)
-        ∙ ap (λ (z : machine.Conn). Some (said, z)) (passes true c.due (with waiting) f.3)
-        ∙ ap (λ (x : Option End). Some (said, record (with waiting) { ending = x })) (sym b.acts.ending)
-        ∙ ap (λ (g : machine.Front). Some (said, record (with waiting) { ending = c.ending; front = g })) (sym b.acts.front),
+          ∙ ap (λ (o : Option Tunnel). first_of (record (acting c p d c.due) { tunnels = tunnels_of o })) none
+          ∙ ap Z (ap (λ k. first_waiting k routes) udp)
+          ∙ ap Z (sym f.2)
+          ∙ ap (λ (z : machine.Conn). Some (said, z)) (passes true c.due (with waiting) f.3)
+          ∙ ap (λ (x : Option End). Some (said, record (with waiting) { ending = x })) (sym b.acts.ending)
+          ∙ ap (λ (g : machine.Front). Some (said, record (with waiting) { ending = c.ending; front = g })) (sym b.acts.front),
     ))
 
 -- ---- refused memory as it opens
@@ -175,7 +174,7 @@ open_hears c d e id goal waiting routes (Ok n) is opens ok told err =
     let P : Conn → Type 0 = λ x. Does c x (Replied (reply.Opened id routes)) (note.Opened id c.number 0 (kind_of goal)) in
     let Q : Note → Type 0 = λ m. Does c e (Replied (reply.Opened id routes)) m in
     subst Q (sym (told ∙ ap (λ (x : Conn). note.Opened id x.number 0 (kind_of goal)) is))
-        (subst P (sym (ok ∙ ap (λ (x : Conn). record x { tunnel = Some (tunnel_of id goal waiting); owed = x.owed ++ success_text (kind_of goal) }) is)) (opened c id goal waiting routes opens))
+    (subst P (sym (ok ∙ ap (λ (x : Conn). record x { tunnel = Some (tunnel_of id goal waiting); owed = x.owed ++ success_text (kind_of goal) }) is)) (opened c id goal waiting routes opens))
 open_hears c d e id goal waiting routes (Err fault) is opens ok told err =
     let P : Conn → Type 0 = λ x. HearsNone c (given_up x end.NoMemory) (reply.Opened id routes) in
     subst P (sym (err ∙ ap (λ (x : Conn). record x { tunnel = Some (tunnel_of id goal waiting) }) is)) (opened_none c id goal waiting routes opens)
@@ -226,6 +225,6 @@ full_hears c d e goal waiting entries live (Ok n) is opens ok told err =
     let P : Conn → Type 0 = λ x. Does c x (Replied (reply.HistoryFull entries live)) (note.Refused c.number 0 503 0) in
     let Q : Note → Type 0 = λ m. Does c e (Replied (reply.HistoryFull entries live)) m in
     subst Q (sym (told ∙ ap (λ (x : Conn). note.Refused x.number 0 503 0) is))
-        (subst P (sym (ok ∙ ap (λ (x : Conn). refused_conn x 503) is)) (history_full c goal waiting entries live opens))
+    (subst P (sym (ok ∙ ap (λ (x : Conn). refused_conn x 503) is)) (history_full c goal waiting entries live opens))
 full_hears c d e goal waiting entries live (Err fault) is opens ok told err =
     hears_none c e (reply.HistoryFull entries live) tt (λ h. cc) (let P : Conn → Type 0 = λ x. Keeps c x in subst P (sym (err ∙ is)) refl)

@@ -92,8 +92,7 @@ went_more n k xs i old mid new next b c was puts next_is mtu h =
     let F : ℕ → Bool → List StreamAct = λ m d. cond d [] (item_acts kind.Udp mtu m i) in
     let here : F k b ≡ F (n + payload_count xs) (close_in acts) = ap (λ (m : ℕ). F m b) w.1 ∙ ap (λ (d : Bool). F (n + payload_count xs) d) w.2 in
     let whole : acts ++ F k b ≡ acts_of kind.Udp mtu n (xs ++ i ∷ []) = ap (λ (ys : List StreamAct). acts ++ ys) here ∙ sym (acts_last mtu n xs i) in
-    let pay = payloads_last xs i in
-    (
+    let pay = payloads_last xs i in (
       u.0 ∙ ap (λ (ds : List Due). ds ++ on_stream 0 (F k b)) w.0 ∙ append_assoc old (on_stream 0 acts) (on_stream 0 (F k b))
           ∙ ap (λ (ds : List Due). old ++ ds) (sym (on_both acts (F k b)) ∙ ap (λ (ys : List StreamAct). on_stream 0 ys) whole),
       omega (arith, next_is, pay, w.1),

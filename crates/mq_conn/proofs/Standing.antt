@@ -18,14 +18,14 @@ gives_up c why s stands =
     let p = stands.past in
     let P : machine.Conn → Type 0 = λ x. IsConn (given_up c why) (record x { due = []; streams = []; ending = Some why }) in
     subst P (sym stands.is) (record {
-        past = record p { streams = [] };
-        is = refl;
-        read = shut why p.front;
-        owed = stands.owed;
-        given = stands.given;
-        due = (refl, refl);
-        udp = stands.udp;
-        begun = stands.begun;
+      past = record p { streams = [] };
+      is = refl;
+      read = shut why p.front;
+      owed = stands.owed;
+      given = stands.given;
+      due = (refl, refl);
+      udp = stands.udp;
+      begun = stands.begun;
     })
 
 -- refused memory behind a try that kept what is left
@@ -33,4 +33,3 @@ pub starves : (c d e : Conn) → Keeps c d → e ≡ given_up d end.NoMemory →
 starves c d e keeps is s stands =
     let Q : Conn → Type 0 = λ x. IsConn x (starved s) in
     subst Q (sym (is ∙ ap (λ x. given_up x end.NoMemory) keeps)) (gives_up c end.NoMemory s stands)
-

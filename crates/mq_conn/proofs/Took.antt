@@ -93,9 +93,9 @@ goes_on c s stands can =
     let b = both (is_nothing (want_of s)) (nat_le (length (owed s)) most_owed) a.0 in
     let none = first_none c s c.first stands b.0 refl in
     record {
-        ending = ap (λ (x : machine.Conn). x.ending) (sym stands.is) ∙ none_ending s.ending a.1;
-        first = none;
-        due = dues_none c s c.due stands b.0 none refl;
+      ending = ap (λ (x : machine.Conn). x.ending) (sym stands.is) ∙ none_ending s.ending a.1;
+      first = none;
+      due = dues_none c s c.due stands b.0 none refl;
     }
 
 pub took : (c : Conn) (setup : Setup) (piece : List ℕ) (s : machine.Conn) (new : Front) (dues : List Due) → IsConn c s → can_read s ≡ true → setup.udp.kind ≡ kind.Udp → piece ≢ [] → Reads setup c.front piece c.due dues new

@@ -67,8 +67,17 @@ pub record Past : Type 0 where
 
 abbrev pub state : Conn → Past → machine.Conn
 state c past = record {
-  number = c.number; actor = c.actor; front = past.front; streams = past.streams; due = behind c.first c.due; out = past.out; given = past.given;
-  is_finished = c.finished; ending = c.ending; tunnels = tunnels_of c.tunnel; next_tunnel = c.next_tunnel;
+  number = c.number;
+  actor = c.actor;
+  front = past.front;
+  streams = past.streams;
+  due = behind c.first c.due;
+  out = past.out;
+  given = past.given;
+  is_finished = c.finished;
+  ending = c.ending;
+  tunnels = tunnels_of c.tunnel;
+  next_tunnel = c.next_tunnel;
 }
 
 -- ---- what is true of them

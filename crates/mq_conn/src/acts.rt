@@ -11,8 +11,8 @@ ghost use Rattle.mq_conn.specs.Conns.{Does, Tries, MayDo, PutsNote, given_up};
 use crate::conn::{Conn, First};
 use crate::queue::Queue;
 use mq_machine::{Act, Due, StreamAct};
-use mq_talk::{Cause, End, From, Goal, Note};
 use mq_outside::PortPut;
+use mq_talk::{Cause, End, From, Goal, Note};
 use mq_wire::{Bytes, NoMemory};
 
 /// The goal of a request whose port is to be bound.

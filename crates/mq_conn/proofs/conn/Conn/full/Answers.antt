@@ -5,4 +5,4 @@ pub returns : goal.returns
 returns c = λ entries live.
     let o = c.in-Some.field-0 in
     full_hears c.args.self.now c.take_open.new.self c.refuse.new.self o.goal o.waiting entries live c.refuse.result c.take_open.ensures.keeps c.in-Some.ensures.took
-        c.refuse.ensures.ok c.refuse.ensures.note c.refuse.ensures.err
+    c.refuse.ensures.ok c.refuse.ensures.note c.refuse.ensures.err

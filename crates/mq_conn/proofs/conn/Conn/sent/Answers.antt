@@ -15,4 +15,4 @@ returns c =
     let live = c.in-Some-live.ensures in
     let P : ℕ → Type 0 = λ k. PutsNote k p.n p.payload c.args.outcome c.args.limit c.put_note.result in
     sends old c.take.new.self rest live.0 told.ensures.0 p.n p.payload c.args.outcome c.args.limit c.put_note.result c.take.ensures.keeps took.0 due
-        (same_tunnel old c.take.new.self rest live.0 c.take.ensures.keeps live.1) (subst P (sym live.2) c.put_note.ensures)
+    (same_tunnel old c.take.new.self rest live.0 c.take.ensures.keeps live.1) (subst P (sym live.2) c.put_note.ensures)

@@ -19,7 +19,7 @@ returns-then-done c =
     let due = took.1 ∙ ap (λ (d : Due). d ∷ rest) bind.ensures.1 in
     let P : Bool → Type 0 = λ b. Tries old c.ported.new.self (Bound b) c.ported.result in
     subst P (sym c.if-done.true) (tries old c.take.new.self c.ported.new.self rest (λ (x : Conn). record x { first = Some (first.Open bind.goal []) }) (Bound true) (λ (x : Conn). note.Ported x.number 0)
-        c.ported.result c.take.ensures.keeps (ported old bind.ensures.0 bind.goal rest took.0 due) c.ported.ensures.ok c.ported.ensures.note c.ported.ensures.err)
+    c.ported.result c.take.ensures.keeps (ported old bind.ensures.0 bind.goal rest took.0 due) c.ported.ensures.ok c.ported.ensures.note c.ported.ensures.err)
 
 pub returns : goal.returns
 returns c =
@@ -30,4 +30,4 @@ returns c =
     let due = took.1 ∙ ap (λ (d : Due). d ∷ rest) bind.ensures.1 in
     let P : Bool → Type 0 = λ b. Tries old c.refuse.new.self (Bound b) c.refuse.result in
     subst P (sym c.if-done.false) (tries old c.take.new.self c.refuse.new.self rest (λ (x : Conn). refused_conn x 502) (Bound false) (λ (x : Conn). note.Refused x.number 0 502 0)
-        c.refuse.result c.take.ensures.keeps (bind_failed old bind.ensures.0 bind.goal rest took.0 due) c.refuse.ensures.ok c.refuse.ensures.note c.refuse.ensures.err)
+    c.refuse.result c.take.ensures.keeps (bind_failed old bind.ensures.0 bind.goal rest took.0 due) c.refuse.ensures.ok c.refuse.ensures.note c.refuse.ensures.err)

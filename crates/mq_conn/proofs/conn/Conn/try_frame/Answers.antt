@@ -16,4 +16,4 @@ returns-clause-framed c =
     let P : Note → Type 0 = λ n. Framed old new n in
     let goes = c.if-not-can_go_on.false in
     subst P (sym c.delivered.ensures) (frames_both old mid new popped.id popped.packet (λ s stands. sym (c.can_go_on.ensures s stands) ∙ goes) c.in_ok-put_first.ensures.ok
-        (λ t live. (let Q : Option Popped → Type 0 = λ o. MatchOption o (t.waiting ≡ []) (λ p. PopsFirst mid new t p.id p.packet) in subst Q c.in-Some.is (c.pop_first.ensures t live))))
+    (λ t live. (let Q : Option Popped → Type 0 = λ o. MatchOption o (t.waiting ≡ []) (λ p. PopsFirst mid new t p.id p.packet) in subst Q c.in-Some.is (c.pop_first.ensures t live))))

@@ -19,7 +19,7 @@ returns-in-Some-refusal_of c =
     let took = c.in-Some.ensures.took in
     let due = took.1 ∙ ap (λ (d : Due). d ∷ rest) told.ensures.1 in
     tries old c.take.new.self c.refuse.new.self rest (λ (x : Conn). refused_conn x r.status) Said (λ (x : Conn). note.Refused x.number 0 r.status r.rule)
-        c.refuse.result c.take.ensures.keeps (said_refusal old told.ensures.0 r.status r.rule rest took.0 due) c.refuse.ensures.ok c.refuse.ensures.note c.refuse.ensures.err
+    c.refuse.result c.take.ensures.keeps (said_refusal old told.ensures.0 r.status r.rule rest took.0 due) c.refuse.ensures.ok c.refuse.ensures.note c.refuse.ensures.err
 
 pub returns : goal.returns
 returns c =
@@ -31,4 +31,4 @@ returns c =
     let due = took.1 ∙ ap (λ (x : Due). x ∷ rest) told.ensures.1 in
     let live = c.in-Some-live.ensures in
     popped old c.take.new.self rest Said (note.Dropped (source.Tunnel c.in-Some-live.id) d.n d.cause) c.take.ensures.keeps took.0
-        (stays old live.0 told.ensures.0 (stream.Drop d.n d.cause) rest Said (note.Dropped (source.Tunnel c.in-Some-live.id) d.n d.cause) took.0 due (same_tunnel old c.take.new.self rest live.0 c.take.ensures.keeps live.1) (drops live.0 c.in-Some-live.id d.n d.cause live.2))
+    (stays old live.0 told.ensures.0 (stream.Drop d.n d.cause) rest Said (note.Dropped (source.Tunnel c.in-Some-live.id) d.n d.cause) took.0 due (same_tunnel old c.take.new.self rest live.0 c.take.ensures.keeps live.1) (drops live.0 c.in-Some-live.id d.n d.cause live.2))
