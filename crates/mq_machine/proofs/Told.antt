@@ -4,9 +4,10 @@ use Rattle.mq_machine.specs.declared.setup.Setup.{Setup}
 use Rattle.mq_talk.specs.declared.book.Entry.{Entry}
 use Rattle.mq_talk.specs.declared.note.Note.{Note}
 use Rattle.mq_talk.specs.declared.place.Parcel.{Parcel}
+use Rattle.mq_outside.specs.Ports.{PortHolds}
 use Rattle.mq_machine.specs.State.{Conn, Link, new_link, Port, Offer, Held, Worker, Shared}
 use Rattle.mq_machine.specs.Want.{Answer}
-use Rattle.mq_machine.specs.Acting.{Outside, Sight, PortsTold, ConnsTold, OffersTold, PortsTell, ConnsTell, OffersTell, TellsAll, bare_port, bare_held, Refills, WasInbox, StepDone}
+use Rattle.mq_machine.specs.Acting.{Outside, Sight, PortsTold, ConnsTold, OffersTold, PortsTell, ConnsTell, OffersTell, TellsAll, holds_of, holding, with_prepared, bare_port, bare_held, Refills, WasInbox, StepDone}
 use Rattle.mq_talk.specs.Mails.{IsTold}
 use Rattle.mq_machine.specs.Turn.{WorkerTurn}
 
@@ -20,14 +21,19 @@ head_same {A} {x} {y} {xs} {ys} h =
     let rest : xs ≡ ys = cc in
     (first, rest)
 
+-- a port is what it holds, and the rest
+same_port : (p q : Port) → bare_port p ≡ bare_port q → holds_of p ≡ holds_of q → p ≡ q
+same_port p q rest holds = ap (λ (b : Port). holding (holds_of p) b) rest ∙ ap (λ (h : PortHolds). holding h (bare_port q)) holds
+
 same_ports : (o : Outside) (ps qs : List Port) → map bare_port ps ≡ map bare_port qs → PortsTold o ps → PortsTell o qs → ps ≡ qs
 same_ports o [] [] h x y = refl
 same_ports o [] (q ∷ qs) h x y = absurd cc
 same_ports o (p ∷ ps) [] h x y = absurd cc
 same_ports o (p ∷ ps) (q ∷ qs) h x y =
     let both = head_same h in
-    let P : ℕ → Type 0 = λ n. IsTold (o.port n) p in
-    let first = told_same (o.port q.tunnel) p q y.0 (subst P (ap (λ (p : Port). p.tunnel) both.0) x.0) in
+    let P : ℕ → Type 0 = λ n. IsTold (o.port n) (holds_of p) in
+    let holds = told_same (o.port q.tunnel) (holds_of p) (holds_of q) y.0 (subst P (ap (λ (p : Port). p.tunnel) both.0) x.0) in
+    let first = same_port p q both.0 holds in
     let rest = same_ports o ps qs both.1 x.1 y.1 in
     cc
 
@@ -82,11 +88,11 @@ no_more more entries h = ap (λ (m : List Entry). entries ++ m) h ∙ append-nil
 pub told : (old new : Sight) (s t : Worker) (note : Note) (boxes : List (List Parcel)) → TellsAll old.outside s → old.seen.is_whole ≡ true
     → old.boxes ≡ Some boxes → StepDone old new s note t
     → (answer : Answer) × (box : List Parcel) × (sh : Shared) × (after : Shared) × (slice_get boxes s.id ≡ Some box) × (sh.book ≡ old.seen.entries)
-    × (sh.boxes ≡ boxes) × WorkerTurn s box sh answer note t after
+    × (sh.boxes ≡ boxes) × (became : Worker) × WorkerTurn s box sh answer note became after × (t ≡ with_prepared new.outside answer became)
 told old new s t note boxes tells whole mail x =
     let now = same_worker old.outside s x.now tells x.refills in
     let P : Option (List (List Parcel)) → Type 0 = λ o. WasInbox o s.id x.box in
-    let Q : Worker → Type 0 = λ w. WorkerTurn w x.box x.sh x.answer note t x.after in (
+    let Q : Worker → Type 0 = λ w. WorkerTurn w x.box x.sh x.answer note x.became x.after in (
       x.answer,
       x.box,
       x.sh,
@@ -94,5 +100,7 @@ told old new s t note boxes tells whole mail x =
       subst P mail x.was,
       x.meets.book.goes_on ∙ no_more x.meets.book.more old.seen.entries (x.meets.book.whole whole),
       told_same old.boxes x.sh.boxes boxes mail x.meets.boxes,
+      x.became,
       subst Q now (record { seat = x.seat; turn = x.turn; next = x.next }),
+      x.is,
     )

@@ -2,6 +2,7 @@
 use Rattle.std.specs.Prelude.{◌≡◌, ◌≢◌, ◌↔◌, ◌⊎◌, ⊤, ℕ, ◌+◌, ◌<◌, ◌≤◌, ◌||◌, true, false, not, List, [], ◌∷◌, map, length, All, Contains, take_while, slice_get, Option, Some, None, Result, Ok, Err}
 use Rattle.mq_wire.specs.declared.NoMemory.{NoMemory}
 use Rattle.mq_talk.specs.declared.book.Call.TheVariants as call
+use Rattle.mq_talk.specs.declared.book.Reply.TheVariants as reply
 use Rattle.mq_talk.specs.declared.book.Entry.{Entry}
 use Rattle.mq_talk.specs.declared.goal.Goal.{Goal}
 use Rattle.mq_talk.specs.declared.note.Note.{Note}
@@ -9,32 +10,31 @@ use Rattle.mq_talk.specs.declared.place.Parcel.{Parcel}
 use Rattle.mq_talk.specs.Book.{is_live}
 use Rattle.mq_talk.specs.Mails.{box_at, IsTold}
 use Rattle.mq_talk.specs.Offices.{Seen, Sees}
+use Rattle.mq_outside.specs.Counts.{last_count, risen, risen_by, LinkCounts, PortCounts}
+use Rattle.mq_outside.specs.Ports.{PortHolds, empty_port}
 use Rattle.mq_machine.specs.State.{Tunnel, Link, new_link, Port, Net, new_net, Offer, Held, Worker, Pump, Shared, owed, held_of}
-use Rattle.mq_machine.specs.Want.{Want, Nothing, Send, Answer, Bound, want_of}
+use Rattle.mq_machine.specs.Shared.{at_port}
+use Rattle.mq_machine.specs.Want.{Want, Nothing, Send, Answer, Bound, Replied, want_of}
 use Rattle.mq_machine.specs.Steps.{can_read, framed}
 use Rattle.mq_machine.specs.Silent.{Reached, WorkerStarves}
 use Rattle.mq_machine.specs.Turn.{Seat, Offers, Inbox, Of, can_act, ring_from, seats_of, turn_of, most_live, SeatNext, PumpTurn, last_of}
 
 -- ---- what an actor sees of the outside
 
--- how often the calls of a link answered that nothing goes on now, and how often they failed
-pub record LinkCounts : Type 0 where
-  pub read_waits : ℕ
-  pub write_waits : ℕ
-  pub faults : ℕ
+-- what a port holds of the outside
+abbrev pub holds_of : Port → PortHolds
+holds_of p = record { arrived = p.arrived; send_fails = p.send_fails; send_waits = p.send_waits; receive_fails = p.receive_fails }
 
-pub record PortCounts : Type 0 where
-  pub send_waits : ℕ
-  pub receive_waits : ℕ
-  pub faults : ℕ
+abbrev pub holding : PortHolds → Port → Port
+holding holds p = record p { arrived = holds.arrived; send_fails = holds.send_fails; send_waits = holds.send_waits; receive_fails = holds.receive_fails }
 
 -- what the links of connections and the ports of tunnels hold, where they tell it, and their counts
 pub record Outside : Type 0 where
   pub link : (conn : ℕ) → Option Link
   pub link_counts : (conn : ℕ) → LinkCounts
-  pub port : (tunnel : ℕ) → Option Port
+  pub port : (tunnel : ℕ) → Option PortHolds
   pub port_counts : (tunnel : ℕ) → PortCounts
-  -- the failures of binds
+  -- the failures of binds, and those of the ports that were handed back
   pub bind_faults : ℕ
 
 -- what an actor sees of the outside, its office and its mail
@@ -47,7 +47,7 @@ pub record Sight : Type 0 where
 -- the state has what is told of links and ports
 abbrev pub PortsTold : Outside → List Port → Type 0
 PortsTold o [] = ⊤
-PortsTold o (p ∷ ports) = IsTold (o.port p.tunnel) p × PortsTold o ports
+PortsTold o (p ∷ ports) = IsTold (o.port p.tunnel) (holds_of p) × PortsTold o ports
 
 abbrev pub ConnsTold : Outside → List Held → Type 0
 ConnsTold o [] = ⊤
@@ -63,7 +63,7 @@ HasTold o w = ConnsTold o w.conns × OffersTold o w.offered
 -- every link and port of the state tells what the state has
 abbrev pub PortsTell : Outside → List Port → Type 0
 PortsTell o [] = ⊤
-PortsTell o (p ∷ ports) = (o.port p.tunnel ≡ Some p) × PortsTell o ports
+PortsTell o (p ∷ ports) = (o.port p.tunnel ≡ Some (holds_of p)) × PortsTell o ports
 
 abbrev pub ConnsTell : Outside → List Held → Type 0
 ConnsTell o [] = ⊤
@@ -79,7 +79,7 @@ TellsAll o w = ConnsTell o w.conns × OffersTell o w.offered
 -- ---- states that differ in what the outside holds alone
 
 abbrev pub bare_port : Port → Port
-bare_port p = record p { arrived = []; received = 0; sent = []; send_fails = false; send_waits = false; receive_fails = false }
+bare_port p = holding empty_port p
 
 abbrev pub bare_held : Held → Held
 bare_held h = record h { link = new_link; ports = map bare_port h.ports }
@@ -91,6 +91,16 @@ bare w = record w { offered = map (λ (o : Offer). record o { link = new_link })
 pub record Refills (o : Outside) (s t : Worker) : Type 0 where
   pub same : bare t ≡ bare s
   pub told : HasTold o t
+
+-- A port may be prepared: the one of a tunnel that opened in this step holds what the outside had for it, where that is told.
+abbrev pub prepared : Option PortHolds → Port → Port
+prepared None p = p
+prepared (Some holds) p = holding holds p
+
+abbrev pub with_prepared : Outside → Answer → Worker → Worker
+with_prepared o (Replied (reply.Opened tunnel routes)) w =
+    record w { conns = map (λ (h : Held). record h { ports = at_port tunnel (prepared (o.port tunnel)) h.ports }) w.conns }
+with_prepared o answer w = w
 
 -- ---- what is shared
 
@@ -111,11 +121,8 @@ WasInbox (Some boxes) id box = slice_get boxes id ≡ Some box
 -- ---- what was asked in vain
 
 -- a count rose, or stands at its end
-abbrev pub count_end : ℕ
-count_end = 18446744073709551615
-
 abbrev pub Rose : ℕ → ℕ → Type 0
-Rose old new = (old < new) ⊎ ((new ≡ count_end) × (old ≡ count_end))
+Rose old new = (old < new) ⊎ ((new ≡ old) × (last_count ≤ old))
 
 -- no want could be done: there was none, or it was a send, and its port answered that nothing goes on now
 abbrev pub WantWaited : Outside → Outside → Want → Type 0
@@ -141,14 +148,21 @@ SeatWaited old new w box (Of conn) = (h : Held) → held_of w conn ≡ Some h �
 abbrev pub seats_before : Worker → List Parcel → List Seat
 seats_before w box = take_while (λ seat. not (can_act w box seat)) (ring_from w.next_seat (seats_of w))
 
+-- a port failed: its faults rose, or it was handed back with one more
+abbrev pub PortFailed : Outside → Outside → ℕ → Type 0
+PortFailed old new tunnel =
+    Rose (old.port_counts tunnel).faults (new.port_counts tunnel).faults
+    ⊎ (new.bind_faults ≡ risen_by (risen (old.port_counts tunnel).faults) old.bind_faults)
+
 -- a link or a port that tells nothing fails only where it failed in this step
 pub record FaultsFit (old new : Outside) (w : Worker) : Type 0 where
   pub links : All (λ (h : Held). old.link h.conn.number ≡ None → h.link.read_fails || h.link.write_fails ≡ true → Rose (old.link_counts h.conn.number).faults (new.link_counts h.conn.number).faults) w.conns
-  pub ports : All (λ (h : Held). All (λ (p : Port). old.port p.tunnel ≡ None → p.send_fails || p.receive_fails ≡ true → Rose (old.port_counts p.tunnel).faults (new.port_counts p.tunnel).faults) h.ports) w.conns
+  pub ports : All (λ (h : Held). All (λ (p : Port). old.port p.tunnel ≡ None → p.send_fails || p.receive_fails ≡ true → PortFailed old new p.tunnel) h.ports) w.conns
 
 -- a bind is answered as the ports failed
 abbrev pub BindFits : Outside → Outside → Answer → Type 0
-BindFits old new (Bound done) = (done ≡ false) ↔ Rose old.bind_faults new.bind_faults
+BindFits old new (Bound true) = new.bind_faults ≡ old.bind_faults
+BindFits old new (Bound false) = Rose old.bind_faults new.bind_faults
 BindFits old new answer = ⊤
 
 -- ---- what ties a worker to its office
@@ -171,12 +185,14 @@ pub record IsOpen (book : List Entry) (actor tunnel conn stream : ℕ) (goal : G
   pub by : entry.actor ≡ actor
   pub live : is_live book tunnel ≡ true
 
--- The worker's tunnels are those that are live by what its office has seen, and every number that it ever used was seen.
+-- The worker's tunnels are those that are live by what its office has seen, and every number that it ever used was seen. There
+-- is an inbox for each worker, and one for the pump.
 pub record Known (sight : Sight) (w : Worker) : Type 0 where
   pub id : w.id < sight.seen.config.workers
   pub pump : w.setup.pump ≡ sight.seen.config.workers
   pub tunnels : (tunnel conn stream : ℕ) (goal : Goal) → HasTunnel w tunnel conn stream goal ↔ IsOpen sight.seen.entries w.id tunnel conn stream goal
   pub last : All (λ (h : Held). h.conn.next_tunnel ≤ length sight.seen.entries) w.conns
+  pub boxes : (boxes : List (List Parcel)) → sight.boxes ≡ Some boxes → length boxes ≡ sight.seen.config.workers + 1
 
 -- ---- the step
 
@@ -195,7 +211,9 @@ pub record StepDone (old new : Sight) (s : Worker) (note : Note) (t : Worker) : 
   pub waited : All (SeatWaited old.outside new.outside now box) (seats_before now box)
   pub faults : FaultsFit old.outside new.outside now
   pub binds : BindFits old.outside new.outside answer
-  pub next : SeatNext now sh seat answer note t after
+  pub became : Worker
+  pub next : SeatNext now sh seat answer note became after
+  pub is : t ≡ with_prepared new.outside answer became
 
 -- The step gave no note: every seat was passed over, and the book is the same.
 pub record StepQuiet (old new : Sight) (s : Worker) (t : Worker) : Type 0 where
@@ -203,7 +221,9 @@ pub record StepQuiet (old new : Sight) (s : Worker) (t : Worker) : Type 0 where
   pub was : WasInbox old.boxes s.id box
   pub waited : All (SeatWaited old.outside new.outside s box) (seats_of s)
   pub seen : new.seen.entries ≡ old.seen.entries
-  pub boxes : new.boxes ≡ old.boxes
+  pub boxes : List (List Parcel)
+  pub told : IsTold old.boxes boxes
+  pub tells : IsTold new.boxes boxes
   pub refills : bare t ≡ bare s
 
 -- The step was refused memory when it had come so far.

@@ -21,7 +21,7 @@ use Rattle.mq_machine.specs.Steps.{can_read}
 use Rattle.mq_target.specs.Template.{IsTemplate}
 use Rattle.mq_machine.specs.Reading.{TookNext}
 use Rattle.mq_machine.specs.Silent.{Reached, ConnStarves, SilentTurn}
-use Rattle.mq_machine.specs.Acting.{Sight, TellsAll, StepDone}
+use Rattle.mq_machine.specs.Acting.{Sight, TellsAll, StepDone, with_prepared}
 use Rattle.mq_machine.specs.Turn.{WorkerTurn, Actor, Turn, Quiet}
 use Rattle.mq_talk.specs.declared.book.Config.{Config}
 use Rattle.mq_talk.specs.declared.book.Entry.{Entry}
@@ -88,12 +88,12 @@ HasOneSilentTurn = (old : State) (actor : Actor) (reached : Reached) (a b : Stat
 abbrev pub IsSilentOrQuiet : Type 0
 IsSilentOrQuiet = (old new : State) (actor : Actor) (reached : Reached) → SilentTurn old actor reached new → Quiet old actor → ⊥
 
--- where links, ports, office and mail tell all, a step that gave a note is the worker's turn
+-- where links, ports, office and mail tell all, a step that gave a note is the worker's turn, and a port that it opened is prepared
 abbrev pub IsToldTurn : Type 0
 IsToldTurn = (old new : Sight) (s t : Worker) (note : Note) (boxes : List (List Parcel)) → TellsAll old.outside s → old.seen.is_whole ≡ true
     → old.boxes ≡ Some boxes → StepDone old new s note t
     → (answer : Answer) × (box : List Parcel) × (sh : Shared) × (after : Shared) × (slice_get boxes s.id ≡ Some box) × (sh.book ≡ old.seen.entries)
-    × (sh.boxes ≡ boxes) × WorkerTurn s box sh answer note t after
+    × (sh.boxes ≡ boxes) × (became : Worker) × WorkerTurn s box sh answer note became after × (t ≡ with_prepared new.outside answer became)
 
 -- the template of tunnels for UDP is one that a text tells
 pub record IsToldSetup (setup : Setup) : Type 0 where
