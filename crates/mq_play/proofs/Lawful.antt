@@ -1,6 +1,6 @@
 -- States whose connections ask for UDP alone, by setups whose templates texts tell: steps and events lead to such states.
 use Rattle.std.proofs.Common.{◌≡◌, ◌⊎◌, ℕ, zero, suc, ◌+◌, Bool, true, false, List, [], ◌∷◌, length, take, Option, Some, None, slice_set, subst, sym, ap, refl, inl, inr}
-use Rattle.std.specs.Prelude.{option_map, find, ◌==◌, nat_lt, if◌then◌else◌}
+use Rattle.std.specs.Prelude.{option_map, find, ◌==◌, nat_lt}
 use Rattle.std.specs.Bool.{MatchBool}
 use Rattle.std.specs.List.{AllByRecursion}
 use Rattle.mq_addr.specs.declared.kind.Kind.{Kind}
@@ -32,7 +32,7 @@ use Rattle.mq_machine.specs.Turn.{Try, Act, Frame, Write, Read, Receive, HeldDon
 use Rattle.mq_machine.specs.Silent.{Reached, Heard, SeatStarves, SilentTurn}
 use Rattle.mq_machine.specs.Laws.{IsToldSetup}
 use Rattle.mq_play.specs.Events.{at_held, at_worker, at_link, with_ports, with_held_ports, with_port, offered_to, happen}
-use Rattle.mq_play.proofs.Lists.{each_append, each_map, each_at, each_set, each_found}
+use Rattle.mq_play.proofs.Lists.{if_both, each_append, each_map, each_at, each_set, each_found}
 use Rattle.mq_play.proofs.Plain.{PlainConn, PlainDone, PlainCall, PlainWant, plain_done, plain_want, plain_framed, plain_wrote, plain_finished, plain_failed, plain_queued, plain_received, plain_port_failed, plain_settle}
 use Rattle.mq_play.proofs.PlainReads.{plain_took}
 
@@ -173,14 +173,10 @@ plain_try setup p old sh (Receive tunnel) answer note new after h k x = plain_re
 
 -- ---- what a worker does
 
-each_if : (b : Bool) (xs ys : List Held) → AllByRecursion PlainHeld xs → AllByRecursion PlainHeld ys → AllByRecursion PlainHeld (if b then xs else ys)
-each_if true xs ys h k = h
-each_if false xs ys h k = k
-
 plain_replace : (n : ℕ) (new : Option Held) (hs : List Held) → PlainBecame new → AllByRecursion PlainHeld hs → AllByRecursion PlainHeld (replace n new hs)
 plain_replace n new [] b h = tt
-plain_replace n None (g ∷ hs) b h = each_if (g.conn.number == n) hs (g ∷ replace n None hs) h.1 (h.0, plain_replace n None hs b h.1)
-plain_replace n (Some f) (g ∷ hs) b h = each_if (g.conn.number == n) (f ∷ hs) (g ∷ replace n (Some f) hs) (b, h.1) (h.0, plain_replace n (Some f) hs b h.1)
+plain_replace n None (g ∷ hs) b h = if_both (λ hs. AllByRecursion PlainHeld hs) (g.conn.number == n) hs (g ∷ replace n None hs) h.1 (h.0, plain_replace n None hs b h.1)
+plain_replace n (Some f) (g ∷ hs) b h = if_both (λ hs. AllByRecursion PlainHeld hs) (g.conn.number == n) (f ∷ hs) (g ∷ replace n (Some f) hs) (b, h.1) (h.0, plain_replace n (Some f) hs b h.1)
 
 plain_with_held : (w : Worker) (n : ℕ) (new : Option Held) → PlainWorker w → PlainBecame new → PlainWorker (with_held w n new)
 plain_with_held w n new h b = record { setup = h.setup; conns = plain_replace n new w.conns b h.conns }
@@ -269,16 +265,12 @@ KeepsBook book (Some d) = d.2.book ≡ book
 abbrev SameBook : List Entry → Note × Pump × Shared → Type 0
 SameBook book d = d.2.book ≡ book
 
-same_if : (book : List Entry) (b : Bool) (x y : Note × Pump × Shared) → SameBook book x → SameBook book y → SameBook book (if b then x else y)
-same_if book true x y h k = h
-same_if book false x y h k = k
-
 same_pushed : (p : Pump) (sh : Shared) (parcel : Parcel) (b : Bool) → SameBook sh.book (parcel_pushed p sh parcel b)
 same_pushed p sh parcel true = refl
 same_pushed p sh parcel false = refl
 
 same_sent : (p : Pump) (sh : Shared) (parcel : Parcel) → SameBook sh.book (net_sent p sh parcel)
-same_sent p sh parcel = same_if sh.book p.net.send_fails _ _ refl (same_if sh.book p.net.send_waits _ _ refl refl)
+same_sent p sh parcel = if_both (SameBook sh.book) p.net.send_fails _ _ refl (if_both (SameBook sh.book) p.net.send_waits _ _ refl refl)
 
 same_judged : (p : Pump) (sh : Shared) (n : ℕ) (packet : List ℕ) (v : Verdict) → SameBook sh.book (net_judged p sh n packet v)
 same_judged p sh n packet (verdict.Pass to) = refl
@@ -358,12 +350,8 @@ lawful_silent old new ThePump reached h x = subst Lawful (sym x.2) h
 
 -- ---- what happens
 
-plain_at_if : (b : Bool) (h : Held) (l : Link) → PlainHeld h → PlainHeld (if b then record h { link = l } else h)
-plain_at_if true h l p = p
-plain_at_if false h l p = p
-
 plain_at : (n : ℕ) (change : Link → Link) (h : Held) → PlainHeld h → PlainHeld (at_held n change h)
-plain_at n change h p = plain_at_if (h.conn.number == n) h (change h.link) p
+plain_at n change h p = if_both PlainHeld (h.conn.number == n) (record h { link = change h.link }) h p p
 
 lawful_link : (n : ℕ) (change : Link → Link) (s : State) → Lawful s → Lawful (at_link n change s)
 lawful_link n change s h = record {

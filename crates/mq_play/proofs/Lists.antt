@@ -1,10 +1,16 @@
 -- Lists, element by element.
 use Rattle.std.proofs.Common.{◌≡◌, ℕ, zero, suc, Bool, true, false, cond, List, [], ◌∷◌, ◌++◌, map, slice_get, slice_set, Option, Some, ap, subst}
+use Rattle.std.specs.Prelude.{if◌then◌else◌}
 use Rattle.std.specs.List.{AllByRecursion, filter}
 use Rattle.std.specs.Option.{unwrap_or}
 
 pub some_same : {A : Type 0} {x y : A} → Some x ≡ Some y → x ≡ y
 some_same {A} {x} {y} h = ap (λ o. unwrap_or o x) h
+
+-- what holds of both holds of the one
+pub if_both : {A : Type 0} (P : A → Type 0) (b : Bool) (x y : A) → P x → P y → P (if b then x else y)
+if_both P true x y h k = h
+if_both P false x y h k = k
 
 pub each_append : {A : Type 0} (P : A → Type 0) (xs ys : List A) → AllByRecursion P xs → AllByRecursion P ys → AllByRecursion P (xs ++ ys)
 each_append P [] ys h k = k
@@ -14,13 +20,11 @@ pub each_behind : {A : Type 0} (P : A → Type 0) (xs ys : List A) → AllByRecu
 each_behind P [] ys h = h
 each_behind P (x ∷ xs) ys h = each_behind P xs ys h.1
 
-each_kept : {A : Type 0} (P : A → Type 0) (x : A) (xs : List A) (b : Bool) → P x → AllByRecursion P xs → AllByRecursion P (cond b (x ∷ xs) xs)
-each_kept P x xs true h k = (h, k)
-each_kept P x xs false h k = k
-
 pub each_filter : {A : Type 0} (P : A → Type 0) (p : A → Bool) (xs : List A) → AllByRecursion P xs → AllByRecursion P (filter p xs)
 each_filter P p [] h = tt
-each_filter P p (x ∷ xs) h = each_kept P x (filter p xs) (p x) h.0 (each_filter P p xs h.1)
+each_filter P p (x ∷ xs) h =
+    let rest = each_filter P p xs h.1 in
+    if_both (λ ys. AllByRecursion P ys) (p x) (x ∷ filter p xs) (filter p xs) (h.0, rest) rest
 
 pub each_map : {A B : Type 0} (P : A → Type 0) (Q : B → Type 0) (f : A → B) (xs : List A) → ((x : A) → P x → Q (f x)) → AllByRecursion P xs → AllByRecursion Q (map f xs)
 each_map P Q f [] h k = tt

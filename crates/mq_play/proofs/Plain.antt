@@ -30,7 +30,7 @@ use Rattle.mq_machine.specs.Want.{Want, Ask, Over, Nothing, want_by, Answer, Sai
 use Rattle.mq_machine.specs.Done.{Done, without, refused, closed, with_waiting, sent, stream_done, tunnel_done, act_done, due_done, ending_done, done_by, done}
 use Rattle.mq_machine.specs.Settle.{passing, settle, gives_up}
 use Rattle.mq_machine.specs.Steps.{most_packets, most_waiting, framed_front, framed_by, framing, framed, settled_note, next_framed, frame_size, wrote, finish_by, finished, failed, queued, received, port_failed}
-use Rattle.mq_play.proofs.Lists.{each_filter}
+use Rattle.mq_play.proofs.Lists.{if_both, each_filter}
 
 -- ---- what is asked for
 
@@ -96,15 +96,11 @@ plain_sent c t n payload put.Sent h = h
 plain_sent c t n payload put.Failed h = h
 plain_sent c t n payload put.NotNow h = tt
 
-plain_if : (b : Bool) (x y : Done) → PlainDone x → PlainDone y → PlainDone (if b then x else y)
-plain_if true x y h k = h
-plain_if false x y h k = k
-
 plain_closed : (c : Conn) (t : Tunnel) (reason : Why) → PlainConn c → PlainConn (closed c t reason).1
 plain_closed c t reason h = let p = plain_without t.stream c h in record { due = p.due; streams = p.streams }
 
 plain_stream : (c : Conn) (t : Tunnel) (a : StreamAct) (answer : Answer) → PlainConn c → PlainAct a → PlainDone (stream_done c t a answer)
-plain_stream c t (stream.Payload n payload) (Put sent_so limit) h k = plain_if (nat_lt limit (length payload)) _ _ h (plain_sent c t n payload sent_so h)
+plain_stream c t (stream.Payload n payload) (Put sent_so limit) h k = if_both PlainDone (nat_lt limit (length payload)) _ _ h (plain_sent c t n payload sent_so h)
 plain_stream c t (stream.Drop n cause) Said h k = h
 plain_stream c t (stream.Close reason) (Replied reply.Closed) h k = plain_closed c t reason h
 plain_stream c t (stream.Packet n packet flow) answer h k = absurd k
@@ -213,14 +209,10 @@ plain_framing c OverHttp1 id rest count h = record { due = h.due; streams = h.st
 abbrev PlainPair : Note × Conn → Type 0
 PlainPair d = PlainConn d.1
 
-plain_either : (b : Bool) (x y : Note × Conn) → PlainPair x → PlainPair y → PlainPair (if b then x else y)
-plain_either true x y h k = h
-plain_either false x y h k = k
-
 plain_framed_by : (c : Conn) (t : Tunnel) (w : Waiting) (ws : List Waiting) (count : ℕ) → PlainConn c → PlainPair (framed_by c t w ws count)
 plain_framed_by c t w ws count h =
     let p = plain_framing c c.front t.stream (drop w.framed w.capsule) count h in
-    plain_either (nat_le (length w.capsule) (w.framed + count)) _ _ (record { due = p.due; streams = p.streams }) (record { due = p.due; streams = p.streams })
+    if_both PlainPair (nat_le (length w.capsule) (w.framed + count)) _ _ (record { due = p.due; streams = p.streams }) (record { due = p.due; streams = p.streams })
 
 plain_front : (c : Conn) (t : Tunnel) (ws : List Waiting) → PlainConn c → PlainDone (framed_front c t ws)
 plain_front c t [] h = tt
@@ -251,7 +243,7 @@ plain_failed c = record { due = tt; streams = tt }
 pub plain_queued : (c : Conn) (t : Tunnel) (from : From) (n : ℕ) (packet : List ℕ) → PlainConn c → PlainConn (queued c t from n packet).1
 plain_queued c t from n packet h =
     let w : Waiting = record { what = Packet from n packet; capsule = capsule_text (datagram packet); framed = 0 } in
-    plain_either (nat_le most_packets (packets t) || nat_lt most_waiting (waiting_bytes c + length (capsule_text (datagram packet))))
+    if_both PlainPair (nat_le most_packets (packets t) || nat_lt most_waiting (waiting_bytes c + length (capsule_text (datagram packet))))
     (note.Dropped from n cause.QueueFull, c) (note.Queued from n t.id, with_waiting t.id w c) h (record { due = h.due; streams = h.streams })
 
 plain_came : (c : Conn) (p : Port) (datagram : List ℕ) (o : Option Tunnel) → PlainConn c

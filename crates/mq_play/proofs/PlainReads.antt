@@ -34,7 +34,7 @@ use Rattle.mq_machine.specs.declared.act.Due.TheVariants as due
 use Rattle.mq_machine.specs.declared.setup.Setup.{Setup}
 use Rattle.mq_machine.specs.State.{Conn, Stream, Tunnel, Front, Head as HeadFront, OverHttp1, kind_of}
 use Rattle.mq_machine.specs.Reading.{Meaning, Leads, Refused, decided, MatchedMeans, PathMeans, StreamEvent, Request, Malformed, Content, Reset, ConnectionError, max_udp, item_acts, is_payload, payload_count, is_close, then_acts, acts_of, on_stream, has_values, EndsWith, BytesAsk, stream_of, more_bytes, mark_of, goal_act, ended_acts, error_acts, reset_acts, ContentAsks, EventAsks, EventsAsk, content_of, StepBrings, Brings, TookNext}
-use Rattle.mq_play.proofs.Lists.{each_append, each_behind, each_found, some_same}
+use Rattle.mq_play.proofs.Lists.{if_both, each_append, each_behind, each_found, some_same}
 use Rattle.mq_play.proofs.Plain.{IsUdp, PlainAct, PlainDue, PlainStream, PlainConn, plain_settle}
 
 -- ---- items
@@ -49,10 +49,6 @@ abbrev PlainOption : Option Item → Type 0
 PlainOption None = Unit {0}
 PlainOption (Some i) = PlainItem i
 
-plain_choice : (b : Bool) (x y : Option Item) → PlainOption x → PlainOption y → PlainOption (if b then x else y)
-plain_choice true x y h k = h
-plain_choice false x y h k = k
-
 plain_payload : (context : ℕ) (payload : List ℕ) (b : Bool) → PlainItem (if b then item.TooLongDatagram context (length payload) else item.Datagram context payload)
 plain_payload context payload true = tt
 plain_payload context payload false = tt
@@ -62,7 +58,7 @@ plain_datagram None value = tt
 plain_datagram (Some context) value = plain_payload context.0 (drop context.1 value) (nat_lt max_payload (length (drop context.1 value)))
 
 plain_item_of : (c : Capsule) → PlainOption (item_of false c)
-plain_item_of c = plain_choice (c.kind == 0) (Some (datagram_by (int_of c.value) c.value)) None (plain_datagram (int_of c.value) c.value) tt
+plain_item_of c = if_both PlainOption (c.kind == 0) (Some (datagram_by (int_of c.value) c.value)) None (plain_datagram (int_of c.value) c.value) tt
 
 plain_cons : (o : Option Item) (items : List Item) → PlainOption o → AllByRecursion PlainItem items → AllByRecursion PlainItem (Rattle.std.specs.List.cons_option o items)
 plain_cons None items h k = k
@@ -76,35 +72,23 @@ plain_head : (o : Option Head) → AllByRecursion PlainItem (head_items false o)
 plain_head None = tt
 plain_head (Some head) = tt
 
-plain_stopped : (b : Bool) (items : List Item) → AllByRecursion PlainItem items → AllByRecursion PlainItem (if b then [] else items)
-plain_stopped true items h = tt
-plain_stopped false items h = h
-
 plain_up_to_bad : (items : List Item) → AllByRecursion PlainItem items → AllByRecursion PlainItem (up_to_bad items)
 plain_up_to_bad [] h = tt
-plain_up_to_bad (i ∷ items) h = (h.0, plain_stopped (is_bad i) (up_to_bad items) (plain_up_to_bad items h.1))
+plain_up_to_bad (i ∷ items) h = (h.0, if_both (λ xs. AllByRecursion PlainItem xs) (is_bad i) [] (up_to_bad items) tt (plain_up_to_bad items h.1))
 
 plain_said : (cs : List Capsule) (rest : List ℕ) → AllByRecursion PlainItem (said false cs rest)
 plain_said cs rest = plain_up_to_bad _ (each_append PlainItem (filter_map (item_of false) cs) (head_items false (head_of rest)) (plain_items cs) (plain_head (head_of rest)))
 
 -- ---- what they ask for
 
-plain_if : (b : Bool) (x y : StreamAct) → PlainAct x → PlainAct y → PlainAct (if b then x else y)
-plain_if true x y h k = h
-plain_if false x y h k = k
-
 plain_item : (mtu n : ℕ) (i : Item) → PlainItem i → AllByRecursion PlainAct (item_acts kind.Udp mtu n i)
-plain_item mtu n (item.Datagram context payload) h = (plain_if (context == 0) _ _ (plain_if (nat_lt max_udp (length payload)) _ _ tt tt) tt, tt)
-plain_item mtu n (item.TooLongDatagram context size) h = (plain_if (context == 0) _ _ tt tt, tt)
+plain_item mtu n (item.Datagram context payload) h = (if_both PlainAct (context == 0) _ _ (if_both PlainAct (nat_lt max_udp (length payload)) _ _ tt tt) tt, tt)
+plain_item mtu n (item.TooLongDatagram context size) h = (if_both PlainAct (context == 0) _ _ tt tt, tt)
 plain_item mtu n (item.Control type value) h = absurd h
 plain_item mtu n (item.Bad fault) h = (tt, tt)
 
-plain_unless : (b : Bool) (acts : List StreamAct) → AllByRecursion PlainAct acts → AllByRecursion PlainAct (if b then [] else acts)
-plain_unless true acts h = tt
-plain_unless false acts h = h
-
 plain_then : (acts more : List StreamAct) → AllByRecursion PlainAct acts → AllByRecursion PlainAct more → AllByRecursion PlainAct (then_acts acts more)
-plain_then acts more h k = each_append PlainAct acts (if list_any is_close acts then [] else more) h (plain_unless (list_any is_close acts) more k)
+plain_then acts more h k = each_append PlainAct acts (if list_any is_close acts then [] else more) h (if_both (λ xs. AllByRecursion PlainAct xs) (list_any is_close acts) [] more tt k)
 
 plain_acts : (mtu n : ℕ) (items : List Item) → AllByRecursion PlainItem items → AllByRecursion PlainAct (acts_of kind.Udp mtu n items)
 plain_acts mtu n [] h = tt
@@ -160,13 +144,9 @@ plain_asked acts acts2 ss ss2 e f h k = record {
   streams_are = subst (λ (xs : List Stream). AllByRecursion PlainStream xs) (sym f) k;
 }
 
-plain_more_if : (b : Bool) (s : Stream) (bytes : List ℕ) → PlainStream s → PlainStream (if b then record s { bytes = s.bytes ++ bytes } else s)
-plain_more_if true s bytes h = h
-plain_more_if false s bytes h = h
-
 plain_more : (id : ℕ) (bytes : List ℕ) (ss : List Stream) → AllByRecursion PlainStream ss → AllByRecursion PlainStream (more_bytes id bytes ss)
 plain_more id bytes [] h = tt
-plain_more id bytes (s ∷ ss) h = (plain_more_if (s.id == id) s bytes h.0, plain_more id bytes ss h.1)
+plain_more id bytes (s ∷ ss) h = (if_both PlainStream (s.id == id) (record s { bytes = s.bytes ++ bytes }) s h.0 h.0, plain_more id bytes ss h.1)
 
 plain_content : (mtu id : ℕ) (bytes : List ℕ) (size : Option ℕ) (ends : Bool) (o : Option Stream) (acts : List Due) → ((s : Stream) → o ≡ Some s → PlainStream s)
     → ContentAsks mtu id bytes size ends o acts → AllByRecursion PlainDue acts

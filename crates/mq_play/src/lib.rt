@@ -1,8 +1,8 @@
 //! What a script is, and what its replay prints: settings, the lines that say what happens, the texts of notes, and plays.
 //!
-//! The definitions stand in specs/, in this reading order: Parts (how words say values), Settings, Lines, Sayings, Text (the printed
-//! lines), Sizes (which numbers they have), Events (what a line does to the state), Play (what lines print), Script (what the
-//! replay of a script prints, by how it ends), and Laws.
+//! The definitions stand in specs/, in this reading order: Parts (how words say values), Settings, Lines, Sayings, Text (the
+//! printed lines), Sizes (which numbers they have), Events (what a line does to the state), Play (what lines print), Script
+//! (what the replay of a script prints, by how it ends), and Laws.
 #![tactic(auto)]
 
 mod laws;
