@@ -5,6 +5,7 @@
 mod book;
 mod capsules;
 mod frames;
+mod h2;
 mod head;
 mod hpack;
 mod huffman;
@@ -32,6 +33,13 @@ fn checksum(alloc: Global, word: &str, count: u32) -> Option<u64> {
         "frames_1" => frames::checksum(alloc, count, 1).ok(),
         "frames_100" => frames::checksum(alloc, count, 100).ok(),
         "frames_16384" => frames::checksum(alloc, count, 16_384).ok(),
+        "h2_16384_in_1" => h2::checksum_of_data(alloc, count, 16_384, 1).ok(),
+        "h2_16384_in_100" => h2::checksum_of_data(alloc, count, 16_384, 100).ok(),
+        "h2_16384_in_16384" => h2::checksum_of_data(alloc, count, 16_384, 16_384).ok(),
+        "h2_100_in_1" => h2::checksum_of_data(alloc, count, 100, 1).ok(),
+        "h2_100_in_100" => h2::checksum_of_data(alloc, count, 100, 100).ok(),
+        "h2_100_in_16384" => h2::checksum_of_data(alloc, count, 100, 16_384).ok(),
+        "h2_requests" => h2::checksum_of_requests(alloc, count).ok(),
         "head" => head::checksum(alloc, count).ok(),
         "head_bytes" => head::checksum_by_bytes(alloc, count).ok(),
         "head_long" => head::checksum_of_long(alloc, count).ok(),
