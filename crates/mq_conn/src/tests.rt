@@ -177,7 +177,9 @@ pub fn writes(alloc: Global, conn: &mut Conn, text: &mut String) -> Result<(), F
     }
     let shown = shown(alloc, conn.owed())?;
     text.push_str(format!(in alloc; "wrote {shown}\n")?.as_str())?;
-    let count = conn.owed().len() as u32;
+    let Ok(count) = u32::try_from(conn.owed().len()) else {
+        return Err(Fail::from("too much is owed"));
+    };
     conn.wrote(count);
     Ok(())
 }

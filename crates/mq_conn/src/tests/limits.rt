@@ -7,7 +7,7 @@ use std::test::Fail;
 /// What is done with a DATAGRAM capsule whose payload has so many bytes, in this context.
 fn with_payload(alloc: Global, outside: Outside, context: u8, count: u32) -> Result<String, Fail> {
     let mut capsule = Vec::from_slice(alloc, &[0])?;
-    capsule.extend_from_slice(&(0x8000_0000 | (count + 1)).to_be_bytes())?;
+    capsule.extend_from_slice(&(0x8000_0000 | count.saturating_add(1)).to_be_bytes())?;
     capsule.push(context)?;
     for _ in 0..count {
         capsule.push(0x61)?;

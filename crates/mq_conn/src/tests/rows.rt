@@ -65,7 +65,9 @@ fn refused(alloc: Global, status: &str, before: &str) -> Result<String, Fail> {
         "HTTP/1.1 {status}\r\nConnection: close\r\nContent-Length: 0\r\n\r\n"
     )?;
     let hex = hex::encode(alloc, text.as_bytes())?;
-    let (code, _) = status.split_at(3);
+    let Some((code, _)) = status.split_once(' ') else {
+        return Err(Fail::from("no status"));
+    };
     Ok(format!(in alloc; "{before}refused 0 0 {code} 0\nwrote {hex}\nended Refused\n")?)
 }
 
