@@ -4,3 +4,4 @@ pub mod Parts
 pub mod Stepping
 pub mod Answering
 pub mod Texts
+pub mod Growth
