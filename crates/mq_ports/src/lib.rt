@@ -1,0 +1,6 @@
+//! The bound UDP ports of a worker: each stands in a table under a key, from its bind until it is handed back.
+#![tactic(auto)]
+
+mod table;
+
+pub use table::PortTable;
