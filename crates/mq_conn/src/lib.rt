@@ -13,5 +13,6 @@ pub mod items;
 pub mod judge;
 pub mod next;
 pub mod owed;
+pub mod payload;
 pub mod queue;
 pub mod want;

@@ -1,7 +1,8 @@
 //! What a connection wants, and what it can do beside that.
-ghost use Rattle.std.specs.Prelude.{◌≡◌, ◌≤◌, ◌∷◌, Some, None, not, List, length, IfOk};
+ghost use Rattle.std.specs.Prelude.{◌≡◌, ◌≤◌, ◌∷◌, Some, None, not, List, length, IfOk, OnErr, true};
 ghost use Rattle.mq_machine.specs.State as machine;
 ghost use Rattle.mq_machine.specs.Settle.{gives_up};
+ghost use Rattle.mq_machine.specs.Silent.{takes_memory};
 ghost use Rattle.mq_machine.specs.Steps as steps;
 ghost use Rattle.mq_machine.specs.Steps.{is_nothing};
 ghost use Rattle.mq_machine.specs.declared.act.Due.{Due};
@@ -76,9 +77,10 @@ impl Conn {
         self.can_go_on() && !self.finished
     }
 
-    /// What it wants next.
+    /// What it wants next. To tell it takes memory only where its answer does.
     pub fn next(&self) -> Result<Want, NoMemory>
-        ensures { IfOk result (λ w. (s : machine.Conn) → IsConn self.now s → IsWant w (want_of s)) }
+        ensures want { IfOk result (λ w. (s : machine.Conn) → IsConn self.now s → IsWant w (want_of s)) }
+        ensures memory { OnErr result ((s : machine.Conn) → IsConn self.now s → takes_memory (want_of s) ≡ true) }
     {
         match self.ending {
             Some(why) => Ok(self.want_ending(why)),

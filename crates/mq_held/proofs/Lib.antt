@@ -1,0 +1,4 @@
+pub mod Writing
+pub mod Reading
+pub mod Sending
+pub mod Receiving

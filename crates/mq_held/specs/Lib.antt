@@ -1,0 +1,4 @@
+pub mod Links
+pub mod Ports
+pub mod Frames
+pub mod Seats
