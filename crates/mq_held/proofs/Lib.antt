@@ -2,3 +2,5 @@ pub mod Writing
 pub mod Reading
 pub mod Sending
 pub mod Receiving
+pub mod Fronts
+pub mod Seating

@@ -2,3 +2,4 @@ pub mod Links
 pub mod Ports
 pub mod Frames
 pub mod Seats
+pub mod Answers

@@ -1,6 +1,8 @@
 //! One connection on its link and its ports: how it writes, reads, sends and receives. It decides nothing of the order.
 #![tactic(auto)]
 
+mod ask;
+mod bind;
 mod datagrams;
 mod frame;
 mod held;
@@ -13,6 +15,7 @@ mod tests;
 mod went;
 mod write;
 
+pub use ask::Heard;
 pub use datagrams::{Came, Datagrams};
 pub use held::{Held, PortSeat};
 pub use went::Went;
