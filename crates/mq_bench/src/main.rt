@@ -2,8 +2,10 @@
 //! The scripts under `bench/` time it from outside.
 #![tactic(auto)]
 
+mod book;
 mod capsules;
 mod frames;
+mod h2;
 mod head;
 mod hpack;
 mod huffman;
@@ -19,18 +21,34 @@ use std::process::ExitCode;
 /// The checksum of a piece of work, where there is one of this name and it found its memory.
 fn checksum(alloc: Global, word: &str, count: u32) -> Option<u64> {
     match word {
+        "book_10" => book::checksum_of_named(alloc, count, 10).ok(),
+        "book_1000" => book::checksum_of_named(alloc, count, 1_000).ok(),
+        "book_10000" => book::checksum_of_named(alloc, count, 10_000).ok(),
+        "book_any_10" => book::checksum_of_any(alloc, count, 10).ok(),
+        "book_any_1000" => book::checksum_of_any(alloc, count, 1_000).ok(),
+        "book_any_10000" => book::checksum_of_any(alloc, count, 10_000).ok(),
         "capsules_1" => capsules::checksum(alloc, count, 1).ok(),
         "capsules_100" => capsules::checksum(alloc, count, 100).ok(),
         "capsules_16384" => capsules::checksum(alloc, count, 16_384).ok(),
         "frames_1" => frames::checksum(alloc, count, 1).ok(),
         "frames_100" => frames::checksum(alloc, count, 100).ok(),
         "frames_16384" => frames::checksum(alloc, count, 16_384).ok(),
+        "h2_16384_in_1" => h2::checksum_of_data(alloc, count, 16_384, 1).ok(),
+        "h2_16384_in_100" => h2::checksum_of_data(alloc, count, 16_384, 100).ok(),
+        "h2_16384_in_16384" => h2::checksum_of_data(alloc, count, 16_384, 16_384).ok(),
+        "h2_100_in_1" => h2::checksum_of_data(alloc, count, 100, 1).ok(),
+        "h2_100_in_100" => h2::checksum_of_data(alloc, count, 100, 100).ok(),
+        "h2_100_in_16384" => h2::checksum_of_data(alloc, count, 100, 16_384).ok(),
+        "h2_requests" => h2::checksum_of_requests(alloc, count).ok(),
         "head" => head::checksum(alloc, count).ok(),
         "head_bytes" => head::checksum_by_bytes(alloc, count).ok(),
         "head_long" => head::checksum_of_long(alloc, count).ok(),
         "hpack" => hpack::checksum(alloc, count),
         "hpack_write" => hpack::checksum_written(alloc, count),
         "huffman" => huffman::checksum(alloc, count).ok(),
+        "judge_10" => book::checksum_of_judging(alloc, count, 10).ok(),
+        "judge_1000" => book::checksum_of_judging(alloc, count, 1_000).ok(),
+        "judge_10000" => book::checksum_of_judging(alloc, count, 10_000).ok(),
         "packets" => packets::checksum(alloc, count).ok(),
         "policy" => policy::checksum(alloc, count).ok(),
         "streams" => streams::checksum(alloc, count).ok(),

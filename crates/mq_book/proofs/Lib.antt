@@ -8,3 +8,5 @@ pub mod Standing
 pub mod Judged
 pub mod Treating
 pub mod Changes
+pub mod OneMeet
+pub mod OneAnswer

@@ -27,6 +27,10 @@ Fits call reply = ⊥
 abbrev pub EachReplyFits : Type 0
 EachReplyFits = (config : Config) (h : History) (call : Call) (reply : Reply) → IsAnswer config h call reply → Fits call reply
 
+-- a call has one answer, whatever the history
+abbrev pub HasOneAnswer : Type 0
+HasOneAnswer = (config : Config) (h : History) (call : Call) (a b : Reply) → IsAnswer config h call a → IsAnswer config h call b → a ≡ b
+
 -- what a legal history begins with is legal
 abbrev pub BeginsLegal : Type 0
 BeginsLegal = (config : Config) (h : History) (n : ℕ) → IsLegal config h → IsLegal config (take n h)

@@ -1,5 +1,5 @@
 //! The book.
-ghost use Rattle.std.specs.Prelude.{◌≡◌, ◌↔◌, ◌++◌, ◌∷◌, [], IsTrue, IfOk, OnErr};
+ghost use Rattle.std.specs.Prelude.{◌≡◌, ◌↔◌, ◌++◌, ◌∷◌, [], length, IsTrue, IfOk, OnErr};
 ghost use Rattle.mq_talk.specs.Answers.{IsAnswer, IsLegal, IsMine, MayCall, recorded};
 ghost use Rattle.mq_talk.specs.Book.{is_live};
 ghost use Rattle.mq_talk.specs.Config.{IsConfig};
@@ -100,6 +100,13 @@ impl Book {
         ensures legal { IsLegal self.now.config self.now.history }
     {
         self.ledger.history.as_slice()
+    }
+
+    /// How many entries there are.
+    pub fn count(&self) -> u32
+        ensures { result ≡ length self.now.history }
+    {
+        self.ledger.count()
     }
 
     /// Whether a tunnel is live.

@@ -1,9 +1,14 @@
 //! What holds of every history, and of every legal one. The functions do nothing.
-ghost use Rattle.mq_book.specs.Laws.{BeginsLegal, EachReplyFits, HasOneOwner, HasOneVerdict, IsOwnedOnce};
+ghost use Rattle.mq_book.specs.Laws.{BeginsLegal, EachReplyFits, HasOneAnswer, HasOneOwner, HasOneVerdict, IsOwnedOnce};
 
 /// A reply is of a kind that its call may get.
 pub fn each_reply_fits()
     ensures { EachReplyFits }
+{}
+
+/// A history and a call determine the answer.
+pub fn one_answer()
+    ensures { HasOneAnswer }
 {}
 
 /// What a legal history begins with is legal.

@@ -237,7 +237,7 @@ impl Ledger {
     }
 
     /// How many entries there are.
-    fn count(&self) -> u32
+    pub fn count(&self) -> u32
         requires { Stands self.now }
         ensures { result ≡ length self.now.history.items }
     {

@@ -3,14 +3,13 @@ use Rattle.std.proofs.Common.{◌≡◌, ℕ, zero, suc, cond, nat_lt, inl, inr,
 use Rattle.std.specs.Prelude.{filter, IfOk, OnOk, OnErr}
 use Rattle.std.specs.Option.{is_some}
 use Rattle.std.proofs.lemmas.List.{length-append, length-drop, drop-drop}
-use Rattle.mq_head.specs.Answers.{refusal_text, success_text}
+use Rattle.mq_head.specs.Answers.{refusal_text}
 use Rattle.mq_wire.specs.declared.NoMemory.{NoMemory}
 use Rattle.mq_talk.specs.declared.goal.Goal.{Goal}
 use Rattle.mq_talk.specs.declared.note.End.{End}
 use Rattle.mq_talk.specs.declared.note.End.TheVariants as end
 use Rattle.mq_talk.specs.declared.note.Note.{Note}
 use Rattle.mq_talk.specs.declared.note.Note.TheVariants as note
-use Rattle.mq_machine.specs.declared.act.Act.{Act}
 use Rattle.mq_machine.specs.declared.act.Act.TheVariants as act
 use Rattle.mq_machine.specs.declared.act.StreamAct.{StreamAct}
 use Rattle.mq_machine.specs.declared.act.StreamAct.TheVariants as stream
@@ -38,7 +37,7 @@ use Rattle.mq_conn.specs.declared.conn.Tunnel.{Tunnel}
 use Rattle.mq_conn.specs.declared.conn.First.TheVariants as first
 use Rattle.mq_conn.specs.declared.front.Front.{Front}
 use Rattle.mq_conn.specs.declared.front.Front.TheVariants as front
-use Rattle.mq_conn.specs.Conns.{IsConn, IsRead, IsDue, Follows, FollowsFirst, IsUdp, IsAsked, InStream, Keeps, Does, Tries, CanPut, PutsNote, Past, state, behind, act_of, given_up, tunnels_of, tunnel_is}
+use Rattle.mq_conn.specs.Conns.{IsConn, IsRead, IsDue, Follows, FollowsFirst, IsAsked, Keeps, Does, Tries, CanPut, PutsNote, Past, state, behind, act_of, given_up, tunnels_of, tunnel_is}
 use Rattle.mq_conn.proofs.Standing.{shut}
 
 -- ---- nothing else is asked of a stream that closes

@@ -1,6 +1,6 @@
 -- A packet comes to a tunnel.
-use Rattle.std.proofs.Common.{◌≡◌, ℕ, ◌+◌, ◌==◌, cond, Bool, true, false, not, ◌||◌, nat_le, nat_lt, List, [], ◌∷◌, ◌++◌, length, Option, Some, None, refl, sym, ap, ◌∙◌, subst, zero-add, eq-eqb}
-use Rattle.std.specs.Prelude.{filter, find}
+use Rattle.std.proofs.Common.{◌≡◌, ℕ, ◌+◌, cond, Bool, true, false, not, ◌||◌, nat_le, nat_lt, List, [], ◌∷◌, ◌++◌, length, Option, Some, None, refl, sym, ap, ◌∙◌, subst, zero-add, eq-eqb}
+use Rattle.std.specs.Prelude.{filter}
 use Rattle.std.specs.Option.{is_some}
 use Rattle.mq_capsule.specs.Writing.{capsule_text, datagram}
 use Rattle.mq_talk.specs.declared.note.From.{From}
@@ -8,15 +8,13 @@ use Rattle.mq_talk.specs.declared.note.Note.{Note}
 use Rattle.mq_talk.specs.declared.note.Note.TheVariants as note
 use Rattle.mq_talk.specs.declared.place.Cause.TheVariants as cause
 use Rattle.mq_machine.specs.Done.{with_waiting}
-use Rattle.mq_machine.specs.Settle.{settle}
 use Rattle.mq_machine.specs.State as machine
 use Rattle.mq_machine.specs.State.{Waiting, is_packet, tunnel_of, waiting_bytes}
-use Rattle.mq_machine.specs.Steps.{queued, settled_note}
+use Rattle.mq_machine.specs.Steps.{settled_note}
 use Rattle.mq_conn.specs.declared.conn.Conn.{Conn}
 use Rattle.mq_conn.specs.declared.conn.Tunnel.{Tunnel}
-use Rattle.mq_conn.specs.declared.queue.Packet.{Packet}
-use Rattle.mq_conn.specs.Conns.{IsConn, IsDue, IsUdpTunnel, Past, state, behind, tunnel_is, tunnels_of}
-use Rattle.mq_conn.specs.Frames.{Comes, Delivers}
+use Rattle.mq_conn.specs.Conns.{IsConn, IsDue, IsUdpTunnel, Past, state, tunnel_is, tunnels_of}
+use Rattle.mq_conn.specs.Frames.{Comes}
 use Rattle.mq_conn.specs.Queues.{waiting_of, size_of}
 use Rattle.mq_conn.proofs.Acting.{settles}
 

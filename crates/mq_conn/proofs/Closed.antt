@@ -1,6 +1,6 @@
 -- A tunnel closes.
-use Rattle.std.proofs.Common.{◌≡◌, ◌≢◌, ℕ, ◌==◌, cond, Bool, true, false, not, List, [], ◌∷◌, ◌++◌, length, drop, Option, Some, None, refl, sym, ap, ◌∙◌, subst, append-nil, eq-eqb}
-use Rattle.std.specs.Prelude.{filter, option_map, MatchOption}
+use Rattle.std.proofs.Common.{◌≡◌, ◌≢◌, ℕ, ◌==◌, cond, Bool, true, not, List, [], ◌∷◌, ◌++◌, length, Option, Some, None, refl, sym, ap, ◌∙◌, subst, append-nil, eq-eqb}
+use Rattle.std.specs.Prelude.{filter, MatchOption}
 use Rattle.std.specs.Option.{is_some}
 use Rattle.mq_talk.specs.declared.book.Reply.TheVariants as reply
 use Rattle.mq_talk.specs.declared.note.End.{End}
@@ -13,17 +13,16 @@ use Rattle.mq_machine.specs.declared.act.StreamAct.{StreamAct}
 use Rattle.mq_machine.specs.declared.act.StreamAct.TheVariants as stream
 use Rattle.mq_machine.specs.declared.act.Due.{Due}
 use Rattle.mq_machine.specs.declared.act.Due.TheVariants as due
-use Rattle.mq_machine.specs.Done.{Done, Putting, done, is_on, stream_done, closed, closing as puts_closing, http1_end, first_of}
-use Rattle.mq_machine.specs.Settle.{settle, passing}
+use Rattle.mq_machine.specs.Done.{Done, Putting, done, is_on, stream_done, closing as puts_closing, http1_end, first_of}
+use Rattle.mq_machine.specs.Settle.{passing}
 use Rattle.mq_machine.specs.State as machine
 use Rattle.mq_machine.specs.State.{Stream, Head, OverHttp1, tunnel_on, is_packet}
-use Rattle.mq_machine.specs.Steps.{settled_note}
-use Rattle.mq_machine.specs.Want.{Answer, Replied}
+use Rattle.mq_machine.specs.Want.{Replied}
 use Rattle.mq_conn.specs.declared.conn.Conn.{Conn}
 use Rattle.mq_conn.specs.declared.conn.First.{First}
 use Rattle.mq_conn.specs.declared.conn.First.TheVariants as first
 use Rattle.mq_conn.specs.declared.conn.Tunnel.{Tunnel}
-use Rattle.mq_conn.specs.Closing.{closing, close_first, close_due}
+use Rattle.mq_conn.specs.Closing.{closing, close_due}
 use Rattle.mq_conn.specs.Conns.{IsConn, IsDue, Follows, IsAsked, Does, Past, state, behind, given_up, tunnel_is, tunnels_of}
 use Rattle.mq_conn.proofs.Standing.{shut}
 use Rattle.mq_conn.proofs.Acting.{Acts, acting, done_acting, begins, pops, without_all, no_streams}

@@ -1,6 +1,5 @@
 -- What a piece leads to.
-use Rattle.std.proofs.Common.{◌≡◌, ◌≢◌, ℕ, ◌+◌, ◌<◌, ◌≤◌, ◌==◌, cond, min, nat_lt, Bool, true, false, ◌&&◌, List, [], ◌∷◌, ◌++◌, length, drop, Option, Some, None, Result, Ok, Err, refl, sym, ap, ◌∙◌, subst, append_assoc, append-nil, arith}
-use Rattle.std.specs.Prelude.{option_map, IfOk}
+use Rattle.std.proofs.Common.{◌≡◌, ℕ, ◌+◌, ◌==◌, cond, nat_lt, Bool, true, false, List, [], ◌∷◌, ◌++◌, length, drop, Option, Some, None, refl, sym, ap, ◌∙◌, subst, arith}
 use Rattle.std.specs.List.{filter_map, cons_option, list_any}
 use Rattle.mq_wire.specs.Integer.{int_of}
 use Rattle.mq_addr.specs.declared.addr.Addr.{Addr}
@@ -8,23 +7,19 @@ use Rattle.mq_addr.specs.declared.kind.Kind.TheVariants as kind
 use Rattle.mq_capsule.specs.declared.head.Head as capsule_head
 use Rattle.mq_capsule.specs.declared.item.Item.{Item}
 use Rattle.mq_capsule.specs.declared.item.Item.TheVariants as item
-use Rattle.mq_capsule.specs.declared.reader.Reader.{Reader}
 use Rattle.mq_capsule.specs.Capsule.{Capsule, head_of}
-use Rattle.mq_capsule.specs.Items.{ItemsOf, item_of, datagram_by, payload_item, head_items, up_to_bad, is_bad, max_payload}
-use Rattle.mq_capsule.specs.Readers.{Stands, StandsOn, GivesItems}
-use Rattle.mq_talk.specs.declared.goal.Goal.{Goal}
+use Rattle.mq_capsule.specs.Items.{ItemsOf, item_of, datagram_by, head_items, up_to_bad, is_bad, max_payload}
+use Rattle.mq_capsule.specs.Readers.{StandsOn, GivesItems}
 use Rattle.mq_talk.specs.declared.goal.Goal.TheVariants as goal
 use Rattle.mq_talk.specs.declared.note.Why.TheVariants as why
 use Rattle.mq_talk.specs.declared.place.Cause.TheVariants as cause
-use Rattle.mq_machine.specs.declared.act.Act.TheVariants as act
 use Rattle.mq_machine.specs.declared.act.StreamAct.{StreamAct}
 use Rattle.mq_machine.specs.declared.act.StreamAct.TheVariants as stream
 use Rattle.mq_machine.specs.declared.act.Due.{Due}
-use Rattle.mq_machine.specs.declared.act.Due.TheVariants as due
-use Rattle.mq_machine.specs.Reading.{BytesAsk, acts_of, item_acts, udp_act, in_context, payload_count, is_payload, is_close, on_stream, then_acts, max_udp}
+use Rattle.mq_machine.specs.Reading.{BytesAsk, acts_of, item_acts, udp_act, in_context, payload_count, is_payload, is_close, on_stream, max_udp}
 use Rattle.mq_conn.specs.declared.front.DataStream.{DataStream}
-use Rattle.mq_conn.specs.Conns.{InStream, Follows, IsAsked}
-use Rattle.mq_conn.specs.Feeding.{Asks, ReadsOn, ReadsData}
+use Rattle.mq_conn.specs.Conns.{Follows, IsAsked}
+use Rattle.mq_conn.specs.Feeding.{Asks, ReadsData}
 use Rattle.mq_conn.specs.Items.{HasNoValue, HaveNoValue, Puts}
 use Rattle.mq_conn.proofs.ItemLists.{then_none}
 

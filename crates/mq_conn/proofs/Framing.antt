@@ -1,23 +1,24 @@
 -- A capsule is framed.
-use Rattle.std.proofs.Common.{◌≡◌, ℕ, ◌+◌, ◌<◌, ◌==◌, cond, Bool, true, false, not, ◌||◌, nat_le, nat_lt, List, [], ◌∷◌, ◌++◌, length, take, drop, Option, Some, None, refl, sym, ap, ◌∙◌, subst, zero-add, eq-eqb, arith}
-use Rattle.std.specs.Prelude.{filter, find, option_map, option_and_then}
+use Rattle.std.proofs.Common.{◌≡◌, ℕ, ◌+◌, ◌<◌, cond, Bool, true, false, not, nat_le, nat_lt, List, [], ◌∷◌, ◌++◌, length, drop, Option, Some, None, refl, sym, ap, ◌∙◌, subst, eq-eqb, arith}
+use Rattle.std.specs.Prelude.{find, option_map, option_and_then}
 use Rattle.std.specs.Option.{is_some}
 use Rattle.std.proofs.Math.Seq.{take-length}
 use Rattle.mq_capsule.specs.Writing.{capsule_text, datagram}
 use Rattle.mq_talk.specs.declared.note.End.{End}
+use Rattle.mq_talk.specs.declared.note.End.TheVariants as end
 use Rattle.mq_talk.specs.declared.note.Note.{Note}
 use Rattle.mq_talk.specs.declared.note.Note.TheVariants as note
 use Rattle.mq_machine.specs.declared.act.Due.{Due}
 use Rattle.mq_machine.specs.State as machine
 use Rattle.mq_machine.specs.State.{Waiting, Head, OverHttp1}
-use Rattle.mq_machine.specs.Steps.{framed, framed_front, framed_by, next_framed, can_frame, can_go_on, tunnels_from, settled_note, set_waiting, frame_size, framing}
+use Rattle.mq_machine.specs.Steps.{framed, framed_front, framed_by, can_frame, can_go_on, tunnels_from, settled_note, set_waiting, frame_size, framing}
 use Rattle.std.proofs.lemmas.Bool.Decides.{nat_tests}
 use Rattle.mq_machine.specs.Settle.{settle}
 use Rattle.mq_conn.specs.declared.conn.Conn.{Conn}
 use Rattle.mq_conn.specs.declared.conn.First.{First}
 use Rattle.mq_conn.specs.declared.conn.Tunnel.{Tunnel}
 use Rattle.mq_conn.specs.declared.queue.Packet.{Packet}
-use Rattle.mq_conn.specs.Conns.{IsConn, IsDue, IsUdpTunnel, Past, state, behind, tunnel_is, tunnels_of}
+use Rattle.mq_conn.specs.Conns.{IsConn, IsDue, IsUdpTunnel, Past, Refuses, state, tunnels_of}
 use Rattle.mq_conn.specs.Frames.{Framed, PutsFirst, PopsFirst}
 use Rattle.mq_conn.specs.Queues.{waiting_of}
 use Rattle.mq_conn.proofs.Acting.{settles, owed_more, given_more}
@@ -137,3 +138,10 @@ frames c d said f s stands =
           ∙ ap (λ (z : machine.Conn). Some (note.Delivered f.p.from f.p.n t.id f.p.packet, z)) (settles c.ending p.front (is_some c.tunnel) c.first c.due (state e q) stands.due)
           ∙ ap (λ (n : Note). Some (n, state e q)) (sym f.said_is),
     )
+
+-- one that can go on wasn't refused memory
+pub goes_unspent : (c : Conn) (done : Bool) → ((s : machine.Conn) → IsConn c s → can_go_on s ≡ true) → Refuses c done
+goes_unspent c done goes s stands spent =
+    let idle = goes_on c s stands (goes s stands) in
+    let e : None ≡ Some end.NoMemory = sym idle.ending ∙ ap (λ (x : machine.Conn). x.ending) (sym stands.is) ∙ spent in
+    absurd cc

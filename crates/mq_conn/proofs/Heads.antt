@@ -1,5 +1,5 @@
 -- What a piece of a head leads to, and a piece behind it.
-use Rattle.std.proofs.Common.{◌≡◌, ◌≢◌, ℕ, ◌+◌, ◌≤◌, min, Bool, true, false, List, [], ◌∷◌, ◌++◌, length, drop, Option, Some, None, Result, Ok, Err, refl, sym, ap, ◌∙◌, subst, append_assoc, append-nil, arith}
+use Rattle.std.proofs.Common.{◌≡◌, ◌≢◌, ℕ, min, Bool, true, false, List, [], ◌∷◌, ◌++◌, length, drop, Option, Some, None, Result, Ok, Err, refl, sym, ap, ◌∙◌, subst, append_assoc, append-nil, arith}
 use Rattle.std.specs.Prelude.{option_map, IfOk}
 use Rattle.mq_addr.specs.declared.addr.Addr.{Addr}
 use Rattle.mq_addr.specs.declared.kind.Kind.{Kind}
@@ -10,13 +10,10 @@ use Rattle.mq_capsule.specs.Readers.{Stands}
 use Rattle.mq_wire.specs.declared.NoMemory.{NoMemory}
 use Rattle.mq_policy.specs.Names.{NameTable}
 use Rattle.mq_head.specs.declared.reader.HeadReader.{HeadReader}
-use Rattle.mq_head.specs.declared.step.HeadStep.{HeadStep}
 use Rattle.mq_head.specs.declared.step.HeadStep.TheVariants.{More, Upgrade, Refuse}
 use Rattle.mq_head.specs.Reader.{IsHeadOf}
 use Rattle.mq_head.specs.Steps.{IsStep}
-use Rattle.mq_policy.specs.Decisions.{Decides, DecidesGoal}
 use Rattle.mq_policy.specs.Goals.{goal_of, addr_of}
-use Rattle.mq_policy.specs.declared.decision.Decision.{Decision}
 use Rattle.mq_policy.specs.declared.decision.Decision.TheVariants.{Go, Denied, UnknownName}
 use Rattle.mq_talk.specs.declared.goal.Goal.{Goal}
 use Rattle.mq_talk.specs.declared.goal.Goal.TheVariants as goal
@@ -34,14 +31,14 @@ use Rattle.mq_machine.specs.declared.act.StreamAct.{StreamAct}
 use Rattle.mq_machine.specs.declared.act.Due.{Due}
 use Rattle.mq_machine.specs.declared.act.Due.TheVariants as due
 use Rattle.mq_machine.specs.declared.setup.Setup.{Setup}
-use Rattle.mq_machine.specs.Reading.{HeadBrings, StepBrings, StreamEvent, Request, Content, Meaning, Leads, Refused, PathMeans, MatchedMeans, decided, content_of, EventsAsk, ContentAsks, BytesAsk, on_stream}
+use Rattle.mq_machine.specs.Reading.{HeadBrings, Request, Leads, Refused, PathMeans, MatchedMeans, content_of, EventsAsk, on_stream}
 use Rattle.mq_machine.specs.State as machine
 use Rattle.mq_machine.specs.State.{Stream, Head as InHead, OverHttp1}
 use Rattle.mq_conn.specs.declared.front.DataStream.{DataStream}
 use Rattle.mq_conn.specs.declared.front.Front.{Front}
 use Rattle.mq_conn.specs.declared.front.Front.TheVariants as front
-use Rattle.mq_conn.specs.Conns.{InStream, IsRead, IsDue, IsBegun, Follows, IsUdp}
-use Rattle.mq_conn.specs.Feeding.{Asks, ReadsOn, ReadsData, ReadsFirst, ReadTo, Reads, ReadsHead}
+use Rattle.mq_conn.specs.Conns.{IsRead, IsBegun, Follows, IsUdp}
+use Rattle.mq_conn.specs.Feeding.{Asks, ReadsOn, ReadsData, ReadsFirst, ReadTo, ReadsHead}
 
 -- ---- a path of a UDP template leads to UDP
 

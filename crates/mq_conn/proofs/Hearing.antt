@@ -1,10 +1,10 @@
 -- What the book's replies do.
-use Rattle.std.proofs.Common.{◌≡◌, ◌≢◌, ℕ, zero, suc, cond, ◌==◌, Bool, true, false, not, List, [], ◌∷◌, ◌++◌, length, drop, Option, Some, None, Result, Ok, Err, refl, sym, ap, ◌∙◌, subst, append-nil}
-use Rattle.std.specs.Prelude.{filter, IfOk, OnOk, OnErr, option_map}
+use Rattle.std.proofs.Common.{◌≡◌, ◌≢◌, ℕ, Bool, true, false, List, [], ◌∷◌, ◌++◌, Option, Some, None, Result, Ok, Err, refl, sym, ap, ◌∙◌, subst}
+use Rattle.std.specs.Prelude.{IfOk, OnOk, OnErr, option_map}
 use Rattle.std.specs.Option.{is_some}
 use Rattle.mq_addr.specs.declared.range.Range.{Range}
 use Rattle.mq_addr.specs.declared.kind.Kind.TheVariants as kind
-use Rattle.mq_head.specs.Answers.{refusal_text, success_text}
+use Rattle.mq_head.specs.Answers.{success_text}
 use Rattle.mq_wire.specs.declared.NoMemory.{NoMemory}
 use Rattle.mq_talk.specs.declared.book.Call.TheVariants as call
 use Rattle.mq_talk.specs.declared.book.Reply.{Reply}
@@ -15,15 +15,13 @@ use Rattle.mq_talk.specs.declared.note.End.{End}
 use Rattle.mq_talk.specs.declared.note.End.TheVariants as end
 use Rattle.mq_talk.specs.declared.note.Note.{Note}
 use Rattle.mq_talk.specs.declared.note.Note.TheVariants as note
-use Rattle.mq_talk.specs.declared.note.Why.{Why}
-use Rattle.mq_talk.specs.declared.note.Why.TheVariants as why
 use Rattle.mq_machine.specs.declared.act.Act.TheVariants as act
 use Rattle.mq_machine.specs.declared.act.StreamAct.{StreamAct}
 use Rattle.mq_machine.specs.declared.act.StreamAct.TheVariants as stream
 use Rattle.mq_machine.specs.declared.act.Due.{Due}
 use Rattle.mq_machine.specs.declared.act.Due.TheVariants as due
-use Rattle.mq_machine.specs.Done.{Done, done, is_on, stream_done, tunnel_done, closed, closing, http1_end, first_waiting}
-use Rattle.mq_machine.specs.Settle.{settle, passing}
+use Rattle.mq_machine.specs.Done.{Done, done, stream_done, tunnel_done, first_waiting}
+use Rattle.mq_machine.specs.Settle.{passing}
 use Rattle.mq_machine.specs.Silent.{tunnels_after}
 use Rattle.mq_machine.specs.State as machine
 use Rattle.mq_machine.specs.State.{Stream, Head, OverHttp1, tunnel_on, kind_of, is_packet}
@@ -33,10 +31,9 @@ use Rattle.mq_conn.specs.declared.conn.Conn.{Conn}
 use Rattle.mq_conn.specs.declared.conn.First.{First}
 use Rattle.mq_conn.specs.declared.conn.First.TheVariants as first
 use Rattle.mq_conn.specs.declared.conn.Tunnel.{Tunnel}
-use Rattle.mq_conn.specs.declared.front.Front.TheVariants as front
-use Rattle.mq_conn.specs.Conns.{IsConn, IsDue, Follows, FollowsFirst, IsUdp, IsAsked, Does, Keeps, Hears, HearsNone, Past, state, behind, act_of, given_up, tunnel_is, tunnels_of, heard}
+use Rattle.mq_conn.specs.Conns.{IsConn, IsDue, IsUdp, Does, Keeps, Hears, HearsNone, Past, state, behind, given_up, tunnels_of, heard}
 use Rattle.mq_conn.proofs.Standing.{shut, gives_up}
-use Rattle.mq_conn.proofs.Acting.{Acts, acting, done_acting, does_so, begins, pops, without_all, no_streams, passes, due_from, owed_more, given_more, refused_conn, history_full, want_acting}
+use Rattle.mq_conn.proofs.Acting.{acting, done_acting, does_so, begins, passes, due_from, owed_more, given_more, refused_conn, history_full, want_acting}
 
 -- ---- no answer to it
 

@@ -1,5 +1,5 @@
 -- What items ask for, one behind the other.
-use Rattle.std.proofs.Common.{◌≡◌, ℕ, ◌+◌, Bool, true, false, cond, ◌||◌, List, [], ◌∷◌, ◌++◌, Option, Some, None, refl, sym, ap, ◌∙◌, subst, arith, append_assoc, append-nil}
+use Rattle.std.proofs.Common.{◌≡◌, ℕ, ◌+◌, Bool, true, false, cond, ◌||◌, List, [], ◌∷◌, ◌++◌, refl, sym, ap, ◌∙◌, arith, append_assoc, append-nil}
 use Rattle.std.proofs.lemmas.List.{nil_from_length}
 use Rattle.std.specs.Iterator.{Yields}
 use Rattle.std.specs.List.{list_any}
@@ -7,13 +7,12 @@ use Rattle.std.specs.Vec.Iter.{into_iter_items, into_iter_len, into_iter_steps}
 use Rattle.std.specs.declared.vec.IntoIter.{IntoIter}
 use Rattle.mq_addr.specs.declared.kind.Kind.TheVariants as kind
 use Rattle.mq_capsule.specs.declared.item.Item.{Item}
-use Rattle.mq_capsule.specs.declared.item.Item.TheVariants as item
 use Rattle.mq_machine.specs.declared.act.Act.TheVariants as act
 use Rattle.mq_machine.specs.declared.act.Due.{Due}
 use Rattle.mq_machine.specs.declared.act.Due.TheVariants as due
 use Rattle.mq_machine.specs.declared.act.StreamAct.{StreamAct}
 use Rattle.mq_machine.specs.Reading.{item_acts, acts_of, payload_count, is_payload, is_close, on_stream, then_acts}
-use Rattle.mq_conn.specs.Items.{HasNoValue, HaveNoValue, PutsItem, PutsUnless, Puts}
+use Rattle.mq_conn.specs.Items.{HasNoValue, HaveNoValue, PutsUnless}
 
 abbrev pub close_in : List StreamAct → Bool
 close_in acts = list_any is_close acts

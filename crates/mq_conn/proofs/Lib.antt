@@ -9,3 +9,4 @@ mod Heads
 mod Took
 mod Came
 mod Framing
+mod Sending

@@ -20,7 +20,7 @@ use Rattle.mq_conn.specs.declared.conn.First.TheVariants as first
 use Rattle.mq_conn.specs.declared.conn.Tunnel.{Tunnel}
 use Rattle.mq_conn.specs.declared.front.Front.{Front}
 use Rattle.mq_conn.specs.Conns.{IsConn, IsRead, IsDue, IsAsked, Follows, FollowsFirst, Past, state, behind, act_of, tunnel_is, tunnels_of}
-use Rattle.mq_conn.specs.Feeding.{Reads, ReadTo}
+use Rattle.mq_conn.specs.Feeding.{Reads}
 use Rattle.mq_conn.proofs.Acting.{acting, begins, pops, want_acting, some_live, settles}
 
 both : (a b : Bool) → (a && b) ≡ true → (a ≡ true) × (b ≡ true)

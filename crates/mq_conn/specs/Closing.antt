@@ -1,6 +1,7 @@
 -- Which act closes a tunnel.
-use Rattle.std.specs.Prelude.{List, [], ◌∷◌, Option, Some, None}
+use Rattle.std.specs.Prelude.{Bool, true, false, List, [], ◌∷◌, Option, Some, None}
 use Rattle.mq_talk.specs.declared.note.End.{End}
+use Rattle.mq_talk.specs.declared.note.End.TheVariants as end
 use Rattle.mq_talk.specs.declared.note.Why.{Why}
 use Rattle.mq_talk.specs.declared.note.Why.TheVariants as why
 use Rattle.mq_machine.specs.declared.act.Act.{Act}
@@ -46,3 +47,14 @@ abbrev pub closing : Option End → Option First → List Due → Option Why
 closing (Some end) first dues = Some why.Conn
 closing None (Some first) dues = close_first first
 closing None None dues = close_dues dues
+
+-- memory was refused
+abbrev pub is_spent : Option End → Bool
+is_spent None = false
+is_spent (Some end.NoMemory) = true
+is_spent (Some end.Done) = false
+is_spent (Some end.Truncated) = false
+is_spent (Some end.Link) = false
+is_spent (Some (end.Protocol code)) = false
+is_spent (Some end.Refused) = false
+is_spent (Some end.Tunnel) = false

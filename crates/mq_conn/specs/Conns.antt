@@ -28,7 +28,8 @@ use Rattle.mq_talk.specs.declared.book.Reply.TheVariants as reply
 use Rattle.mq_talk.specs.declared.note.End.TheVariants as end
 use Rattle.mq_machine.specs.Done.{done, stream_done}
 use Rattle.mq_machine.specs.Silent.{tunnels_after}
-use Rattle.mq_machine.specs.Want.{Answer, Put, Replied, want_of}
+use Rattle.mq_talk.specs.declared.place.Parcel.{Parcel}
+use Rattle.mq_machine.specs.Want.{Answer, Push, Put, Replied, Send, want_of}
 use Rattle.mq_machine.specs.Cores.{Answered, MayAnswer}
 use Rattle.mq_machine.specs.State as machine
 use Rattle.mq_machine.specs.State.{Stream, Head as InHead, OverHttp1}
@@ -192,10 +193,22 @@ MayDo old new answer result = MayAnswer (IsConn old) (IsConn new) (Starves old n
 abbrev pub CanPut : PortPut → ℕ → List ℕ → Type 0
 CanPut answer limit payload = (nat_lt limit (length payload) ≡ true) ⊎ (answer ≢ put.NotNow)
 
+-- the payload that it wants to send
+abbrev pub IsPayload : Conn → List ℕ → Type 0
+IsPayload c bytes = (s : machine.Conn) → IsConn c s → (tunnel n : ℕ) (payload : List ℕ) → want_of s ≡ Send tunnel n payload → bytes ≡ payload
+
+-- the parcel that it wants to push; it wants that until it is told what became of it
+abbrev pub GivesParcel : Conn → Conn → Parcel → Type 0
+GivesParcel old new parcel = (s : machine.Conn) → IsConn old s → IsConn new s × ((wanted : Parcel) → want_of s ≡ Push wanted → parcel ≡ wanted)
+
 -- the note of a payload that was given to the port
 abbrev pub PutsNote : ℕ → ℕ → List ℕ → PortPut → ℕ → Note → Type 0
 PutsNote id n payload answer limit said = CanPut answer limit payload → (x : machine.Conn) (t : machine.Tunnel) → t.id ≡ id
     → stream_done x t (stream.Payload n payload) (Put answer limit) ≡ Some (said, x)
+
+-- once it was refused memory, it goes on to its own end alone
+abbrev pub Refuses : Conn → Bool → Type 0
+Refuses old done = (s : machine.Conn) → IsConn old s → s.ending ≡ Some end.NoMemory → done ≡ false
 
 -- ---- what the book replied
 

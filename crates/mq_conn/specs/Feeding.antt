@@ -1,5 +1,5 @@
 -- What a piece leads to.
-use Rattle.std.specs.Prelude.{◌≡◌, ◌≢◌, ℕ, Bool, true, false, List, [], ◌∷◌, ◌++◌, Option, Some, None}
+use Rattle.std.specs.Prelude.{◌≡◌, ◌≢◌, ℕ, Bool, true, false, List, [], ◌∷◌, ◌++◌, None}
 use Rattle.mq_capsule.specs.declared.item.Item.{Item}
 use Rattle.mq_capsule.specs.Items.{ItemsOf}
 use Rattle.mq_capsule.specs.Readers.{Stands}
@@ -7,7 +7,6 @@ use Rattle.mq_addr.specs.declared.addr.Addr.{Addr}
 use Rattle.mq_addr.specs.declared.kind.Kind.TheVariants as kind
 use Rattle.mq_head.specs.Reader.{IsHeadOf}
 use Rattle.mq_head.specs.declared.reader.HeadReader.{HeadReader}
-use Rattle.mq_talk.specs.declared.goal.Goal.{Goal}
 use Rattle.mq_talk.specs.declared.goal.Goal.TheVariants as goal
 use Rattle.mq_machine.specs.declared.act.StreamAct.{StreamAct}
 use Rattle.mq_machine.specs.declared.act.Due.{Due}

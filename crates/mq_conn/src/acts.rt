@@ -1,12 +1,12 @@
 //! What a connection does as it is answered: the first act that is due.
-ghost use Rattle.std.specs.Prelude.{◌≡◌, ◌≢◌, ℕ, MatchOption, [], ◌∷◌, ◌++◌, List, None, Some, IfSome, IfOk, OnOk, OnErr, true, false};
+ghost use Rattle.std.specs.Prelude.{◌≡◌, ◌≢◌, ℕ, MatchOption, [], ◌∷◌, ◌++◌, List, None, Some, IfSome, IfOk, OnOk, OnErr, is_ok, true, false};
 ghost use Rattle.mq_conn.specs.declared.conn.Tunnel.{Tunnel};
 ghost use Rattle.mq_machine.specs.declared.act.Act.TheVariants as asks;
 ghost use Rattle.mq_machine.specs.declared.act.StreamAct.TheVariants as asked;
 ghost use Rattle.mq_machine.specs.declared.act.Due.TheVariants.{Do};
 ghost use Rattle.mq_machine.specs.Want.{Said, Bound, Put};
 ghost use Rattle.mq_head.specs.Answers.{refusal_text};
-ghost use Rattle.mq_conn.specs.Conns.{Does, Tries, MayDo, PutsNote, given_up};
+ghost use Rattle.mq_conn.specs.Conns.{Does, IsPayload, MayDo, PutsNote, Refuses, Tries, given_up};
 
 use crate::conn::{Conn, First};
 use crate::queue::Queue;
@@ -133,6 +133,34 @@ fn payload_of(due: Due) -> Option<Sending>
     }
 }
 
+/// The payload of an act that sends one.
+fn sent_by_stream(act: &StreamAct) -> Option<&Bytes>
+    ensures { MatchOption result ((n : ℕ) (payload : List ℕ) → act.now ≢ asked.Payload n payload) (λ p. (n : ℕ) × (act.now ≡ asked.Payload n p.now)) }
+{
+    match act {
+        StreamAct::Payload { payload, .. } => Some(payload),
+        _ => None,
+    }
+}
+
+fn sent_by_act(act: &Act) -> Option<&Bytes>
+    ensures { MatchOption result ((id n : ℕ) (payload : List ℕ) → act.now ≢ asks.OfStream id (asked.Payload n payload)) (λ p. (id : ℕ) × (n : ℕ) × (act.now ≡ asks.OfStream id (asked.Payload n p.now))) }
+{
+    match act {
+        Act::OfStream { act, .. } => sent_by_stream(act),
+        _ => None,
+    }
+}
+
+fn sent_by(due: &Due) -> Option<&Bytes>
+    ensures { MatchOption result ((id n : ℕ) (payload : List ℕ) → due.now ≢ Do (asks.OfStream id (asked.Payload n payload))) (λ p. (id : ℕ) × (n : ℕ) × (due.now ≡ Do (asks.OfStream id (asked.Payload n p.now)))) }
+{
+    match due {
+        Due::Do(act) => sent_by_act(act),
+        _ => None,
+    }
+}
+
 /// The note of a payload that was given to the port of tunnel `id`, which takes at most `limit` bytes.
 fn put_note(id: u32, sending: Sending, outcome: PortPut, limit: u32) -> Note
     ensures { PutsNote id sending.n sending.payload outcome limit result }
@@ -189,7 +217,8 @@ impl Conn {
 
     /// A bind of a port was tried.
     pub fn bound(&mut self, done: bool) -> Result<Note, NoMemory>
-        ensures { MayDo self.old self.new (Bound done) result }
+        ensures answers { MayDo self.old self.new (Bound done) result }
+        ensures spent { Refuses self.old (is_ok result) }
     {
         match self.try_bound(done) {
             Ok(note) => Ok(note),
@@ -201,7 +230,8 @@ impl Conn {
     }
 
     fn try_bound(&mut self, done: bool) -> Result<Note, NoMemory>
-        ensures { Tries self.old self.new (Bound done) result }
+        ensures answers { Tries self.old self.new (Bound done) result }
+        ensures spent { Refuses self.old (is_ok result) }
     {
         let Some(due) = self.take() else {
             return Err(NoMemory);
@@ -248,7 +278,8 @@ impl Conn {
 
     /// It says what needs nothing of the outside.
     pub fn say(&mut self) -> Result<Note, NoMemory>
-        ensures { MayDo self.old self.new Said result }
+        ensures answers { MayDo self.old self.new Said result }
+        ensures spent { Refuses self.old (is_ok result) }
     {
         match self.try_say() {
             Ok(note) => Ok(note),
@@ -260,7 +291,8 @@ impl Conn {
     }
 
     fn try_say(&mut self) -> Result<Note, NoMemory>
-        ensures { Tries self.old self.new Said result }
+        ensures answers { Tries self.old self.new Said result }
+        ensures spent { Refuses self.old (is_ok result) }
     {
         let Some(due) = self.take() else {
             return Err(NoMemory);
@@ -279,6 +311,29 @@ impl Conn {
             n: dropping.n,
             cause: dropping.cause,
         })
+    }
+
+    /// The payload that is due first, where no act stands in front of it.
+    fn sending(&self) -> Option<&Bytes>
+        ensures { MatchOption result ((id n : ℕ) (payload : List ℕ) (rest : List Due) → self.now.first ≡ None → self.now.due ≢ Do (asks.OfStream id (asked.Payload n payload)) ∷ rest) (λ p. (id : ℕ) × (n : ℕ) × (rest : List Due) × (self.now.due ≡ Do (asks.OfStream id (asked.Payload n p.now)) ∷ rest)) }
+    {
+        if self.first.is_some() {
+            return None;
+        }
+        match self.due.first() {
+            None => None,
+            Some(due) => sent_by(due),
+        }
+    }
+
+    /// The payload that is to go to its tunnel's port, where it wants that, and else no bytes.
+    pub fn payload(&self) -> &[u8]
+        ensures { IsPayload self.now result.now }
+    {
+        match self.sending() {
+            None => &[],
+            Some(payload) => payload.as_slice(),
+        }
     }
 
     /// Its payload was given to the port, which takes at most `limit` bytes. A longer one isn't sent, and is dropped.

@@ -1,5 +1,5 @@
 //! What a connection does as the book answers it: its tunnel opens, or closes.
-ghost use Rattle.std.specs.Prelude.{◌≡◌, ◌≢◌, ◌++◌, ℕ, [], ◌∷◌, List, None, Some, length, filter, MatchOption, IfOk, OnOk, OnErr};
+ghost use Rattle.std.specs.Prelude.{◌≡◌, ◌≢◌, ◌++◌, ℕ, [], ◌∷◌, List, None, Some, length, filter, is_ok, MatchOption, IfOk, OnOk, OnErr};
 ghost use Rattle.mq_head.specs.Answers.{success_text};
 ghost use Rattle.mq_addr.specs.declared.range.Range.{Range};
 ghost use Rattle.mq_talk.specs.declared.goal.Goal.{Goal};
@@ -8,7 +8,7 @@ ghost use Rattle.mq_machine.specs.Done.{http1_end};
 ghost use Rattle.mq_machine.specs.State as machine;
 ghost use Rattle.mq_machine.specs.State.{is_packet, kind_of};
 ghost use Rattle.mq_machine.specs.Want.{Replied};
-ghost use Rattle.mq_conn.specs.Conns.{Does, Hears, MayHear, given_up};
+ghost use Rattle.mq_conn.specs.Conns.{Does, Hears, MayHear, Refuses, given_up};
 ghost use Rattle.mq_conn.specs.Closing.{close_first, close_due, close_act, close_stream, closing};
 ghost use Rattle.mq_conn.specs.declared.conn.Tunnel.{Tunnel};
 
@@ -172,7 +172,8 @@ impl Conn {
 
     /// Its tunnel opens, as tunnel `id`.
     fn open(&mut self, id: u32) -> Result<Note, NoMemory>
-        ensures { (routes : List Range) → Hears self.old self.new (Reply.Opened id routes) result }
+        ensures hears { (routes : List Range) → Hears self.old self.new (Reply.Opened id routes) result }
+        ensures spent { Refuses self.old (is_ok result) }
     {
         let Some(opening) = self.take_open() else {
             return Err(NoMemory);
@@ -182,7 +183,8 @@ impl Conn {
 
     /// The history has no place for its tunnel.
     fn full(&mut self) -> Result<Note, NoMemory>
-        ensures { (entries live : ℕ) → Hears self.old self.new (Reply.HistoryFull entries live) result }
+        ensures hears { (entries live : ℕ) → Hears self.old self.new (Reply.HistoryFull entries live) result }
+        ensures spent { Refuses self.old (is_ok result) }
     {
         let Some(_) = self.take_open() else {
             return Err(NoMemory);
@@ -191,7 +193,8 @@ impl Conn {
     }
 
     fn try_answer(&mut self, reply: Reply) -> Result<Note, NoMemory>
-        ensures { Hears self.old self.new reply result }
+        ensures hears { Hears self.old self.new reply result }
+        ensures spent { reply ≢ Reply.Closed → Refuses self.old (is_ok result) }
     {
         match reply {
             Reply::Opened { tunnel, .. } => self.open(tunnel),
@@ -204,7 +207,8 @@ impl Conn {
 
     /// The book replied. Where it was refused memory for the answer, the tunnel that opened is one of its own, to be closed.
     pub fn answer(&mut self, reply: Reply) -> Result<Note, NoMemory>
-        ensures { MayHear self.old self.new reply result }
+        ensures hears { MayHear self.old self.new reply result }
+        ensures spent { reply ≢ Reply.Closed → Refuses self.old (is_ok result) }
     {
         match self.try_answer(reply) {
             Ok(note) => Ok(note),

@@ -4,6 +4,7 @@ ghost use Rattle.mq_machine.specs.State as machine;
 ghost use Rattle.mq_machine.specs.State.{new_conn};
 ghost use Rattle.mq_machine.specs.Steps.{failed, starved};
 ghost use Rattle.mq_conn.specs.Conns.{IsConn};
+ghost use Rattle.mq_conn.specs.Closing.{is_spent};
 
 use crate::dues::Dues;
 use crate::front::Front;
@@ -88,6 +89,16 @@ impl Conn {
         ensures memory { (s : machine.Conn) → IsConn self.old s → why ≡ End.NoMemory → IsConn self.new (starved s) }
     {
         self.give_up(why);
+    }
+
+    /// Whether it was refused memory.
+    pub(crate) fn is_spent(&self) -> bool
+        ensures { result ≡ is_spent self.now.ending }
+    {
+        match self.ending {
+            Some(End::NoMemory) => true,
+            _ => false,
+        }
     }
 
     /// It was refused memory.

@@ -1,12 +1,12 @@
 //! What comes to a tunnel, and the capsules that it is framed in.
-ghost use Rattle.std.specs.Prelude.{◌≡◌, ℕ, ◌+◌, ◌<◌, ◌≤◌, ◌||◌, not, nat_le, nat_lt, List, [], length, filter, Some, IfOk, OnOk, OnErr, MatchOption, true, is_some};
+ghost use Rattle.std.specs.Prelude.{◌≡◌, ℕ, ◌+◌, ◌<◌, ◌≤◌, ◌||◌, not, nat_le, nat_lt, List, [], length, filter, Some, IfOk, OnOk, OnErr, MatchOption, true, is_ok, is_some};
 ghost use Rattle.mq_capsule.specs.Writing.{capsule_text, datagram};
 ghost use Rattle.mq_machine.specs.Cores.{Frames};
 ghost use Rattle.mq_machine.specs.State as machine;
 ghost use Rattle.mq_machine.specs.State.{is_packet};
 ghost use Rattle.mq_machine.specs.Steps as steps;
 ghost use Rattle.mq_machine.specs.Want.{want_of};
-ghost use Rattle.mq_conn.specs.Conns.{IsConn, Starves, Keeps};
+ghost use Rattle.mq_conn.specs.Conns.{IsConn, Keeps, Refuses, Starves};
 ghost use Rattle.mq_conn.specs.Frames.{Delivers, Framed, PutsFirst, PopsFirst, waits};
 ghost use Rattle.mq_conn.specs.Queues.{size_of};
 ghost use Rattle.mq_conn.specs.declared.conn.Tunnel.{Tunnel};
@@ -55,8 +55,9 @@ impl Conn {
     pub fn shut(&mut self, tunnel: u32)
         ensures { (s : machine.Conn) → IsConn self.old s → (t : machine.Tunnel) → machine.tunnel_of s tunnel ≡ Some t → waits (want_of s) ≡ true → IsConn self.new (steps.port_failed s t) }
     {
-        let _ = tunnel;
-        self.first = Some(First::Close { why: Why::Port });
+        if self.live() == Some(tunnel) {
+            self.first = Some(First::Close { why: Why::Port });
+        }
     }
 
     /// A packet came to tunnel `tunnel`: it waits there, unless too much does. The tunnel may have closed on the way.
@@ -100,7 +101,8 @@ impl Conn {
 
     /// Frames the capsule that waits first.
     pub fn frame(&mut self) -> Result<Note, NoMemory>
-        ensures { Frames (IsConn self.old) (IsConn self.new) (Starves self.old self.new) result }
+        ensures frames { Frames (IsConn self.old) (IsConn self.new) (Starves self.old self.new) result }
+        ensures spent { Refuses self.old (is_ok result) }
     {
         match self.try_frame() {
             Ok(note) => Ok(note),
@@ -141,6 +143,7 @@ impl Conn {
     fn try_frame(&mut self) -> Result<Note, NoMemory>
         ensures framed { IfOk result (λ note. Framed self.old self.new note) }
         ensures keeps { OnErr result (Keeps self.old self.new) }
+        ensures spent { Refuses self.old (is_ok result) }
     {
         if !self.can_go_on() {
             return Err(NoMemory);

@@ -2,17 +2,23 @@
 //! answers. Each call leads the state that it stands for to the machine's next one.
 #![tactic(auto)]
 
-pub mod acts;
-pub mod answer;
-pub mod conn;
-pub mod dues;
-pub mod feed;
-pub mod frame;
-pub mod front;
-pub mod items;
-pub mod judge;
-pub mod next;
-pub mod owed;
-pub mod payload;
-pub mod queue;
-pub mod want;
+mod acts;
+mod answer;
+mod conn;
+mod dues;
+mod feed;
+mod frame;
+mod front;
+mod items;
+mod judge;
+mod next;
+mod owed;
+mod packets;
+mod queue;
+mod want;
+
+pub use conn::Conn;
+pub use want::Want;
+
+#[cfg(test)]
+mod tests;

@@ -1,8 +1,7 @@
 //! What a connection wants, and what it can do beside that.
-ghost use Rattle.std.specs.Prelude.{◌≡◌, ◌≤◌, ◌∷◌, Some, None, not, List, length, IfOk, OnErr, true};
+ghost use Rattle.std.specs.Prelude.{◌≡◌, ◌≤◌, ◌∷◌, Some, None, not, true, List, length, is_ok, is_some, IfOk};
 ghost use Rattle.mq_machine.specs.State as machine;
 ghost use Rattle.mq_machine.specs.Settle.{gives_up};
-ghost use Rattle.mq_machine.specs.Silent.{takes_memory};
 ghost use Rattle.mq_machine.specs.Steps as steps;
 ghost use Rattle.mq_machine.specs.Steps.{is_nothing};
 ghost use Rattle.mq_machine.specs.declared.act.Due.{Due};
@@ -77,10 +76,10 @@ impl Conn {
         self.can_go_on() && !self.finished
     }
 
-    /// What it wants next. To tell it takes memory only where its answer does.
+    /// What it wants next.
     pub fn next(&self) -> Result<Want, NoMemory>
-        ensures want { IfOk result (λ w. (s : machine.Conn) → IsConn self.now s → IsWant w (want_of s)) }
-        ensures memory { OnErr result ((s : machine.Conn) → IsConn self.now s → takes_memory (want_of s) ≡ true) }
+        ensures wants { IfOk result (λ w. (s : machine.Conn) → IsConn self.now s → IsWant w (want_of s)) }
+        ensures ends { (s : machine.Conn) → IsConn self.now s → is_some s.ending ≡ true → is_ok result ≡ true }
     {
         match self.ending {
             Some(why) => Ok(self.want_ending(why)),
@@ -134,9 +133,23 @@ impl Conn {
     fn want_close(&self) -> Want
         ensures { (t : Tunnel) → self.now.tunnel ≡ Some t → result ≡ Want.Ask (Call.Close t.id) }
     {
-        Want::Ask(Call::Close {
-            tunnel: self.live().unwrap_or(0),
-        })
+        match &self.tunnel {
+            None => Want::Nothing,
+            Some(tunnel) => Want::Ask(Call::Close { tunnel: tunnel.id }),
+        }
+    }
+
+    /// A send of its payload.
+    fn want_send(&self, n: u64) -> Want
+        ensures { (t : Tunnel) → self.now.tunnel ≡ Some t → result ≡ Want.SendUdp t.id n }
+    {
+        match &self.tunnel {
+            None => Want::Nothing,
+            Some(tunnel) => Want::SendUdp {
+                tunnel: tunnel.id,
+                n,
+            },
+        }
     }
 
     fn want_of_due(&self, due: &Due) -> Want
@@ -163,10 +176,7 @@ impl Conn {
         ensures { (t : Tunnel) → self.now.tunnel ≡ Some t → IsAsked act.now → IsWant result (stream_want (tunnel_is t) act.now) }
     {
         match act {
-            StreamAct::Payload { n, .. } => Want::SendUdp {
-                tunnel: self.live().unwrap_or(0),
-                n: *n,
-            },
+            StreamAct::Payload { n, .. } => self.want_send(*n),
             StreamAct::Drop { .. } => Want::Say,
             StreamAct::Close { .. } => self.want_close(),
             _ => Want::Nothing,

@@ -4,7 +4,9 @@ pub mod Coming
 pub mod Doings
 pub mod Given
 pub mod Draining
+pub mod Search
 pub mod Telling
+pub mod Whole
 pub mod Phases
 pub mod Rooms
 pub mod OneRead

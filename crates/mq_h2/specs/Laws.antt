@@ -1,10 +1,14 @@
 -- What holds of all reads.
-use Rattle.std.specs.Prelude.{◌≡◌, ℕ, ◌+◌, ◌≤◌, List, length}
+use Rattle.std.specs.Prelude.{◌≡◌, ℕ, ◌+◌, ◌≤◌, List, ◌++◌, length, Bool}
+use Rattle.std.specs.List.{flat_map}
+use Rattle.mq_frame.specs.declared.frame.Frame.{Frame}
 use Rattle.mq_frame.specs.Numbers.{max_frame_size}
+use Rattle.mq_frame.specs.Writing.{spelling_of}
+use Rattle.mq_hpack.specs.declared.field.Field.{Field}
 use Rattle.mq_streams.specs.Answers.{send_window, connection_send_window}
 use Rattle.mq_streams.specs.History.{total, arrived_on, consumed_on}
 use Rattle.mq_h2.specs.declared.event.StreamEvent.{StreamEvent}
-use Rattle.mq_h2.specs.Acts.{SendsData}
+use Rattle.mq_h2.specs.Acts.{Responds, SendsData, ends_stream, resets_stream, where_live, ends_act}
 use Rattle.mq_h2.specs.State.{State}
 use Rattle.mq_h2.specs.Reading.{told_in, ReadTo}
 
@@ -27,3 +31,17 @@ SendsWithin = (id : ℕ) (bytes : List ℕ) (count : ℕ) (s t : State) → Send
 abbrev pub IsTold : Type 0
 IsTold = (s : State) (piece : List ℕ) (events : List StreamEvent) (t : State) (id : ℕ) → ReadTo s piece events t
     → total (arrived_on id) t.history + total (consumed_on id) s.history ≡ total (arrived_on id) s.history + told_in id events + total (consumed_on id) t.history
+
+-- whole frames were put for writing (section 4.1)
+pub record PutsFrames (s t : State) : Type 0 where
+  pub frames : List Frame
+  pub put : t.out ≡ s.out ++ flat_map spelling_of frames
+
+-- Each read and each act puts whole frames: so what is owed is what the last writing cut, and then whole frames.
+pub record PutsWholeFrames : Type 0 where
+  pub reads : (s : State) (piece : List ℕ) (events : List StreamEvent) (t : State) → ReadTo s piece events t → PutsFrames s t
+  pub responds : (id : ℕ) (fields : List Field) (end : Bool) (s t : State) → Responds id fields end s t → PutsFrames s t
+  pub sends : (id : ℕ) (bytes : List ℕ) (count : ℕ) (s t : State) → SendsData id bytes count s t → PutsFrames s t
+  pub ends : (id : ℕ) (s : State) → PutsFrames s (where_live id (ends_stream id) s)
+  pub resets : (id code : ℕ) (s : State) → PutsFrames s (where_live id (resets_stream id code) s)
+  pub act : (s : State) → PutsFrames s (ends_act s)

@@ -1,5 +1,5 @@
 //! Laws of the definitions that the core goes by. The functions do nothing.
-ghost use Rattle.mq_h2.specs.Laws.{IsOneRead, HasOutcome, SendsWithin, IsTold};
+ghost use Rattle.mq_h2.specs.Laws.{IsOneRead, HasOutcome, SendsWithin, IsTold, PutsWholeFrames};
 
 use mq_frame::{is_read_once, is_readable, stays_read};
 use mq_hpack::has_one_reading;
@@ -29,4 +29,9 @@ pub fn data_is_within_its_windows()
 /// The DATA that a read tells is that which arrived in it and isn't consumed.
 pub fn what_is_told_is_held()
     ensures { IsTold }
+{}
+
+/// What a read or an act puts for writing is whole frames.
+pub fn what_is_put_is_whole_frames()
+    ensures { PutsWholeFrames }
 {}

@@ -9,6 +9,7 @@ mod event;
 mod fields;
 mod frames;
 mod h2;
+mod ids;
 mod laws;
 mod owed;
 mod parts;
@@ -20,8 +21,15 @@ mod writing;
 pub use event::StreamEvent;
 pub use h2::H2;
 pub use laws::{
-    data_is_within_its_windows, each_read_has_an_outcome, one_read, what_is_told_is_held,
+    data_is_within_its_windows, each_read_has_an_outcome, one_read, what_is_put_is_whole_frames,
+    what_is_told_is_held,
 };
 
+#[cfg(test)]
+mod calls;
+#[cfg(test)]
+mod hostile;
+#[cfg(test)]
+mod sessions;
 #[cfg(test)]
 mod tests;

@@ -8,6 +8,7 @@ ghost use Rattle.mq_h2.specs.Stand.{Goes, Serves};
 ghost use Rattle.mq_h2.specs.Doing.{is_id, Meets, AreWithdrawn, IsHeld, AreHeld, Keeps, FramesRead};
 
 use crate::event::StreamEvent;
+use crate::ids::Ids;
 use crate::parts::Core;
 use crate::stop::Stop;
 use crate::text::goaway_text;
@@ -31,20 +32,27 @@ pub struct Read {
     pub ended: bool,
 }
 
-/// Whether the event is a request on this stream.
-fn asks(event: &StreamEvent, id: u32) -> bool
-    ensures { result ≡ asks id event.now }
+/// The stream of a request.
+fn asked_stream(event: &StreamEvent) -> Option<u32>
+    ensures { (id : ℕ) → asks id event.now ≡ is_id id result }
 {
     match event {
-        StreamEvent::Request { stream, .. } => *stream == id,
-        _ => false,
+        StreamEvent::Request { stream, .. } => Some(*stream),
+        _ => None,
     }
 }
 
-fn was_asked(events: &[StreamEvent], id: u32) -> bool
-    ensures { result ≡ list_any (asks id) events.now }
+/// The streams of requests that came in this read.
+fn asked(alloc: Global, events: &[StreamEvent]) -> Result<Ids, NoMemory>
+    ensures { IfOk result (λ ids. (id : ℕ) → list_any (λ g. g == id) ids.ids.items ≡ list_any (asks id) events.now) }
 {
-    events.iter().any(|event| asks(event, id))
+    let mut ids = Vec::new(alloc);
+    for event in events {
+        if let Some(stream) = asked_stream(event) {
+            ids.push(stream)?;
+        }
+    }
+    Ok(Ids::of(ids))
 }
 
 /// The stream that the event says was reset.
@@ -58,34 +66,29 @@ fn reset_stream(event: &StreamEvent) -> Option<u32>
 }
 
 /// The streams whose requests came in this read and were reset in it.
-fn withdrawn(alloc: Global, events: &[StreamEvent]) -> Result<Vec<u32>, NoMemory>
-    ensures { IfOk result (λ gone. AreWithdrawn gone.items events.now) }
+fn withdrawn(alloc: Global, events: &[StreamEvent]) -> Result<Ids, NoMemory>
+    ensures { IfOk result (λ gone. AreWithdrawn gone.ids.items events.now) }
 {
+    let asked = asked(alloc, events)?;
     let mut gone = Vec::new(alloc);
     for event in events {
         if let Some(stream) = reset_stream(event) {
-            if was_asked(events, stream) {
+            if asked.has(stream) {
                 gone.push(stream)?;
             }
         }
     }
-    Ok(gone)
-}
-
-fn is_among(gone: &[u32], stream: u32) -> bool
-    ensures { result ≡ list_any (λ g. g == stream) gone.now }
-{
-    gone.iter().any(|g| *g == stream)
+    Ok(Ids::of(gone))
 }
 
 /// Whether the event is told, where these streams' requests are withdrawn.
-fn lasts(gone: &[u32], event: &StreamEvent) -> bool
-    ensures { (events : List StreamEvent) → AreWithdrawn gone.now events → result ≡ lasts events event.now }
+fn lasts(gone: &Ids, event: &StreamEvent) -> bool
+    ensures { (events : List StreamEvent) → AreWithdrawn gone.now.ids.items events → result ≡ lasts events event.now }
 {
     match event {
         StreamEvent::Request { stream, .. }
         | StreamEvent::Content { stream, .. }
-        | StreamEvent::Reset { stream, .. } => !is_among(gone, *stream),
+        | StreamEvent::Reset { stream, .. } => !gone.has(*stream),
         StreamEvent::Malformed { .. } | StreamEvent::ConnectionError { .. } => true,
     }
 }
@@ -93,10 +96,10 @@ fn lasts(gone: &[u32], event: &StreamEvent) -> bool
 /// The events that are told, where these streams' requests are withdrawn.
 fn lasting(
     alloc: Global,
-    gone: &[u32],
+    gone: &Ids,
     events: Vec<StreamEvent>,
 ) -> Result<Vec<StreamEvent>, NoMemory>
-    ensures { AreWithdrawn gone.now events.items → IfOk result (λ told. told.items ≡ lasting events.items) }
+    ensures { AreWithdrawn gone.now.ids.items events.items → IfOk result (λ told. told.items ≡ lasting events.items) }
 {
     if gone.is_empty() {
         return Ok(events);
@@ -112,8 +115,8 @@ fn lasting(
 
 impl Core {
     /// Consumes the DATA of these streams.
-    fn drain(&mut self, gone: &[u32], events: &[StreamEvent])
-        ensures serves { AreWithdrawn gone.now events.now → (s : State) → Serves self.old s → AreHeld events.now s.history
+    fn drain(&mut self, gone: &Ids, events: &[StreamEvent])
+        ensures serves { AreWithdrawn gone.now.ids.items events.now → (s : State) → Serves self.old s → AreHeld events.now s.history
             → Serves self.new (with_history (drained events.now events.now s.history) s) }
         ensures keeps { Keeps self.old self.new }
     {
@@ -122,13 +125,13 @@ impl Core {
         }
     }
 
-    fn drain_event(&mut self, gone: &[u32], event: &StreamEvent)
-        ensures serves { (events : List StreamEvent) → AreWithdrawn gone.now events → (s : State) → Serves self.old s → IsHeld event.now s.history
+    fn drain_event(&mut self, gone: &Ids, event: &StreamEvent)
+        ensures serves { (events : List StreamEvent) → AreWithdrawn gone.now.ids.items events → (s : State) → Serves self.old s → IsHeld event.now s.history
             → Serves self.new (with_history (drained_by events event.now s.history) s) }
         ensures keeps { Keeps self.old self.new }
     {
         if let StreamEvent::Content { stream, length, .. } = event {
-            if is_among(gone, *stream) {
+            if gone.has(*stream) {
                 self.streams.consumed(*stream, *length);
             }
         }
@@ -159,8 +162,8 @@ impl Core {
         let mut events = Vec::new(alloc);
         let ended = self.meet(frames, &mut events)?;
         let gone = withdrawn(alloc, events.as_slice())?;
-        self.drain(gone.as_slice(), events.as_slice());
-        let events = lasting(alloc, gone.as_slice(), events)?;
+        self.drain(&gone, events.as_slice());
+        let events = lasting(alloc, &gone, events)?;
         self.owed.reserve(LEAST_ROOM)?;
         Ok(Read { events, ended })
     }

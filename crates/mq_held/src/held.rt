@@ -1,7 +1,7 @@
 //! A connection, with its link and the ports of its tunnels.
 ghost use Rattle.std.specs.Prelude.{◌≡◌, [], None};
 
-use mq_conn::conn::Conn;
+use mq_conn::Conn;
 use std::alloc::Global;
 
 /// The port of a live tunnel: under this key it stands in the table of ports. So many datagrams were received on it.

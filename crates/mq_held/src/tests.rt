@@ -4,7 +4,7 @@ ghost use Rattle.std.specs.Prelude.{◌≡◌, [], IfOk};
 
 use crate::{Datagrams, Held, PortSeat, Went};
 use mq_addr::Addr;
-use mq_conn::conn::Conn;
+use mq_conn::Conn;
 use mq_machine::Setup;
 use mq_mem::{MemLink, MemPorts};
 use mq_policy::Policy;

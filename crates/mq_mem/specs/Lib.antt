@@ -3,3 +3,4 @@ pub mod Streams
 pub mod Links
 pub mod Ports
 pub mod Mails
+pub mod Offices

@@ -1,12 +1,15 @@
 //! Each object in memory, by the calls of its trait: what arrives is given, what is sent is taken, and what is to fail fails.
 
-ghost use Rattle.std.specs.Prelude.{◌≡◌, [], IfOk};
+ghost use Rattle.std.specs.Prelude.{◌≡◌, ◌<◌, [], IsTrue, IfOk};
+ghost use Rattle.mq_talk.specs.Answers.{IsMine};
 
-use crate::{MemLink, MemNet, MemPort, MemPorts, MemSink, MemSource};
-use mq_addr::Addr;
+use crate::{MemLink, MemNet, MemPort, MemPorts, MemSink, MemSource, PlainOffice, RefusingOffice};
+use mq_addr::{Addr, Flow};
+use mq_book::{Book, Config};
 use mq_outside::{
     Got, Link, LinkGot, LinkPut, Net, Port, PortGot, PortPut, Ports, Put, Sink, Source,
 };
+use mq_talk::{Call, Goal, Judged, Office, Origin, Reply, Verdict};
 use mq_wire::{Bytes, NoMemory, Seq};
 use std::alloc::Global;
 use std::test::Fail;
@@ -124,6 +127,12 @@ const FOUR: Addr = Addr::V4(0xc000_0201);
 
 const SIX: Addr = Addr::V6(1);
 
+/// Port 53 of the first.
+const DNS: Goal = Goal::Udp {
+    addr: FOUR,
+    port: 53,
+};
+
 #[test]
 fn a_port_gives_whole_datagrams(rt: HostRuntime) -> Result<(), Fail> {
     let mut into = vec![in rt.alloc(); 0u8; 65_535]?;
@@ -178,5 +187,154 @@ fn a_network_gives_whole_packets(rt: HostRuntime) -> Result<(), Fail> {
     assert_eq!(rt; net.recv(into.as_mut_slice()), PortGot::Datagram(6));
     assert_eq!(rt; net.recv(into.as_mut_slice()), PortGot::NotNow);
     assert_eq!(rt; net.send(b"packet"), PortPut::Sent);
+    Ok(())
+}
+
+/// A configuration without blocks and routes, for two workers.
+fn config_of(alloc: Global, history: u32) -> Config
+    ensures blocks { (result.pool ≡ []) × (result.reach ≡ []) × (result.routes ≡ []) }
+    ensures workers { result.workers ≡ 2 }
+{
+    Config {
+        pool: nothing(alloc),
+        reach: nothing(alloc),
+        routes: nothing(alloc),
+        history,
+        workers: 2,
+    }
+}
+
+/// An office of two workers, whose history has so many places.
+fn office_of(alloc: Global, history: u32) -> Result<PlainOffice, NoMemory>
+    ensures { IfOk result (λ o. (o.book.config.workers ≡ 2) × (o.actor ≡ 0)) }
+{
+    PlainOffice::of(alloc, config_of(alloc, history))
+}
+
+/// The served actor opens a tunnel.
+fn opens(office: &mut PlainOffice, actor: u32) -> Result<Reply, NoMemory>
+    requires workers { office.old.book.config.workers ≡ 2 }
+    requires served { (office.old.actor ≡ actor) × (actor < 2) }
+    ensures workers { office.new.book.config.workers ≡ 2 }
+    ensures served { office.new.actor ≡ actor }
+{
+    office.call(Call::Open {
+        conn: 3,
+        stream: 0,
+        actor,
+        goal: DNS,
+    })
+}
+
+/// The served actor closes a tunnel, if it may.
+fn closes(office: &mut PlainOffice, actor: u32, tunnel: u32) -> Result<bool, NoMemory>
+    requires workers { office.old.book.config.workers ≡ 2 }
+    requires served { (office.old.actor ≡ actor) × (actor < 2) }
+{
+    if !is_mine(office.book(), actor, tunnel) {
+        return Ok(false);
+    }
+    let reply = office.call(Call::Close { tunnel })?;
+    Ok(matches!(reply, Reply::Closed))
+}
+
+/// Whether an actor may call for a tunnel.
+fn is_mine(book: &Book, actor: u32, tunnel: u32) -> bool
+    ensures { IsTrue result → IsMine book.now.history actor tunnel }
+{
+    let history = book.history();
+    book.live(tunnel)
+        && (tunnel as usize) < history.len()
+        && history[tunnel as usize].actor == actor
+}
+
+fn is_opened(reply: &Reply, number: u32) -> bool {
+    matches!(reply, Reply::Opened { tunnel, .. } if *tunnel == number)
+}
+
+#[test]
+fn an_office_asks_its_book(rt: HostRuntime) -> Result<(), Fail> {
+    let mut office = office_of(rt.alloc(), 4)?;
+    assert!(rt; is_opened(&opens(&mut office, 0)?, 0));
+    office.turn_to(1);
+    assert!(rt; is_opened(&opens(&mut office, 1)?, 1));
+    // Two entries, a close of each, and no place for a third tunnel.
+    let reply = opens(&mut office, 1)?;
+    assert!(rt;
+        matches!(
+            reply,
+            Reply::HistoryFull {
+                entries: 2,
+                live: 2
+            }
+        )
+    );
+    assert_eq!(rt; office.book().count(), 2);
+    let flow = Flow {
+        source: FOUR,
+        target: SIX,
+        protocol: 17,
+    };
+    let judged = office.judge(Origin::Net, &flow);
+    let want = Judged {
+        verdict: Verdict::NoRoute,
+        at: 2,
+    };
+    assert_eq!(rt; judged, want);
+    assert!(rt; !closes(&mut office, 1, 0)?);
+    assert_eq!(rt; office.book().count(), 2);
+    Ok(())
+}
+
+#[test]
+fn an_actor_closes_its_own_tunnel(rt: HostRuntime) -> Result<(), Fail> {
+    let mut office = office_of(rt.alloc(), 4)?;
+    office.turn_to(1);
+    assert!(rt; is_opened(&opens(&mut office, 1)?, 0));
+    assert!(rt; closes(&mut office, 1, 0)?);
+    assert_eq!(rt; office.book().count(), 2);
+    assert!(rt; !office.book().live(0));
+    Ok(())
+}
+
+/// Actor 0 opens a tunnel.
+fn tries(office: &mut RefusingOffice) -> Result<Reply, NoMemory>
+    requires workers { office.old.office.book.config.workers ≡ 2 }
+    requires served { office.old.office.actor ≡ 0 }
+    ensures workers { office.new.office.book.config.workers ≡ 2 }
+    ensures served { office.new.office.actor ≡ 0 }
+{
+    office.call(Call::Open {
+        conn: 3,
+        stream: 0,
+        actor: 0,
+        goal: DNS,
+    })
+}
+
+/// Actor 0 closes a tunnel, if it may.
+fn shuts(office: &mut RefusingOffice, tunnel: u32) -> Result<bool, NoMemory>
+    requires workers { office.old.office.book.config.workers ≡ 2 }
+    requires served { office.old.office.actor ≡ 0 }
+    ensures workers { office.new.office.book.config.workers ≡ 2 }
+    ensures served { office.new.office.actor ≡ 0 }
+{
+    if !is_mine(office.book(), 0, tunnel) {
+        return Ok(false);
+    }
+    let reply = office.call(Call::Close { tunnel })?;
+    Ok(matches!(reply, Reply::Closed))
+}
+
+#[test]
+fn one_call_is_refused_memory(rt: HostRuntime) -> Result<(), Fail> {
+    let mut office = RefusingOffice::new(office_of(rt.alloc(), 20)?, 1);
+    assert!(rt; is_opened(&tries(&mut office)?, 0));
+    // A close isn't counted.
+    assert!(rt; shuts(&mut office, 0)?);
+    assert!(rt; tries(&mut office).is_err());
+    assert_eq!(rt; office.book().count(), 2);
+    assert!(rt; is_opened(&tries(&mut office)?, 2));
+    assert_eq!(rt; office.made(), 3);
     Ok(())
 }

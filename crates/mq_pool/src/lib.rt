@@ -7,4 +7,6 @@ mod search;
 pub use pool::least_free;
 
 #[cfg(test)]
+mod table;
+#[cfg(test)]
 mod tests;

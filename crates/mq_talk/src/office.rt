@@ -1,5 +1,6 @@
 //! An actor's way to the book.
-ghost use Rattle.std.specs.Prelude.{◌≡◌, ℕ};
+ghost use Rattle.std.specs.Prelude.{◌≡◌, ℕ, IsOk};
+ghost use Rattle.mq_talk.specs.declared.book.Call.TheVariants.{Close};
 ghost use Rattle.mq_talk.specs.Answers.{MayCall};
 ghost use Rattle.mq_talk.specs.Offices.{Seen, IsSound, CallGives, MayJudge, JudgeGives};
 
@@ -20,6 +21,7 @@ pub trait Office {
     fn call(&mut self, call: Call) -> Result<Reply, NoMemory>
         requires { MayCall (seen self.old).config (seen self.old).entries (actor self.old) call }
         ensures gives { CallGives (actor self.old) (seen self.old) call result (seen self.new) }
+        ensures close { (tunnel : ℕ) → call ≡ Close tunnel → IsOk result }
         ensures sound { IsSound (seen self.old) → IsSound (seen self.new) }
         ensures actor { actor self.new ≡ actor self.old };
 

@@ -1,4 +1,4 @@
-use Rattle.std.proofs.Common.{◌≡◌, sym, subst}
+use Rattle.std.proofs.Common.{sym, subst}
 use Rattle.mq_conn.specs.declared.front.Front.{Front}
 use Rattle.mq_conn.specs.declared.front.Front.TheVariants as front
 use Rattle.mq_conn.specs.Feeding.{Reads}

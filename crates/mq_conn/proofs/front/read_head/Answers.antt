@@ -1,9 +1,7 @@
-use Rattle.std.proofs.Common.{◌≡◌, ℕ, drop, List, Result, Ok, sym, ap, subst, ◌∙◌}
+use Rattle.std.proofs.Common.{ℕ, drop, List, Ok, ap, subst, ◌∙◌}
 use Rattle.mq_head.specs.declared.step.HeadStep.{HeadStep}
-use Rattle.mq_head.specs.declared.step.HeadStep.TheVariants.{More, Upgrade, Refuse}
 use Rattle.mq_head.specs.Steps.{IsStep}
-use Rattle.mq_wire.specs.declared.NoMemory.{NoMemory}
-use Rattle.mq_machine.specs.Reading.{PathMeans, Meaning}
+use Rattle.mq_machine.specs.Reading.{PathMeans}
 use Rattle.mq_conn.specs.declared.judge.Verdict.{Verdict}
 use Rattle.mq_conn.specs.declared.judge.Verdict.TheVariants as verdict
 use Rattle.mq_conn.specs.Meanings.{meaning_of}

@@ -1,5 +1,4 @@
-use Rattle.std.proofs.Common.{◌≡◌, ℕ, List, [], ◌∷◌, ◌++◌, sym, ap, subst, ◌∙◌, append_assoc, append-nil}
-use Rattle.std.specs.Vec.Iter.{into_iter_items}
+use Rattle.std.proofs.Common.{◌≡◌, List, ◌++◌, sym, ap, subst, ◌∙◌, append-nil}
 use Rattle.mq_capsule.specs.declared.item.Item.{Item}
 use Rattle.mq_conn.specs.Items.{Puts}
 use Rattle.mq_conn.proofs.ItemLists.{went_none, went_more, taken_front, none_left}

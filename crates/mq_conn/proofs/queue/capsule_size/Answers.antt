@@ -1,4 +1,4 @@
-use Rattle.std.proofs.Common.{◌≡◌, ◌+◌, ℕ, List, length, arith, ◌∙◌, sym, ap}
+use Rattle.std.proofs.Common.{◌≡◌, ◌+◌, ℕ, length, arith, ap}
 use Rattle.mq_conn.proofs.QueueLists.{capsule_length}
 use Rattle.mq_wire.specs.Integer.{spelling_of}
 use Rattle.mq_conn.proofs.queue.capsule_size.Goals as goal

@@ -1,7 +1,5 @@
-use Rattle.std.proofs.Common.{◌≡◌, ◌≤◌, ℕ, List, length, min, arith}
+use Rattle.std.proofs.Common.{◌≡◌, ◌≤◌, ℕ, length, min, arith}
 use Rattle.mq_streams.specs.Answers.{send_window, connection_send_window}
-use Rattle.mq_h2.specs.State.{State}
-use Rattle.mq_h2.specs.Acts.{SendsData}
 use Rattle.mq_h2.proofs.laws.data_is_within_its_windows.Goals as goal
 
 -- the least of four numbers

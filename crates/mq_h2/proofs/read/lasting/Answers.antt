@@ -21,6 +21,6 @@ all_last all none (e ∷ es) = rw (each_lasts all none e) (ap (λ (xs : List Str
 
 pub returns-then-is_empty : goal.returns-then-is_empty
 returns-then-is_empty c = λ are.
-    let nobody : c.args.gone.now ≡ [] = nil_from_length c.args.gone.now (eqb-true _ _ (sym c.is_empty.ensures ∙ c.if-is_empty.true)) in
+    let nobody : c.args.gone.now.ids.items ≡ [] = nil_from_length c.args.gone.now.ids.items (eqb-true _ _ (sym c.is_empty.ensures ∙ c.if-is_empty.true)) in
     let none : (id : ℕ) → is_withdrawn c.args.events.items id ≡ false = λ id. sym (are id) ∙ ap (λ (xs : List ℕ). list_any (λ g. eqb g id) xs) nobody in
     all_last c.args.events.items none c.args.events.items

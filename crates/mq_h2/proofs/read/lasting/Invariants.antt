@@ -6,4 +6,4 @@ use Rattle.mq_h2.proofs.read.lasting.Given as goal
 
 -- of the events so far, those that last
 abbrev pub invariant-loop-event : goal.invariant-loop-event
-invariant-loop-event l = AreWithdrawn l.gone l.fn.events.items → l.told.items ≡ filter (lasts l.fn.events.items) l.yielded
+invariant-loop-event l = AreWithdrawn l.gone.ids.items l.fn.events.items → l.told.items ≡ filter (lasts l.fn.events.items) l.yielded

@@ -5,8 +5,8 @@ use Rattle.mq_h2.proofs.read.lasts.Goals as goal
 
 pub returns-in-Request : goal.returns-in-Request
 returns-in-Request c = λ events are.
-    let among : c.is_among.result ≡ is_withdrawn events c.in-Request.stream = c.is_among.ensures ∙ are c.in-Request.stream in
-    let P : StreamEvent → Type 0 = λ e. not c.is_among.result ≡ lasts events e in
+    let among : c.has.result ≡ is_withdrawn events c.in-Request.stream = c.has.ensures ∙ are c.in-Request.stream in
+    let P : StreamEvent → Type 0 = λ e. not c.has.result ≡ lasts events e in
     elim c.in-Request.is [
       | inl x ↦ subst P (sym x.2) (ap not among)
       | inr y ↦ elim y [

@@ -1,5 +1,5 @@
 use Rattle.mq_conn.proofs.Standing.{starves}
 use Rattle.mq_conn.proofs.conn.Conn.bound.Goals as goal
 
-pub returns-in-Err : goal.returns-in-Err
-returns-in-Err c = starves c.args.self.now c.try_bound.new.self c.starve.new.self c.in-Err.ensures c.starve.ensures
+pub returns-in-Err-clause-answers : goal.returns-in-Err-clause-answers
+returns-in-Err-clause-answers c = starves c.args.self.now c.try_bound.new.self c.starve.new.self c.in-Err.ensures.answers c.starve.ensures

@@ -1,7 +1,6 @@
-use Rattle.std.proofs.Common.{◌≡◌, Some, not, Bool, true, false, List, length, refl, ◌∙◌, sym, ap, subst}
+use Rattle.std.proofs.Common.{Some, List, length, ◌∙◌, sym, ap, subst}
 use Rattle.mq_talk.specs.declared.note.Note.TheVariants as note
 use Rattle.mq_machine.specs.State.{Waiting, tunnel_of}
-use Rattle.mq_conn.specs.declared.conn.Conn.{Conn}
 use Rattle.mq_conn.specs.Frames.{Comes}
 use Rattle.mq_conn.proofs.Came.{queues, drops, is_full, not_true, not_false}
 use Rattle.mq_conn.proofs.conn.Conn.deliver.Goals as goal

@@ -1,4 +1,4 @@
-use Rattle.std.proofs.Common.{◌≡◌, sym, subst, ap, ◌∙◌}
+use Rattle.std.proofs.Common.{sym, subst, ap, ◌∙◌}
 use Rattle.mq_talk.specs.declared.note.End.TheVariants as end
 use Rattle.mq_machine.specs.Steps.{failed, starved}
 use Rattle.mq_conn.specs.declared.conn.Conn.{Conn}

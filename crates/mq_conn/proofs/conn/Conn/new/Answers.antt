@@ -1,4 +1,4 @@
-use Rattle.std.proofs.Common.{◌≡◌, List, [], refl, sym, ap, arith}
+use Rattle.std.proofs.Common.{List, [], refl, sym, ap, arith}
 use Rattle.mq_machine.specs.State.{Head, new_conn}
 use Rattle.mq_machine.specs.declared.act.Due.{Due}
 use Rattle.mq_conn.proofs.conn.Conn.new.Goals as goal

@@ -1,4 +1,4 @@
-use Rattle.std.proofs.Common.{◌≡◌, ◌∷◌, ℕ, Some, refl, sym, ap, subst, ◌∙◌}
+use Rattle.std.proofs.Common.{◌∷◌, ℕ, sym, ap, subst, ◌∙◌}
 use Rattle.mq_machine.specs.declared.act.Due.{Due}
 use Rattle.mq_conn.specs.Conns.{PutsNote}
 use Rattle.mq_conn.proofs.Acting.{sends, same_tunnel}

@@ -1,5 +1,4 @@
-use Rattle.std.proofs.Common.{◌≡◌, ◌∷◌, List, sym, ap, subst, ◌∙◌}
-use Rattle.mq_machine.specs.declared.act.Due.{Due}
+use Rattle.std.proofs.Common.{◌∷◌, ap, ◌∙◌}
 use Rattle.mq_machine.specs.declared.act.Due.TheVariants.{Do}
 use Rattle.mq_machine.specs.declared.act.Act.{Act}
 use Rattle.mq_conn.proofs.Acting.{wants_stream}

@@ -1,6 +1,5 @@
-use Rattle.std.proofs.Common.{◌≡◌, ℕ, List, length, drop, min, sym, ap, subst, ◌∙◌, arith}
+use Rattle.std.proofs.Common.{◌≡◌, ℕ, List, length, drop, sym, ap, subst, ◌∙◌, arith}
 use Rattle.mq_machine.specs.Steps.{wrote}
-use Rattle.mq_conn.specs.declared.conn.Conn.{Conn}
 use Rattle.mq_conn.specs.Conns.{IsConn}
 use Rattle.mq_conn.proofs.Acting.{gave, owed_length}
 use Rattle.mq_conn.proofs.conn.Conn.wrote.Goals as goal

@@ -1,5 +1,4 @@
-use Rattle.std.proofs.Common.{◌≡◌, ◌≤◌, ◌+◌, ◌∷◌, ◌++◌, List, map, length, sym, ◌∙◌, ap, arith, subst}
-use Rattle.mq_machine.specs.State.{Waiting}
+use Rattle.std.proofs.Common.{◌≡◌, ◌+◌, ◌∷◌, List, map, length, sym, ◌∙◌, ap, arith}
 use Rattle.mq_capsule.specs.Writing.{capsule_text, datagram}
 use Rattle.mq_conn.specs.declared.queue.Packet.{Packet}
 use Rattle.mq_conn.specs.Queues.{waiting_of, size_of}

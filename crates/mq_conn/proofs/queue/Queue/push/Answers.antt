@@ -1,4 +1,4 @@
-use Rattle.std.proofs.Common.{◌≡◌, ◌≤◌, ◌<◌, ◌+◌, ◌∷◌, ◌++◌, [], List, length, map, sym, ◌∙◌, ap, arith, subst}
+use Rattle.std.proofs.Common.{◌≡◌, ◌<◌, ◌+◌, ◌∷◌, ◌++◌, [], List, length, map, sym, ◌∙◌, ap, arith, subst}
 use Rattle.std.specs.Prelude.{filter}
 use Rattle.mq_machine.specs.State.{Waiting, is_packet}
 use Rattle.mq_capsule.specs.Writing.{capsule_text, datagram}

@@ -1,4 +1,4 @@
-use Rattle.std.proofs.Common.{◌≡◌, ℕ, Bool, true, false, List, refl, sym, subst, ◌∙◌}
+use Rattle.std.proofs.Common.{◌≡◌, ℕ, Bool, true, false, List, refl, subst, ◌∙◌}
 use Rattle.mq_frame.specs.declared.frame.Frame.{Frame}
 use Rattle.mq_streams.specs.History.{History}
 use Rattle.mq_h2.specs.declared.event.StreamEvent.{StreamEvent}
@@ -31,13 +31,13 @@ returns-clause-read c = λ s goes.
     let t : State = met.0 in
     let p : Parts c.in_ok-ended.ended frames s told t c.meet.new.self = parts c.in_ok-ended.ended frames s told t c.meet.new.self met.1 in
     let held : AreHeld told t.history = all_held frames s told t p.did (λ id. c.consumed_within_what_came.ensures.within c.args.self.now.streams id s.history goes.decodes.serves.streams) in
-    let gone : List ℕ = c.in_ok-gone.gone.items in
+    let gone : List ℕ = c.in_ok-gone.gone.ids.items in
     let are : AreWithdrawn gone told = subst (λ (es : List StreamEvent). AreWithdrawn gone es) c.as_slice.ensures.value c.in_ok-gone.ensures in
     let h : History = drained told told t.history in
     let Q : List ℕ → List StreamEvent → Type 0 =
     λ g es. AreWithdrawn g es → (s : State) → Serves c.meet.new.self s → AreHeld es s.history → Serves c.drain.new.self (with_history (drained es es s.history) s) in
     let drains : Q gone told =
-    subst (λ (es : List StreamEvent). Q gone es) c.as_slice-3.ensures.value (subst (λ (g : List ℕ). Q g c.as_slice-3.result.now) c.as_slice-2.ensures.value c.drain.ensures.serves) in
+    subst (λ (es : List StreamEvent). Q gone es) c.as_slice-2.ensures.value c.drain.ensures.serves in
     let u : State = with_history h t in
     let served : Serves c.drain.new.self u = drains are t p.serves held in
     let d : Core = record c.drain.new.self { owed = c.reserve.new.self } in
@@ -46,7 +46,7 @@ returns-clause-read c = λ s goes.
       told = told;
       met = t;
       did = p.did;
-      events_are = c.in_ok-events.ensures (subst (λ (g : List ℕ). AreWithdrawn g told) (sym c.as_slice-4.ensures.value) are);
+      events_are = c.in_ok-events.ensures are;
       serves = last;
       goes = λ e.
           let g = p.goes e in

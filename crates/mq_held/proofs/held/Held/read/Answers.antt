@@ -14,7 +14,7 @@ returns-in-Err-clause-gives g c = λ s stands number udp.
     let size : length c.read.new.into ≡ 16384 = search rules in
     let piece = takes_piece (g.L.Link.holds c.args.self.now.link) (g.L.Link.holds c.read.new.self) (g.L.Link.counts c.args.self.now.link) (g.L.Link.counts c.read.new.self)
     c.read.new.into c.split_at.result.0.now c.in-Bytes.count size r.some.0 r.some.1 r.reads r.counts piece_is in
-    (can, (c.split_at.result.0.now, piece), c.in-Err.ensures udp (some_read c.read.new.into c.split_at.result.0.now c.in-Bytes.count r.some.0 r.some.1 piece_is) s stands)
+    (can, (c.split_at.result.0.now, piece), c.in-Err.ensures.takes udp (some_read c.read.new.into c.split_at.result.0.now c.in-Bytes.count r.some.0 r.some.1 piece_is) s stands)
 
 pub returns-in-End-clause-gives : goal.returns-in-End-clause-gives
 returns-in-End-clause-gives g c = λ s stands number udp.
@@ -33,6 +33,6 @@ returns-in-Ok-clause-gives g c = λ s stands number udp.
     let size : length c.read.new.into ≡ 16384 = search rules in
     let piece = takes_piece (g.L.Link.holds c.args.self.now.link) (g.L.Link.holds c.read.new.self) (g.L.Link.counts c.args.self.now.link) (g.L.Link.counts c.read.new.self)
     c.read.new.into c.split_at.result.0.now c.in-Bytes.count size r.some.0 r.some.1 r.reads r.counts piece_is in
-    let f = c.in-Ok.ensures udp (some_read c.read.new.into c.split_at.result.0.now c.in-Bytes.count r.some.0 r.some.1 piece_is) s stands can in
+    let f = c.in-Ok.ensures.takes udp (some_read c.read.new.into c.split_at.result.0.now c.in-Bytes.count r.some.0 r.some.1 piece_is) s stands can in
     let is = ap {B = Note} (λ (n : ℕ). note.Took n c.in-Bytes.count) (sym number) ∙ ap {B = Note} (λ (n : ℕ). note.Took s.number n) (size_read c.read.new.into c.split_at.result.0.now c.in-Bytes.count r.some.1 piece_is) in
     (can, (f.0, inl (c.split_at.result.0.now, piece, f.2, is), f.1))

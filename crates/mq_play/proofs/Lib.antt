@@ -1,0 +1,14 @@
+pub mod Fates
+pub mod Lists
+pub mod Plain
+pub mod PlainReads
+pub mod Lawful
+pub mod Plans
+pub mod Sure
+pub mod Plays
+pub mod Cuts
+pub mod Scripts
+pub mod Lacks
+pub mod Prints
+pub mod Samples
+pub mod reading

@@ -1,0 +1,18 @@
+use Rattle.mq_play.proofs.Plays.{Known}
+use Rattle.std.proofs.Common.{ℕ, List, length, ap}
+use Rattle.mq_play.proofs.Scripts.{one_before}
+use Rattle.mq_play.proofs.laws.one_bad_line.Goals as goal
+
+known : (c : goal.After-one_saying) → Known
+known c = record {
+  turn = c.one_turn.ensures;
+  silent = c.one_silent_turn.ensures;
+  turn_or_quiet = c.turn_or_quiet.ensures;
+  silent_or_quiet = c.silent_or_quiet.ensures;
+  brings = c.brings_once.ensures;
+  answer = c.one_answer.ensures;
+  says = c.one_saying.ensures;
+}
+
+pub returns : goal.returns
+returns c = λ script a b p q same. ap (λ (lines : List (List ℕ)). length lines) (one_before (known c) script a b p q same)

@@ -1,0 +1,8 @@
+pub mod Lacking
+pub mod Hexes
+pub mod Texts
+pub mod Templates
+pub mod Parted
+pub mod Words
+pub mod Singles
+pub mod Once

@@ -1,0 +1,10 @@
+pub mod Parts
+pub mod Settings
+pub mod Lines
+pub mod Text
+pub mod Sizes
+pub mod Events
+pub mod Play
+pub mod Script
+pub mod Laws
+pub mod Sayings

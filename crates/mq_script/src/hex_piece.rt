@@ -1,0 +1,67 @@
+//! Bytes in lower-case hex.
+ghost use Rattle.std.specs.Prelude.{◌≡◌, ◌∷◌, [], ◌↔◌, ◌<◌, ◌≤◌, ◌⊎◌, IsTrue, All};
+ghost use Rattle.mq_play.specs.Lines.{IsPayload};
+ghost use Rattle.mq_play.specs.Parts.{IsByte, IsHex};
+ghost use Rattle.mq_script.specs.Reading.{IsFound, IsParsed};
+
+use crate::fault::LineFault;
+use mq_wire::Bytes;
+use std::alloc::Global;
+
+/// The most bytes of a payload (RFC 9298, section 5).
+const MOST_PAYLOAD: usize = 65_527;
+
+/// Whether a text has no capital hex digit, which `hex::decode` takes.
+fn lacks_capitals(text: &[u8]) -> bool
+    ensures { IsTrue result ↔ All (λ digit. (digit < 65) ⊎ (70 < digit)) text.now }
+{
+    text.iter().all(|digit| *digit < b'A' || *digit > b'F')
+}
+
+/// The bytes that a text spells in hex, in pairs of digits from `0` to `9` and `a` to `f`. There are some.
+pub fn parse_hex(alloc: Global, text: &[u8]) -> Result<Bytes, LineFault>
+    ensures { IsParsed (IsHex text.now) result }
+{
+    if text.is_empty() {
+        return Err(LineFault::Syntax);
+    }
+    if !lacks_capitals(text) {
+        return Err(LineFault::Syntax);
+    }
+    let bytes = hex::decode(alloc, text)?;
+    Ok(Bytes::from_vec(bytes))
+}
+
+/// The payload that a text spells in hex.
+pub fn parse_payload(alloc: Global, text: &[u8]) -> Result<Bytes, LineFault>
+    ensures { IsParsed (IsPayload text.now) result }
+{
+    let bytes = parse_hex(alloc, text)?;
+    if bytes.as_slice().len() > MOST_PAYLOAD {
+        return Err(LineFault::Syntax);
+    }
+    Ok(bytes)
+}
+
+/// The byte, where there is just one.
+fn single(bytes: &[u8]) -> Option<u8>
+    ensures { IsFound (λ byte. bytes.now ≡ byte ∷ []) result }
+{
+    match bytes {
+        [byte] => Some(*byte),
+        _ => None,
+    }
+}
+
+/// The one byte that a text spells in hex.
+pub fn parse_byte(alloc: Global, text: &[u8]) -> Result<u8, LineFault>
+    ensures { IsParsed (IsByte text.now) result }
+{
+    let bytes = parse_hex(alloc, text)?;
+    let found = single(bytes.as_slice());
+    drop(bytes);
+    match found {
+        Some(byte) => Ok(byte),
+        None => Err(LineFault::Syntax),
+    }
+}

@@ -1,0 +1,54 @@
+//! Numbers in lines.
+ghost use Rattle.mq_play.specs.Lines.{IsActor, most_room};
+ghost use Rattle.mq_play.specs.Parts.{IsName, IsNumber, IsNumberOr};
+ghost use Rattle.mq_script.specs.Reading.{IsFound};
+ghost use Rattle.std.specs.Prelude.{codes};
+
+use mq_text::parse_number;
+
+/// The number that stands for the network.
+pub const NET: u32 = u32::MAX;
+
+/// The highest number of a worker.
+pub const LAST_WORKER: u32 = 3;
+
+/// The most bytes that a link is said to take.
+const MOST_ROOM: u32 = 2_147_483_647;
+
+/// The number within these limits that a text spells in decimal.
+pub fn number_in(low: u32, high: u32, text: &[u8]) -> Option<u32>
+    ensures { IsFound (IsNumber low high text.now) result }
+{
+    let number = parse_number(u64::from(high), text)?;
+    if number < u64::from(low) {
+        return None;
+    }
+    Some(number as u32)
+}
+
+/// The number of a link, or of a tunnel.
+pub fn parse_name(text: &[u8]) -> Option<u32>
+    ensures { IsFound (IsName text.now) result }
+{
+    number_in(0, u32::MAX, text)
+}
+
+/// A worker's number, or the network's.
+pub fn parse_actor(text: &[u8]) -> Option<u32>
+    ensures { IsFound (IsActor text.now) result }
+{
+    match text {
+        b"net" => Some(NET),
+        _ => number_in(0, LAST_WORKER, text),
+    }
+}
+
+/// How many bytes a link takes, where that is bounded.
+pub fn parse_room(text: &[u8]) -> Option<Option<u32>>
+    ensures { IsFound (IsNumberOr (codes "all") most_room text.now) result }
+{
+    match text {
+        b"all" => Some(None),
+        _ => Some(Some(number_in(0, MOST_ROOM, text)?)),
+    }
+}
