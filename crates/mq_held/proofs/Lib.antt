@@ -1,0 +1,6 @@
+pub mod Writing
+pub mod Reading
+pub mod Sending
+pub mod Receiving
+pub mod Fronts
+pub mod Seating

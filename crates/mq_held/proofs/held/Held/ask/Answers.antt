@@ -1,0 +1,20 @@
+use Rattle.mq_held.proofs.held.Held.ask.Goals as goal
+use Rattle.mq_held.proofs.Fronts.{hears}
+
+pub returns-in-Ok-clause-gives : goal.returns-in-Ok-clause-gives
+returns-in-Ok-clause-gives g c = λ s stands plain want.
+    hears
+    (g.O.Office.actor c.args.office.now)
+    (g.O.Office.seen c.args.office.now)
+    c.args.call
+    (g.O.Office.seen c.call.new.self)
+    c.args.self.now.conn
+    c.hear.new.self.conn
+    s
+    c.in-Ok.reply
+    c.hear.result
+    stands
+    plain
+    want
+    c.in-Ok.ensures.gives
+    c.hear.ensures.gives

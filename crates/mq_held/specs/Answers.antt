@@ -1,0 +1,85 @@
+-- What a connection does as a bind and the book answer it.
+use Rattle.std.specs.Prelude.{◌≡◌, ◌≢◌, ⊤, ◌⊎◌, ℕ, true, false, Option, Some, None, Result, Ok, Err}
+use Rattle.slab.specs.Slab.{Slab}
+use Rattle.mq_wire.specs.declared.NoMemory.{NoMemory}
+use Rattle.mq_addr.specs.declared.addr.Addr.{Addr}
+use Rattle.mq_outside.specs.Counts.{risen, PortCounts, no_port_counts}
+use Rattle.mq_outside.specs.Ports.{limit_of}
+use Rattle.mq_talk.specs.declared.book.Call.{Call}
+use Rattle.mq_talk.specs.declared.book.Call.TheVariants as call
+use Rattle.mq_talk.specs.declared.book.Reply.{Reply}
+use Rattle.mq_talk.specs.declared.book.Reply.TheVariants as reply
+use Rattle.mq_talk.specs.declared.note.Note.{Note}
+use Rattle.mq_talk.specs.Offices.{Seen, CallOk, CallGives}
+use Rattle.mq_machine.specs.State.{Conn}
+use Rattle.mq_machine.specs.Steps.{starved}
+use Rattle.mq_machine.specs.Want.{Bound, Replied}
+use Rattle.mq_machine.specs.Done.{done}
+use Rattle.mq_conn.specs.declared.conn.Conn.{Conn as Core}
+use Rattle.mq_conn.specs.Conns.{heard, MayHear}
+use Rattle.mq_ports.specs.Tables.{Adds}
+use Rattle.mq_held.specs.declared.ask.Heard.{Heard}
+
+-- ---- binds
+
+-- A bind of a port, and the key of the port that was bound. A bind that fails leaves the key and the ports, and is counted.
+pub record PortBound {Q : Type 0} (most : Q → ℕ) (counts : Q → PortCounts) (addr : Addr) (old new : Slab Q) (bound : Option ℕ) (faults faults_after : ℕ) : Type 0 where
+  pub key : ℕ
+  pub port : Q
+  pub adds : Adds old new key port
+  pub bound_is : bound ≡ Some key
+  pub limit : most port ≡ limit_of addr
+  pub unused : counts port ≡ no_port_counts
+  pub faults_are : faults_after ≡ faults
+
+pub record NotBound {Q : Type 0} (old new : Slab Q) (before after : Option ℕ) (faults faults_after : ℕ) : Type 0 where
+  pub table : new.slots ≡ old.slots
+  pub bound_is : after ≡ before
+  pub faults_are : faults_after ≡ risen faults
+
+-- what a bind gives: the note of the connection behind it
+abbrev pub BindGives : (Conn → Type 0) → (was_bound : Type 0) → (not_bound : Type 0) → Conn → Result Note NoMemory → Type 0
+BindGives stands was_bound not_bound s (Ok said) =
+    (was_bound × ((t : Conn) × (done s (Bound true) ≡ Some (said, t)) × stands t))
+    ⊎ (not_bound × ((t : Conn) × (done s (Bound false) ≡ Some (said, t)) × stands t))
+BindGives stands was_bound not_bound s (Err refused) = stands (starved s)
+
+-- ---- the book
+
+-- a tunnel for UDP asks nothing but that it opens and closes
+abbrev pub IsPlain : Call → Type 0
+IsPlain (call.Open conn stream actor goal) = ⊤
+IsPlain (call.Close tunnel) = ⊤
+IsPlain (call.Assign tunnel asked) = ⊥
+IsPlain (call.Advertise tunnel ranges) = ⊥
+
+-- the tunnel that a reply opened
+abbrev pub opened_by : Reply → Option ℕ
+opened_by (reply.Opened tunnel routes) = Some tunnel
+opened_by (reply.HistoryFull entries live) = None
+opened_by (reply.Assigned list at) = None
+opened_by (reply.Accepted accepts at) = None
+opened_by reply.Closed = None
+
+-- what the book was asked and replied, and the note of the connection behind it
+pub record Hears (actor : ℕ) (old : Seen) (asked : Call) (new : Seen) (s : Conn) (h : Heard) (t : Conn) : Type 0 where
+  pub said : Reply
+  pub replied : CallOk actor old asked said new
+  pub does : done s (Replied said) ≡ Some (h.note, t)
+  pub opened : h.opened ≡ opened_by said
+
+-- it was refused memory before the book wrote, or as it heard the reply, which doesn't say that its tunnel closed
+pub record HearsNot (actor : ℕ) (old : Seen) (asked : Call) (new : Seen) (stands : Conn → Type 0) (s : Conn) : Type 0 where
+  pub said : Reply
+  pub replied : CallOk actor old asked said new
+  pub open_is : said ≢ reply.Closed
+  pub stands_for : stands (heard s said)
+
+abbrev pub AskGives : ℕ → Seen → Call → Seen → (Conn → Type 0) → Conn → Result Heard NoMemory → Type 0
+AskGives actor old asked new stands s (Ok h) = (t : Conn) × Hears actor old asked new s h t × stands t
+AskGives actor old asked new stands s (Err refused) = (CallGives actor old asked (Err refused) new × stands (starved s)) ⊎ HearsNot actor old asked new stands s
+
+-- a reply was heard
+abbrev pub HearGives : Core → Core → Reply → Result Heard NoMemory → Type 0
+HearGives old new said (Ok h) = (h.opened ≡ opened_by said) × MayHear old new said (Ok h.note)
+HearGives old new said (Err refused) = MayHear old new said (Err refused)

@@ -1,0 +1,5 @@
+pub mod Links
+pub mod Ports
+pub mod Frames
+pub mod Seats
+pub mod Answers

@@ -1,0 +1,21 @@
+//! One connection on its link and its ports: how it writes, reads, sends and receives. It decides nothing of the order.
+#![tactic(auto)]
+
+mod ask;
+mod bind;
+mod datagrams;
+mod frame;
+mod held;
+mod read;
+mod receive;
+mod seats;
+mod send;
+#[cfg(test)]
+mod tests;
+mod went;
+mod write;
+
+pub use ask::Heard;
+pub use datagrams::{Came, Datagrams};
+pub use held::{Held, PortSeat};
+pub use went::Went;

@@ -1,0 +1,50 @@
+//! The link is read.
+ghost use Rattle.std.specs.Prelude.{◌≡◌, length};
+ghost use Rattle.mq_addr.specs.declared.kind.Kind.TheVariants as kind;
+ghost use Rattle.mq_machine.specs.State as machine;
+ghost use Rattle.mq_conn.specs.Conns.{IsConn};
+ghost use Rattle.mq_held.specs.Links.{ReadGives};
+
+use crate::held::Held;
+use crate::went::{Went, size_of};
+use mq_machine::Setup;
+use mq_outside::{Link, LinkGot};
+use mq_talk::{End, Note};
+use mq_wire::NoMemory;
+
+impl<L: Link> Held<L> {
+    /// Reads once, where it can take bytes, to the front of a buffer of 16,384 bytes. Its template for UDP tunnels is one of
+    /// that kind.
+    pub fn read(&mut self, setup: &Setup, buffer: &mut [u8]) -> Result<Went, NoMemory>
+        requires { length buffer.old ≡ 16384 }
+        ensures gives { (s : machine.Conn) → IsConn self.old.conn s → s.number ≡ self.old.number → setup.now.udp.kind ≡ kind.Udp
+            → ReadGives setup.now (record { holds = L.holds self.old.link; after = L.holds self.new.link; counts = L.counts self.old.link; counts_after = L.counts self.new.link }) (IsConn self.new.conn) s result }
+        ensures rest { self.new ≡ record self.old { conn = self.new.conn; link = self.new.link } }
+        ensures size { length buffer.new ≡ length buffer.old }
+    {
+        if !self.conn.can_read() {
+            return Ok(Went::Waits);
+        }
+        match self.link.read(buffer) {
+            LinkGot::NotNow => Ok(Went::Waits),
+            LinkGot::Failed => {
+                self.conn.fail(End::Link);
+                Ok(Went::Failed)
+            }
+            LinkGot::End => {
+                self.conn.finish();
+                Ok(Went::Did(Note::Finished { conn: self.number }))
+            }
+            LinkGot::Bytes(count) => {
+                let (piece, _) = buffer.split_at(size_of(count));
+                match self.conn.feed(setup, piece) {
+                    Err(refused) => Err(refused),
+                    Ok(()) => Ok(Went::Did(Note::Took {
+                        conn: self.number,
+                        count,
+                    })),
+                }
+            }
+        }
+    }
+}

@@ -1,0 +1,71 @@
+//! The seats of a connection's ports.
+ghost use Rattle.std.specs.Prelude.{◌≡◌, ◌<◌, ◌++◌, ◌∷◌, [], ℕ, remove, MatchOption, Some, None};
+ghost use Rattle.std.specs.Vec.{vec_len, vec_capacity};
+ghost use Rattle.slab.specs.Slab.{get, Updates};
+ghost use Rattle.mq_outside.specs.Counts.{risen_by};
+ghost use Rattle.mq_ports.specs.Tables.{IsBalanced};
+ghost use Rattle.mq_held.specs.Seats.{IsSeatOf, HasNoSeat};
+ghost use Rattle.mq_held.specs.declared.held.PortSeat.{PortSeat};
+
+use crate::held::{Held, PortSeat};
+use mq_outside::Ports;
+use mq_ports::PortTable;
+
+impl<L> Held<L> {
+    /// The place of the seat of a tunnel's port.
+    pub fn place_of(&self, tunnel: u32) -> Option<usize>
+        ensures { MatchOption result (HasNoSeat self.now.ports.items tunnel) (λ place. (seat : PortSeat) × IsSeatOf self.now.ports.items tunnel place seat) }
+    {
+        for place in 0..self.ports.len() {
+            if self.ports[place].tunnel == tunnel {
+                return Some(place);
+            }
+        }
+        None
+    }
+
+    /// The port that was bound is that of this tunnel, for whose seat there is room.
+    pub fn seat(&mut self, tunnel: u32)
+        requires room { vec_len self.old.ports < vec_capacity self.old.ports }
+        ensures seat { MatchOption self.old.bound (self.new.ports.items ≡ self.old.ports.items)
+            (λ key. self.new.ports.items ≡ self.old.ports.items ++ record { tunnel = tunnel; key = key; received = 0 } ∷ []) }
+        ensures rest { self.new ≡ record self.old { ports = self.new.ports; bound = None } }
+    {
+        if let Some(key) = self.bound.take() {
+            let seat = PortSeat {
+                tunnel,
+                key,
+                received: 0,
+            };
+            if self.ports.push(seat).is_err() {
+                unreachable!()
+            }
+        }
+    }
+
+    /// Hands back the port of a tunnel that has closed.
+    pub fn retire<P: Ports>(&mut self, tunnel: u32, table: &mut PortTable<P>)
+        ensures seat { (place : ℕ) (seat : PortSeat) → IsSeatOf self.old.ports.items tunnel place seat
+            → (self.new.ports.items ≡ remove self.old.ports.items place) × Updates table.old.table table.new.table seat.key None
+            × MatchOption (get table.old.table seat.key) (P.faults table.new.ports ≡ P.faults table.old.ports) (λ port. P.faults table.new.ports ≡ risen_by (P.P.counts port).faults (P.faults table.old.ports)) }
+        ensures none { HasNoSeat self.old.ports.items tunnel → (self.new ≡ self.old) × (table.new ≡ table.old) }
+        ensures rest { self.new ≡ record self.old { ports = self.new.ports } }
+        ensures balanced { IsBalanced P.P.place (P.past table.old.ports) table.old.table.slots → IsBalanced P.P.place (P.past table.new.ports) table.new.table.slots }
+    {
+        if let Some(place) = self.place_of(tunnel) {
+            let seat = self.ports.remove(place);
+            table.retire(seat.key);
+        }
+    }
+
+    /// Hands back a port whose tunnel didn't open.
+    pub fn retire_bound<P: Ports>(&mut self, table: &mut PortTable<P>)
+        ensures bound { MatchOption self.old.bound (table.new ≡ table.old) (λ key. Updates table.old.table table.new.table key None) }
+        ensures rest { self.new ≡ record self.old { bound = None } }
+        ensures balanced { IsBalanced P.P.place (P.past table.old.ports) table.old.table.slots → IsBalanced P.P.place (P.past table.new.ports) table.new.table.slots }
+    {
+        if let Some(key) = self.bound.take() {
+            table.retire(key);
+        }
+    }
+}
