@@ -1,5 +1,5 @@
 //! Which calls of an object in memory are to fail.
-ghost use Rattle.std.specs.Prelude.{◌≡◌};
+ghost use Rattle.std.specs.Prelude.{◌≡◌, ◌==◌, length};
 ghost use Rattle.mq_mem.specs.Calls.{Calls as CallsOf, no_calls, is_listed, called};
 
 use mq_outside::risen;
@@ -24,6 +24,13 @@ impl Calls {
         ensures { result ≡ no_calls fails }
     {
         Calls { fails, made: 0 }
+    }
+
+    /// Whether no call is to fail.
+    pub fn lists_none(&self) -> bool
+        ensures { result ≡ (length self.now.fails == 0) }
+    {
+        self.fails.as_slice().is_empty()
     }
 
     /// Whether the next call is one that is to fail.

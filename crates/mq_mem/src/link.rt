@@ -1,5 +1,5 @@
 //! A link in memory, whose world says what arrives, what it has room for and which calls fail.
-ghost use Rattle.std.specs.Prelude.{◌≡◌, ◌<◌, ◌≤◌, ◌++◌, ◌∷◌, [], length, true, false, IfOk, OnOk, OnErr, MatchOption, IsNone, IfSome};
+ghost use Rattle.std.specs.Prelude.{◌≡◌, ◌<◌, ◌≤◌, ◌++◌, ◌∷◌, [], length, true, false, is_some, IfOk, OnOk, OnErr, MatchOption, IsNone, IfSome};
 ghost use Rattle.mq_outside.specs.Links.{LinkReads, GivesSome, after_read, past_read, LinkWrites, LinkTakesSome, after_write, past_written, taken_of, room_left};
 ghost use Rattle.mq_mem.specs.Links.{Link as LinkOf, AllFull, told, past_of, new_link, no_bytes, with_holds, got_first, pieces_after, got_of, after_got, end_after, GotBytes};
 ghost use Rattle.mq_mem.specs.Links.{would_read as would_read_of, put_of, after_put, would_write as would_write_of, took, free, least, keeping, Fits};
@@ -176,6 +176,13 @@ impl MemLink {
         ensures { self.new ≡ with_holds self.old (record self.old.holds { write_fails = true }) }
     {
         self.write_fails = true;
+    }
+
+    /// Whether it tells what it holds: it has no room for what it takes, and no call is to fail by its number.
+    pub fn tells(&self) -> bool
+        ensures { result ≡ is_some (told self.now) }
+    {
+        self.kept.is_none() && self.calls.lists_none()
     }
 
     /// Whether a read would now answer something other than `NotNow`.

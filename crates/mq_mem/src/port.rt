@@ -1,5 +1,5 @@
 //! A UDP port in memory, whose world says what arrives and which calls fail.
-ghost use Rattle.std.specs.Prelude.{◌≡◌, ◌≤◌, ◌++◌, ◌∷◌, [], length, true, Some, None, IfOk, OnOk, OnErr};
+ghost use Rattle.std.specs.Prelude.{◌≡◌, ◌≤◌, ◌++◌, ◌∷◌, [], length, true, Some, None, is_some, IfOk, OnOk, OnErr};
 ghost use Rattle.mq_outside.specs.Ports.{PortSends, after_send, past_sent, PortReceives, IsWithin, after_receive, past_received};
 ghost use Rattle.mq_mem.specs.Ports.{Port as PortOf, AllShort, told, no_past, new_queue, put_of, after_put, got_of, after_got, GotDatagram, would_receive, with_queue, handed_out as handed_out_at};
 
@@ -87,6 +87,13 @@ impl MemPort {
         ensures { self.new ≡ with_queue self.old (record self.old.queue { send_fails = true }) }
     {
         self.queue.fail_next();
+    }
+
+    /// Whether it tells what it holds: it has no room, and no call is to fail by its number.
+    pub fn tells(&self) -> bool
+        ensures { result ≡ is_some (told self.now.queue) }
+    {
+        self.queue.tells()
     }
 
     /// Whether a receive would now answer something other than `NotNow`.

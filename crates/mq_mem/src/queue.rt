@@ -1,5 +1,5 @@
 //! What a port and a network in memory have in common: what arrived, and what can still be sent.
-ghost use Rattle.std.specs.Prelude.{◌≡◌, ◌≤◌, ◌++◌, ◌∷◌, [], length, take, true, false, OnOk, OnErr};
+ghost use Rattle.std.specs.Prelude.{◌≡◌, ◌≤◌, ◌++◌, ◌∷◌, [], length, take, true, false, is_some, OnOk, OnErr};
 ghost use Rattle.mq_outside.specs.Counts.{no_port_counts};
 ghost use Rattle.mq_outside.specs.Ports.{PortReceives, PortSends, IsWithin};
 ghost use Rattle.mq_mem.specs.Calls.{no_calls};
@@ -109,6 +109,13 @@ impl Queue {
         ensures { self.new ≡ record self.old { send_fails = true } }
     {
         self.send_fails = true;
+    }
+
+    /// Whether it tells what it holds.
+    pub fn tells(&self) -> bool
+        ensures { result ≡ is_some (told self.now) }
+    {
+        self.room.is_none() && self.calls.lists_none()
     }
 
     /// Whether a receive would now answer something other than `NotNow`.

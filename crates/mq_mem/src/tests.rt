@@ -79,6 +79,7 @@ fn a_link_gives_pieces_and_then_its_end(rt: HostRuntime) -> Result<(), Fail> {
     )?;
     assert_eq!(rt; reads(&mut link).0, LinkGot::NotNow);
     assert!(rt; !link.would_read());
+    assert!(rt; link.tells());
     link.piece(bytes(rt.alloc(), b"abcd")?)?;
     link.piece(bytes(rt.alloc(), b"e")?)?;
     link.fail_read();
@@ -105,6 +106,7 @@ fn a_link_takes_what_it_has_room_for(rt: HostRuntime) -> Result<(), Fail> {
     link.grant(Some(2));
     assert_eq!(rt; link.write(b"xyz"), LinkPut::Took(2));
     assert!(rt; !link.would_write());
+    assert!(rt; !link.tells());
     assert_eq!(rt; link.write(b"xyz"), LinkPut::NotNow);
     link.grant(None);
     link.fail_write();
@@ -138,6 +140,7 @@ fn a_port_gives_whole_datagrams(rt: HostRuntime) -> Result<(), Fail> {
     let mut into = vec![in rt.alloc(); 0u8; 65_535]?;
     let mut port = MemPort::new(nothing(rt.alloc()), Some(4), numbers(rt.alloc(), &[3])?)?;
     assert!(rt; !port.would_recv());
+    assert!(rt; !port.tells());
     assert_eq!(rt; port.recv(into.as_mut_slice()), PortGot::NotNow);
     port.arrive(bytes(rt.alloc(), b"one")?)?;
     port.arrive(bytes(rt.alloc(), b"")?)?;
