@@ -1,5 +1,5 @@
 //! What a connection wants, and what it can do beside that.
-ghost use Rattle.std.specs.Prelude.{◌≡◌, ◌≤◌, ◌∷◌, Some, None, not, true, List, length, is_ok, is_some, IfOk};
+ghost use Rattle.std.specs.Prelude.{◌≡◌, ◌≤◌, ◌∷◌, Some, None, not, true, List, length, is_ok, IfOk};
 ghost use Rattle.mq_machine.specs.State as machine;
 ghost use Rattle.mq_machine.specs.Settle.{gives_up};
 ghost use Rattle.mq_machine.specs.Steps as steps;
@@ -76,10 +76,10 @@ impl Conn {
         self.can_go_on() && !self.finished
     }
 
-    /// What it wants next.
+    /// What it wants next. Over HTTP/1.1 with a tunnel for UDP that takes no memory, so that it is never refused.
     pub fn next(&self) -> Result<Want, NoMemory>
         ensures wants { IfOk result (λ w. (s : machine.Conn) → IsConn self.now s → IsWant w (want_of s)) }
-        ensures ends { (s : machine.Conn) → IsConn self.now s → is_some s.ending ≡ true → is_ok result ≡ true }
+        ensures granted { is_ok result ≡ true }
     {
         match self.ending {
             Some(why) => Ok(self.want_ending(why)),
