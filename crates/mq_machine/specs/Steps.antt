@@ -1,5 +1,5 @@
 -- What a connection does beside its wants: frames, writes, the end of its link, and what comes to a tunnel.
-use Rattle.std.specs.Prelude.{ℕ, ◌+◌, ◌==◌, Bool, true, false, not, ◌&&◌, ◌||◌, List, [], ◌∷◌, ◌++◌, take, drop, length, filter, find, min, nat_lt, nat_le, if◌then◌else◌, Option, Some, None, option_map, option_and_then, is_some}
+use Rattle.std.specs.Prelude.{ℕ, ◌+◌, ◌==◌, Bool, true, false, not, ◌&&◌, ◌||◌, List, [], ◌∷◌, ◌++◌, take, drop, length, filter, find, nat_lt, nat_le, if◌then◌else◌, Option, Some, None, option_map, option_and_then, is_some}
 use Rattle.mq_capsule.specs.Writing.{capsule_text, datagram}
 use Rattle.mq_talk.specs.declared.note.End.{End}
 use Rattle.mq_talk.specs.declared.note.End.TheVariants as end
@@ -91,10 +91,6 @@ abbrev pub framed : Conn → Option (Note × Conn)
 framed c = option_map settled_note (option_and_then (λ (t : Tunnel). framed_front c t t.waiting) (next_framed c))
 
 -- ---- writes
-
-abbrev pub within : Option ℕ → ℕ → ℕ
-within None size = size
-within (Some room) size = min room size
 
 -- so many bytes are given to the link
 abbrev pub wrote : Conn → ℕ → Note × Conn

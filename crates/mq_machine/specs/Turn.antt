@@ -23,12 +23,12 @@ use Rattle.mq_talk.specs.Judging.{IsJudged}
 use Rattle.mq_talk.specs.Mails.{box_at, has_room}
 use Rattle.mq_talk.specs.Packets.{flow_of}
 use Rattle.mq_machine.specs.Words.{onward}
-use Rattle.mq_outside.specs.Links.{behind, room_left}
+use Rattle.mq_outside.specs.Links.{behind, taken_of, room_left}
 use Rattle.mq_machine.specs.State.{Conn, Tunnel, Link, Port, Net, Held, Offer, Worker, Pump, Shared, State, new_conn, owed, kind_of, tunnel_of, held_of}
 use Rattle.mq_machine.specs.Want.{Want, Nothing, Say, Bind, Ask, Judge, Push, Send, Over, Answer, Said, want_of}
 use Rattle.mq_machine.specs.Done.{done}
 use Rattle.mq_machine.specs.Shared.{Answers, PortsAnswer, ports_after, port_of, at_port, inbox_of, pushing, Ordered}
-use Rattle.mq_machine.specs.Steps.{can_read, framed, wrote, within, finished, failed, settled_note, queued, can_receive, received, port_received, port_failed}
+use Rattle.mq_machine.specs.Steps.{can_read, framed, wrote, finished, failed, settled_note, queued, can_receive, received, port_received, port_failed}
 use Rattle.mq_machine.specs.Reading.{TookNext, EndsThere}
 
 -- ---- what a connection can do
@@ -114,7 +114,7 @@ abbrev pub frame_done : Held → HeldDone
 frame_done h = option_map (with_conn h) (framed h.conn)
 
 abbrev pub write_count : Held → ℕ
-write_count h = within h.link.room (length (owed h.conn))
+write_count h = taken_of h.link.room (length (owed h.conn))
 
 abbrev pub write_done : Held → HeldDone
 write_done h = Some (with_conn (record h { link = record h.link { room = room_left h.link.room (write_count h) } }) (wrote h.conn (write_count h)))
