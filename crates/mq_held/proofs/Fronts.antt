@@ -33,12 +33,12 @@ use Rattle.mq_held.specs.declared.ask.Heard.{Heard}
 use Rattle.mq_held.specs.Answers.{IsPlain, BindGives, AskGives, HearGives}
 
 -- the first act, and what is behind it
-done_first : (s : Conn) (a : Act) (rest : List Due) (answer : Answer) → s.ending ≡ None → s.due ≡ due.Do a ∷ rest
+pub done_first : (s : Conn) (a : Act) (rest : List Due) (answer : Answer) → s.ending ≡ None → s.due ≡ due.Do a ∷ rest
     → done s answer ≡ option_map settled_note (act_done (record s { due = rest }) a answer)
 done_first s a rest answer ending first =
     ap (λ (e : Option End). option_map settled_note (done_by s e answer)) ending ∙ ap (λ (ds : List Due). option_map settled_note (due_done s ds answer)) first
 
-some_first : (s : Conn) (a : Act) (rest : List Due) (answer : Answer) → s.ending ≡ None → s.due ≡ due.Do a ∷ rest
+pub some_first : (s : Conn) (a : Act) (rest : List Due) (answer : Answer) → s.ending ≡ None → s.due ≡ due.Do a ∷ rest
     → is_some (option_map settled_note (act_done (record s { due = rest }) a answer)) ≡ true → is_some (done s answer) ≡ true
 some_first s a rest answer ending first some = ap (λ (o : Done). is_some o) (done_first s a rest answer ending first) ∙ some
 
@@ -187,6 +187,14 @@ ask_by s (Some why) c config h r ending plain w answer =
 pub ask_some : (s : Conn) (c : Call) (config : Config) (h : List Entry) (r : Reply) → IsPlain c → want_of s ≡ Ask c → IsAnswer config h c r → is_some (done s (Replied r)) ≡ true
 ask_some s c config h r plain w answer = ask_by s s.ending c config h r refl plain w answer
 
+-- a close is answered in one way
+closed_only : (config : Config) (h : List Entry) (tunnel : ℕ) (r : Reply) → IsAnswer config h (call.Close tunnel) r → r ≡ reply.Closed
+closed_only config h tunnel reply.Closed a = refl
+closed_only config h tunnel (reply.Opened u routes) a = absurd a
+closed_only config h tunnel (reply.HistoryFull entries live) a = absurd a
+closed_only config h tunnel (reply.Assigned list at) a = absurd a
+closed_only config h tunnel (reply.Accepted accepts at) a = absurd a
+
 -- ---- what the calls give
 
 pub bound_true : (W N : Type 0) (before after : Conn → Type 0) (s : Conn) (result : Result Note NoMemory) → W → before s → is_some (done s (Bound true)) ≡ true
@@ -208,7 +216,10 @@ hears actor old asked new c d s said (Ok h) stands plain w ok gives =
 hears actor old asked new c d s said (Err refused) stands plain w ok gives =
     let some = ask_some s asked old.config ok.book said plain w ok.reply_is in
     let t = gives s stands some in
-    inr (record { said = said; replied = ok; open_is = t.0; stands_for = t.1 })
+    let P : Call → Type 0 = λ a. IsAnswer old.config ok.book a said in (
+      λ tunnel is. t.0 (closed_only old.config ok.book tunnel said (subst P is ok.reply_is)),
+      inr (record { said = said; replied = ok; open_is = t.0; stands_for = t.1 }),
+    )
 
 pub match_true : (A B : Type 0) (b : Bool) → b ≡ true → MatchBool b A B → A
 match_true A B true is m = m

@@ -151,6 +151,7 @@ sends_long None counts p s n payload said t f long is = record {
   does = does_long empty_port p s n payload said t f long is;
   tells = tt;
   counts = ap (λ (b : Bool). cond b counts (after_send counts put.Sent)) (sym long);
+  fails = λ none is. absurd cc;
 }
 sends_long (Some h) counts p s n payload said t f long is = record {
   holds = h;
@@ -159,6 +160,7 @@ sends_long (Some h) counts p s n payload said t f long is = record {
   does = does_long h p s n payload said t f long is;
   tells = keeps_long h p payload long;
   counts = ap (λ (b : Bool). cond b counts (after_send counts (put_of (holding h p)))) (sym long);
+  fails = λ none is. absurd cc;
 }
 
 keeps_sent : (h : PortHolds) (p : Port) (payload : List ℕ) → nat_lt p.limit (length payload) ≡ false → h.send_fails ≡ false → holds_of (port_sent payload (holding h p)) ≡ h
@@ -177,6 +179,7 @@ sends_sent None after counts counts_after p s payload said t short sends same is
   does = is;
   tells = let P : Option PortHolds → Type 0 = λ o. IsTold o (holds_of (port_sent payload (holding empty_port p))) in subst P (sym sends) tt;
   counts = same ∙ ap (λ (b : Bool). cond b counts (after_send counts put.Sent)) (sym short);
+  fails = λ none is. absurd cc;
 }
 sends_sent (Some h) after counts counts_after p s payload said t short sends same is =
     let put_is : put_of (holding h p) ≡ put.Sent =
@@ -188,6 +191,7 @@ sends_sent (Some h) after counts counts_after p s payload said t short sends sam
       does = ap (λ (o : PortPut). done s (Put o p.limit)) put_is ∙ is;
       tells = let P : Option PortHolds → Type 0 = λ o. IsTold o (holds_of (port_sent payload (holding h p))) in subst P (sym sends.2) (keeps_sent h p payload short sends.0);
       counts = same ∙ ap (λ (b : Bool). cond b counts (after_send counts put.Sent)) (sym short) ∙ ap (λ (o : PortPut). cond (nat_lt p.limit (length payload)) counts (after_send counts o)) (sym put_is);
+      fails = λ none is. absurd cc;
     }
 
 keeps_failed : (h : PortHolds) (p : Port) (payload : List ℕ) → nat_lt p.limit (length payload) ≡ false → h.send_fails ≡ true
@@ -209,6 +213,7 @@ sends_failed None after counts counts_after p s payload said t short sends same 
       does = is;
       tells = let P : Option PortHolds → Type 0 = λ o. IsTold o (holds_of (port_sent payload (holding h p))) in subst P (sym sends) tt;
       counts = same ∙ ap (λ (b : Bool). cond b counts (after_send counts put.Failed)) (sym short);
+      fails = λ none is. same;
     }
 sends_failed (Some h) after counts counts_after p s payload said t short sends same is =
     let put_is : put_of (holding h p) ≡ put.Failed = ap (λ (b : Bool). cond b put.Failed (cond h.send_waits put.NotNow put.Sent)) sends.0 in
@@ -219,6 +224,7 @@ sends_failed (Some h) after counts counts_after p s payload said t short sends s
       does = ap (λ (o : PortPut). done s (Put o p.limit)) put_is ∙ is;
       tells = let P : Option PortHolds → Type 0 = λ o. IsTold o (holds_of (port_sent payload (holding h p))) in subst P (sym sends.1) (keeps_failed h p payload short sends.0);
       counts = same ∙ ap (λ (b : Bool). cond b counts (after_send counts put.Failed)) (sym short) ∙ ap (λ (o : PortPut). cond (nat_lt p.limit (length payload)) counts (after_send counts o)) (sym put_is);
+      fails = λ none is. absurd cc;
     }
 
 pub some_same : {A : Type 0} (a b : A) → Some a ≡ Some b → a ≡ b

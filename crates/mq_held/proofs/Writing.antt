@@ -3,7 +3,7 @@ use Rattle.std.proofs.Common.{◌≡◌, ◌≢◌, ◌≤◌, ◌<◌, ℕ, zer
 use Rattle.std.proofs.Math.Nat.{min-eq_left}
 use Rattle.std.proofs.lemmas.Bool.{lt-ltb}
 use Rattle.mq_outside.specs.Counts.{LinkCounts}
-use Rattle.mq_outside.specs.Links.{LinkWrites, most_at_once, fitting, taken_of, room_left}
+use Rattle.mq_outside.specs.Links.{LinkPast, LinkWrites, most_at_once, fitting, taken_of, room_left}
 use Rattle.mq_outside.specs.declared.LinkPut.TheVariants.{Took}
 use Rattle.mq_talk.specs.declared.note.Note.{Note}
 use Rattle.mq_talk.specs.declared.note.Note.TheVariants as note
@@ -37,10 +37,10 @@ room_is_some : (room : Option ℕ) (count size : ℕ) → 0 < count → count �
 room_is_some None count size some is = refl
 room_is_some (Some room) count size some is = lt-ltb 0 room (positive room size count some is)
 
-pub write_does : (holds after : Option Link) (counts counts_after : LinkCounts) (s : Conn) (bytes taken : List ℕ) (count : ℕ) → bytes ≡ owed s
+pub write_does : (holds after : Option Link) (past past_after : LinkPast) (counts counts_after : LinkCounts) (s : Conn) (bytes taken : List ℕ) (count : ℕ) → bytes ≡ owed s
     → 0 < count → count ≤ length bytes → count < 4294967296 → LinkWrites holds after bytes (Took count) → counts_after ≡ counts → taken ≡ take count bytes
-    → WriteDoes (record { holds = holds; after = after; counts = counts; counts_after = counts_after }) s (note.Wrote s.number taken) (wrote s count).1
-write_does None after counts counts_after s bytes taken count are some within small writes same taken_is =
+    → WriteDoes (record { holds = holds; after = after; past = past; past_after = past_after; counts = counts; counts_after = counts_after }) s (note.Wrote s.number taken) (wrote s count).1
+write_does None after past past_after counts counts_after s bytes taken count are some within small writes same taken_is =
     let size : length bytes ≡ length (owed s) = ap (λ (xs : List ℕ). length xs) are in
     let le : count ≤ length (owed s) = omega (arith, size, within) in
     let exact = fits count (length (owed s)) le small in
@@ -53,8 +53,9 @@ write_does None after counts counts_after s bytes taken count are some within sm
       does = said_wrote s taken count (fitting count (length (owed s))) exact (taken_is ∙ ap (λ (xs : List ℕ). take count xs) are);
       tells = let P : Option Link → Type 0 = λ o. IsTold o (record new_link { room = room_left (Some count) (fitting count (length (owed s))) }) in subst P (sym writes) tt;
       counts = same;
+      untold = λ none. writes;
     }
-write_does (Some link) after counts counts_after s bytes taken count are some within small writes same taken_is =
+write_does (Some link) after past past_after counts counts_after s bytes taken count are some within small writes same taken_is =
     let size : length bytes ≡ length (owed s) = ap (λ (xs : List ℕ). length xs) are in
     let le : count ≤ length (owed s) = omega (arith, size, within) in
     let exact : count ≡ taken_of link.room (length (owed s)) = writes.1 ∙ ap (λ (n : ℕ). taken_of link.room n) size in
@@ -71,4 +72,5 @@ write_does (Some link) after counts counts_after s bytes taken count are some wi
           let is : after ≡ Some now = writes.2 ∙ ap (λ (n : ℕ). Some (record link { room = room_left link.room n })) exact in
           subst P (sym is) refl;
       counts = same;
+      untold = λ none. absurd cc;
     }

@@ -1,6 +1,6 @@
 -- What a connection does as a bind and the book answer it.
 use Rattle.std.specs.Prelude.{◌≡◌, ◌≢◌, ⊤, ◌⊎◌, ℕ, true, false, Option, Some, None, Result, Ok, Err}
-use Rattle.slab.specs.Slab.{Slab}
+use Rattle.slab.specs.Slab.{Slab, get}
 use Rattle.mq_wire.specs.declared.NoMemory.{NoMemory}
 use Rattle.mq_addr.specs.declared.addr.Addr.{Addr}
 use Rattle.mq_outside.specs.Counts.{risen, PortCounts, no_port_counts}
@@ -36,6 +36,14 @@ pub record NotBound {Q : Type 0} (old new : Slab Q) (before after : Option ℕ) 
   pub table : new.slots ≡ old.slots
   pub bound_is : after ≡ before
   pub faults_are : faults_after ≡ risen faults
+
+-- every port that stood in the table stands there
+abbrev pub KeepsPorts : {Q : Type 0} → Slab Q → Slab Q → Type 0
+KeepsPorts {Q} old new = (key : ℕ) (port : Q) → get old key ≡ Some port → get new key ≡ Some port
+
+-- the key of a port that is bound is as it was, or new
+abbrev pub IsFresh : {Q : Type 0} → Slab Q → Option ℕ → Option ℕ → Type 0
+IsFresh old before after = (after ≡ before) ⊎ ((key : ℕ) × (after ≡ Some key) × (get old key ≡ None))
 
 -- what a bind gives: the note of the connection behind it
 abbrev pub BindGives : (Conn → Type 0) → (was_bound : Type 0) → (not_bound : Type 0) → Conn → Result Note NoMemory → Type 0
@@ -75,9 +83,11 @@ pub record HearsNot (actor : ℕ) (old : Seen) (asked : Call) (new : Seen) (stan
   pub open_is : said ≢ reply.Closed
   pub stands_for : stands (heard s said)
 
+-- A close is never refused memory.
 abbrev pub AskGives : ℕ → Seen → Call → Seen → (Conn → Type 0) → Conn → Result Heard NoMemory → Type 0
 AskGives actor old asked new stands s (Ok h) = (t : Conn) × Hears actor old asked new s h t × stands t
-AskGives actor old asked new stands s (Err refused) = (CallGives actor old asked (Err refused) new × stands (starved s)) ⊎ HearsNot actor old asked new stands s
+AskGives actor old asked new stands s (Err refused) =
+    ((tunnel : ℕ) → asked ≢ call.Close tunnel) × ((CallGives actor old asked (Err refused) new × stands (starved s)) ⊎ HearsNot actor old asked new stands s)
 
 -- a reply was heard
 abbrev pub HearGives : Core → Core → Reply → Result Heard NoMemory → Type 0

@@ -1,5 +1,6 @@
 pub mod Links
 pub mod Ports
+pub mod Ready
 pub mod Frames
 pub mod Seats
 pub mod Answers

@@ -3,7 +3,7 @@
 use Rattle.std.specs.Prelude.{◌≡◌, ◌≢◌, ⊤, ◌⊎◌, ℕ, Bool, true, false, List, [], ◌∷◌, length, take, drop, Option, Some, None, Result, Ok, Err}
 use Rattle.mq_wire.specs.declared.NoMemory.{NoMemory}
 use Rattle.mq_outside.specs.Counts.{risen, LinkCounts}
-use Rattle.mq_outside.specs.Links.{taken_of, room_left, behind}
+use Rattle.mq_outside.specs.Links.{LinkPast, taken_of, room_left, behind, and_then, marked}
 use Rattle.mq_talk.specs.declared.note.Note.{Note}
 use Rattle.mq_talk.specs.declared.note.Note.TheVariants as note
 use Rattle.mq_talk.specs.Mails.{IsTold}
@@ -12,22 +12,31 @@ use Rattle.mq_machine.specs.State.{Conn, Link, owed}
 use Rattle.mq_machine.specs.Steps.{can_read, wrote, finished, failed, starved}
 use Rattle.mq_machine.specs.Reading.{TookNext, EndsThere}
 use Rattle.mq_machine.specs.Turn.{has_room_for, most_read}
+use Rattle.mq_held.specs.Ready.{CanTake}
 use Rattle.mq_held.specs.declared.went.Went.{Went}
 use Rattle.mq_held.specs.declared.went.Went.TheVariants.{Waits, Failed, Did}
 
--- a link before and behind a call, as it tells it, with its counts
+-- a link before and behind a call: what it holds, and what it gave and took, as it tells these, with its counts
 pub record Calls : Type 0 where
   pub holds : Option Link
   pub after : Option Link
+  pub past : LinkPast
+  pub past_after : LinkPast
   pub counts : LinkCounts
   pub counts_after : LinkCounts
+
+-- the same of a link, with what its trait says that it tells
+abbrev pub calls_of : {L : Type 0} → (L → Option Link) → (L → LinkPast) → (L → LinkCounts) → (old new : L) → Calls
+calls_of holds past counts old new =
+    record { holds = holds old; after = holds new; past = past old; past_after = past new; counts = counts old; counts_after = counts new }
 
 -- the link wasn't called
 pub record IsUncalled (c : Calls) : Type 0 where
   pub holds : c.after ≡ c.holds
+  pub past : c.past_after ≡ c.past
   pub counts : c.counts_after ≡ c.counts
 
--- ---- writes
+-- ---- writes; what one adds to the link's past is told apart, by its note (WritesPast)
 
 -- a link that tells it takes nothing now
 abbrev pub TakesNothing : Option Link → Type 0
@@ -53,6 +62,7 @@ pub record WriteDoes (c : Calls) (s : Conn) (said : Note) (t : Conn) : Type 0 wh
   pub some : owed s ≢ []
   pub does : wrote s (taken_of link.room (length (owed s))) ≡ (said, t)
   pub tells : IsTold c.after (record link { room = room_left link.room (taken_of link.room (length (owed s))) })
+  pub untold : c.holds ≡ None → c.after ≡ None
   pub counts : c.counts_after ≡ c.counts
 
 -- a link that tells it fails the write, once
@@ -65,12 +75,18 @@ pub record WriteFails (c : Calls) (s : Conn) : Type 0 where
   pub fails : FailsWrite c.holds c.after
   pub counts : c.counts_after ≡ record c.counts { faults = risen c.counts.faults }
 
--- What a write gives, and for which state the connection stands then. Memory is taken before the link is called.
+-- What a write gives, and for which state the connection stands then. Memory is taken before the link is called, and only where
+-- the link could be written to.
 abbrev pub WriteGives : Calls → (Conn → Type 0) → Conn → Result Went NoMemory → Type 0
 WriteGives c stands s (Ok Waits) = WriteWaits c s × stands s
 WriteGives c stands s (Ok Failed) = WriteFails c s × stands (failed s)
 WriteGives c stands s (Ok (Did said)) = (t : Conn) × WriteDoes c s said t × stands t
-WriteGives c stands s (Err refused) = (owed s ≢ []) × IsUncalled c × stands (starved s)
+WriteGives c stands s (Err refused) = (owed s ≢ []) × CanTake c.holds × IsUncalled c × stands (starved s)
+
+-- The bytes of the note are those that the link took, where it tells that; with no such note it took none.
+abbrev pub WritesPast : LinkPast → LinkPast → Result Went NoMemory → Type 0
+WritesPast old new (Ok (Did (note.Wrote conn bytes))) = new ≡ record old { took = and_then old.took bytes }
+WritesPast old new answer = new ≡ old
 
 -- ---- reads
 
@@ -82,6 +98,7 @@ GivesNothing (Some link) = (link.read_fails ≡ false) × (link.pieces ≡ []) �
 pub record ReadAsked (c : Calls) : Type 0 where
   pub nothing : GivesNothing c.holds
   pub holds : c.after ≡ c.holds
+  pub past : c.past_after ≡ c.past
   pub counts : c.counts_after ≡ record c.counts { read_waits = risen c.counts.read_waits }
 
 -- nothing was read: it reads nothing now, or nothing is there
@@ -98,6 +115,8 @@ pub record TakesPiece (c : Calls) (piece : List ℕ) : Type 0 where
   pub pieces : link.pieces ≡ first ∷ others
   pub piece_is : piece ≡ take most_read first
   pub tells : IsTold c.after (record link { pieces = behind (drop most_read first) others })
+  pub untold : c.holds ≡ None → c.after ≡ None
+  pub past : c.past_after ≡ record c.past { gave = and_then c.past.gave piece }
   pub counts : c.counts_after ≡ c.counts
 
 -- the link has ended
@@ -108,6 +127,8 @@ pub record TakesEnd (c : Calls) : Type 0 where
   pub pieces : link.pieces ≡ []
   pub is_ended : link.is_ended ≡ true
   pub tells : IsTold c.after link
+  pub untold : c.holds ≡ None → c.after ≡ None
+  pub past : c.past_after ≡ record c.past { answered_end = marked c.past.answered_end }
   pub counts : c.counts_after ≡ c.counts
 
 -- a piece, or the end, was read
@@ -123,6 +144,7 @@ FailsRead (Some link) after = (link.read_fails ≡ true) × (after ≡ Some (rec
 
 pub record ReadFails (c : Calls) : Type 0 where
   pub fails : FailsRead c.holds c.after
+  pub past : c.past_after ≡ c.past
   pub counts : c.counts_after ≡ record c.counts { faults = risen c.counts.faults }
 
 -- What a read gives, and for which state the connection stands then. A piece was taken where memory was refused.

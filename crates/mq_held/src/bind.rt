@@ -1,5 +1,6 @@
 //! A port is bound for a request.
 ghost use Rattle.std.specs.Prelude.{◌≡◌, ◌<◌, ℕ, IfOk, OnOk};
+ghost use Rattle.slab.specs.Slab.{get};
 ghost use Rattle.std.specs.Bool.{MatchBool};
 ghost use Rattle.mq_talk.specs.declared.goal.Goal.{Goal};
 ghost use Rattle.mq_machine.specs.State as machine;
@@ -7,7 +8,7 @@ ghost use Rattle.mq_machine.specs.Want.{want_of, Bind};
 ghost use Rattle.mq_conn.specs.Conns.{IsConn};
 ghost use Rattle.std.specs.Vec.{vec_len, vec_capacity};
 ghost use Rattle.mq_ports.specs.Tables.{IsBalanced};
-ghost use Rattle.mq_held.specs.Answers.{BindGives, PortBound, NotBound};
+ghost use Rattle.mq_held.specs.Answers.{BindGives, PortBound, NotBound, KeepsPorts, IsFresh};
 
 use crate::held::Held;
 use mq_addr::Addr;
@@ -31,6 +32,10 @@ impl<L> Held<L> {
         ensures room { OnOk result (vec_len self.new.ports < vec_capacity self.new.ports) }
         ensures seats { self.new.ports.items ≡ self.old.ports.items }
         ensures balanced { IsBalanced P.P.place (P.past table.old.ports) table.old.table.slots → IsBalanced P.P.place (P.past table.new.ports) table.new.table.slots }
+        ensures keeps { KeepsPorts table.old.table table.new.table }
+        ensures fresh { IsFresh table.old.table self.old.bound self.new.bound }
+        ensures link { self.new.link ≡ self.old.link }
+        ensures number { self.new.number ≡ self.old.number }
     {
         self.ports.reserve(1)?;
         table.reserve()?;
@@ -57,6 +62,10 @@ impl<L> Held<L> {
         ensures seats { self.new.ports.items ≡ self.old.ports.items }
         ensures room { OnOk result (vec_len self.new.ports < vec_capacity self.new.ports) }
         ensures balanced { IsBalanced P.P.place (P.past table.old.ports) table.old.table.slots → IsBalanced P.P.place (P.past table.new.ports) table.new.table.slots }
+        ensures keeps { KeepsPorts table.old.table table.new.table }
+        ensures fresh { IsFresh table.old.table self.old.bound self.new.bound }
+        ensures link { self.new.link ≡ self.old.link }
+        ensures number { self.new.number ≡ self.old.number }
     {
         match self.bind_port(addr, port, table) {
             Err(refused) => {

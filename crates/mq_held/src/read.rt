@@ -3,7 +3,7 @@ ghost use Rattle.std.specs.Prelude.{◌≡◌, length};
 ghost use Rattle.mq_addr.specs.declared.kind.Kind.TheVariants as kind;
 ghost use Rattle.mq_machine.specs.State as machine;
 ghost use Rattle.mq_conn.specs.Conns.{IsConn};
-ghost use Rattle.mq_held.specs.Links.{ReadGives};
+ghost use Rattle.mq_held.specs.Links.{calls_of, ReadGives};
 
 use crate::held::Held;
 use crate::went::{Went, size_of};
@@ -18,7 +18,7 @@ impl<L: Link> Held<L> {
     pub fn read(&mut self, setup: &Setup, buffer: &mut [u8]) -> Result<Went, NoMemory>
         requires { length buffer.old ≡ 16384 }
         ensures gives { (s : machine.Conn) → IsConn self.old.conn s → s.number ≡ self.old.number → setup.now.udp.kind ≡ kind.Udp
-            → ReadGives setup.now (record { holds = L.holds self.old.link; after = L.holds self.new.link; counts = L.counts self.old.link; counts_after = L.counts self.new.link }) (IsConn self.new.conn) s result }
+            → ReadGives setup.now (calls_of L.holds L.past L.counts self.old.link self.new.link) (IsConn self.new.conn) s result }
         ensures rest { self.new ≡ record self.old { conn = self.new.conn; link = self.new.link } }
         ensures size { length buffer.new ≡ length buffer.old }
     {

@@ -1,14 +1,15 @@
 //! A datagram is received on the port of a tunnel.
-ghost use Rattle.std.specs.Prelude.{◌≡◌, ◌≢◌, ℕ, Some};
+ghost use Rattle.std.specs.Prelude.{◌≡◌, ◌≢◌, ℕ, length, Some, OnErr, IfSome};
 ghost use Rattle.slab.specs.Slab.{get};
 ghost use Rattle.mq_machine.specs.State as machine;
 ghost use Rattle.mq_machine.specs.State.{tunnel_of};
 ghost use Rattle.mq_conn.specs.Conns.{IsConn};
 ghost use Rattle.mq_ports.specs.Tables.{IsBalanced};
-ghost use Rattle.mq_held.specs.Ports.{ReceiveGives, KeepsMost};
+ghost use Rattle.mq_held.specs.Ports.{receive_calls, ReceiveGives, KeepsMost};
 
 use crate::datagrams::{Came, Datagrams};
 use crate::held::{Held, PortSeat};
+use crate::ready::ReceiveReady;
 use crate::went::Went;
 use mq_outside::Ports;
 use mq_ports::PortTable;
@@ -25,11 +26,16 @@ impl<L> Held<L> {
         datagrams: &mut Datagrams,
         table: &mut PortTable<P>,
     ) -> Result<Went, NoMemory>
+    where
+        P::P: ReceiveReady,
+        requires room { length datagrams.old.room.items ≡ 65535 }
         ensures gives { (s : machine.Conn) → IsConn self.old.conn s → (t : machine.Tunnel) → tunnel_of s seat.tunnel ≡ Some t → t.id ≡ seat.tunnel
             → (was : P.P) → get table.old.table seat.key ≡ Some was
-            → (now : P.P) × (get table.new.table seat.key ≡ Some now) × ReceiveGives (record { holds = P.P.holds was; after = P.P.holds now; counts = P.P.counts was; counts_after = P.P.counts now })
+            → (now : P.P) × (get table.new.table seat.key ≡ Some now) × ReceiveGives (receive_calls P.P.holds P.P.past P.P.counts was now)
             (IsConn self.new.conn) s t seat.received result }
+        ensures refused { OnErr result (IfSome datagrams.old.spare (λ spare. length spare.items ≢ 65535)) }
         ensures rest { self.new ≡ record self.old { conn = self.new.conn } }
+        ensures room { length datagrams.new.room.items ≡ 65535 }
         ensures kept { KeepsMost P.P.most table.old.table table.new.table seat.key }
         ensures others { (other : ℕ) → other ≢ seat.key → get table.new.table other ≡ get table.old.table other }
         ensures ports { table.new.ports ≡ table.old.ports }

@@ -1,10 +1,10 @@
 //! The seats of a connection's ports.
-ghost use Rattle.std.specs.Prelude.{◌≡◌, ◌<◌, ◌++◌, ◌∷◌, [], ℕ, remove, MatchOption, Some, None};
+ghost use Rattle.std.specs.Prelude.{◌≡◌, ◌<◌, ◌++◌, ◌∷◌, [], ℕ, ⊤, remove, MatchOption, Some, None, slice_get, slice_set};
 ghost use Rattle.std.specs.Vec.{vec_len, vec_capacity};
 ghost use Rattle.slab.specs.Slab.{get, Updates};
 ghost use Rattle.mq_outside.specs.Counts.{risen_by};
 ghost use Rattle.mq_ports.specs.Tables.{IsBalanced};
-ghost use Rattle.mq_held.specs.Seats.{IsSeatOf, HasNoSeat};
+ghost use Rattle.mq_held.specs.Seats.{IsSeatOf, HasNoSeat, counted};
 ghost use Rattle.mq_held.specs.declared.held.PortSeat.{PortSeat};
 
 use crate::held::{Held, PortSeat};
@@ -26,7 +26,7 @@ impl<L> Held<L> {
 
     /// The port that was bound is that of this tunnel, for whose seat there is room.
     pub fn seat(&mut self, tunnel: u32)
-        requires room { vec_len self.old.ports < vec_capacity self.old.ports }
+        requires room { MatchOption self.old.bound ⊤ (λ key. vec_len self.old.ports < vec_capacity self.old.ports) }
         ensures seat { MatchOption self.old.bound (self.new.ports.items ≡ self.old.ports.items)
             (λ key. self.new.ports.items ≡ self.old.ports.items ++ record { tunnel = tunnel; key = key; received = 0 } ∷ []) }
         ensures rest { self.new ≡ record self.old { ports = self.new.ports; bound = None } }
@@ -66,6 +66,18 @@ impl<L> Held<L> {
     {
         if let Some(key) = self.bound.take() {
             table.retire(key);
+        }
+    }
+
+    /// One datagram more was received on the port of the seat at this place.
+    pub fn count(&mut self, place: usize)
+        ensures seats { MatchOption (slice_get self.old.ports.items place) (self.new.ports.items ≡ self.old.ports.items)
+            (λ seat. self.new.ports.items ≡ slice_set self.old.ports.items place (record seat { received = counted seat.received })) }
+        ensures rest { self.new ≡ record self.old { ports = self.new.ports } }
+        ensures bound { vec_capacity self.new.ports ≡ vec_capacity self.old.ports }
+    {
+        if let Some(seat) = self.ports.get_mut(place) {
+            seat.received = seat.received.saturating_add(1);
         }
     }
 }

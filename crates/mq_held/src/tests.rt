@@ -79,6 +79,11 @@ fn a_tunnel_carries_both_ways(rt: HostRuntime) -> Result<(), Fail> {
     let Note::Opened { tunnel: 0, .. } = held.conn.answer(opened)? else {
         return Err(Fail::from("the opening"));
     };
+    held.link.grant(Some(0));
+    let Went::Waits = held.write(rt.alloc())? else {
+        return Err(Fail::from("a link that takes nothing"));
+    };
+    held.link.grant(None);
     let Went::Did(Note::Wrote { conn: 7, .. }) = held.write(rt.alloc())? else {
         return Err(Fail::from("the answer"));
     };
@@ -101,7 +106,7 @@ fn a_tunnel_carries_both_ways(rt: HostRuntime) -> Result<(), Fail> {
         return Err(Fail::from("the port in the table"));
     };
     port.arrive(bytes(rt.alloc(), b"back")?)?;
-    let mut datagrams = Datagrams::new();
+    let mut datagrams = Datagrams::new(rt.alloc())?;
     let seat = PortSeat {
         tunnel: 0,
         key,

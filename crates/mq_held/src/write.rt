@@ -1,13 +1,15 @@
 //! What is owed is written to the link.
-ghost use Rattle.std.specs.Prelude.{◌≡◌, ◌≢◌, ◌+◌, ◌≤◌, [], length, IfOk};
+ghost use Rattle.std.specs.Prelude.{◌≡◌, ◌+◌, ◌≤◌, ◌<◌, [], false, length};
 ghost use Rattle.std.specs.Vec.{vec_len, vec_capacity};
 ghost use Rattle.mq_machine.specs.State as machine;
 ghost use Rattle.mq_conn.specs.Conns.{IsConn};
-ghost use Rattle.mq_held.specs.Links.{WriteGives};
+ghost use Rattle.mq_held.specs.Links.{calls_of, WriteAsked, WriteGives, WritesPast};
+ghost use Rattle.mq_held.specs.Ready.{WouldWrite};
 
 use crate::held::Held;
+use crate::ready::WriteReady;
 use crate::went::{Went, size_of};
-use mq_outside::{Link, LinkPut};
+use mq_outside::LinkPut;
 use mq_talk::{End, Note};
 use mq_wire::{Bytes, NoMemory};
 use std::alloc::Global;
@@ -24,14 +26,35 @@ fn filled(mut room: Vec<u8>, first: &[u8]) -> Bytes
     Bytes::from_vec(room)
 }
 
-impl<L: Link> Held<L> {
-    /// Writes what it owes, where it owes something. The memory for the note is taken before.
+/// Writes to a link that takes nothing now, which counts that it waits. Takes no memory.
+fn wait<L: WriteReady>(link: &mut L, owed: &[u8])
+    requires some { 0 < length owed.now }
+    requires waits { WouldWrite (L.holds link.old) false }
+    ensures asked { WriteAsked (calls_of L.holds L.past L.counts link.old link.new) }
+    ensures past { L.past link.new ≡ L.past link.old }
+{
+    match link.write(owed) {
+        LinkPut::NotNow => (),
+        LinkPut::Failed => unreachable!(),
+        LinkPut::Took(_) => unreachable!(),
+    }
+}
+
+impl<L: WriteReady> Held<L> {
+    /// Writes what it owes, where it owes something. The memory for the note is taken before, and only where the link may
+    /// take something now, or fail.
     pub fn write(&mut self, alloc: Global) -> Result<Went, NoMemory>
-        ensures gives { (s : machine.Conn) → IsConn self.old.conn s → s.number ≡ self.old.number → WriteGives (record { holds = L.holds self.old.link; after = L.holds self.new.link; counts = L.counts self.old.link; counts_after = L.counts self.new.link }) (IsConn self.new.conn) s result }
+        ensures gives { (s : machine.Conn) → IsConn self.old.conn s → s.number ≡ self.old.number → WriteGives (calls_of L.holds L.past L.counts self.old.link self.new.link) (IsConn self.new.conn) s result }
+        ensures past { WritesPast (L.past self.old.link) (L.past self.new.link) result }
         ensures rest { self.new ≡ record self.old { conn = self.new.conn; link = self.new.link } }
     {
         let owed = self.conn.owed();
         if owed.is_empty() {
+            return Ok(Went::Waits);
+        }
+        let would_write = self.link.would_write();
+        if !would_write {
+            wait(&mut self.link, owed);
             return Ok(Went::Waits);
         }
         let Ok(room) = Vec::with_capacity(alloc, owed.len()) else {
