@@ -1,0 +1,85 @@
+-- For which state a connection stands behind an answer.
+use Rattle.std.proofs.Common.{◌≡◌, ◌≢◌, ℕ, ◌<◌, List, [], Option, None, MatchOption, refl, sym, ap, subst}
+use Rattle.std.specs.Prelude.{⊤}
+use Rattle.std.specs.Vec.{vec_len, vec_capacity}
+use Rattle.slab.specs.Slab.{Slab}
+use Rattle.mq_talk.specs.declared.book.Call.{Call}
+use Rattle.mq_talk.specs.declared.book.Call.TheVariants as call
+use Rattle.mq_talk.specs.declared.goal.Goal.{Goal}
+use Rattle.std.proofs.lemmas.List.Elements.{All-nil}
+use Rattle.mq_talk.specs.Offices.{Seen}
+use Rattle.mq_machine.specs.Acting.{IsOpen}
+use Rattle.mq_machine.specs.State.{Conn, Tunnel, Held, new_conn, new_link}
+use Rattle.mq_machine.specs.Want.{Want, Nothing, Say, Bind, Ask, Judge, Push, Send, Over, want_of}
+use Rattle.mq_conn.specs.Conns.{IsConn}
+use Rattle.mq_held.specs.declared.held.Held.{Held as HeldBy}
+use Rattle.mq_held.specs.declared.held.PortSeat.{PortSeat}
+use Rattle.mq_step.specs.Holds.{ArePorts, AreServed, IsBound, HasRoom, IsHeld, IsKnown}
+use Rattle.mq_step.proofs.Keeping.{NoOpens, no_open, no_opens_nil}
+
+-- a call that opens nothing
+abbrev pub IsNoOpening : Call → Type 0
+IsNoOpening (call.Open conn stream actor goal) = ⊥
+IsNoOpening (call.Assign tunnel asked) = ⊤
+IsNoOpening (call.Advertise tunnel ranges) = ⊤
+IsNoOpening (call.Close tunnel) = ⊤
+
+-- where no opening is wanted, no port is bound
+none_asked : {Q : Type 0} (most : Q → ℕ) (table : Slab Q) (seats : List PortSeat) (c : Call) → ((conn id actor : ℕ) (goal : Goal) → c ≢ call.Open conn id actor goal)
+    → IsBound most table seats (Ask c) None
+none_asked most table seats (call.Open conn id actor goal) not = absurd (not conn id actor goal refl)
+none_asked most table seats (call.Assign tunnel asked) not = refl
+none_asked most table seats (call.Advertise tunnel ranges) not = refl
+none_asked most table seats (call.Close tunnel) not = refl
+
+none_wanted : {Q : Type 0} (most : Q → ℕ) (table : Slab Q) (seats : List PortSeat) (w : Want) → ((conn id actor : ℕ) (goal : Goal) → w ≢ Ask (call.Open conn id actor goal))
+    → IsBound most table seats w None
+none_wanted most table seats Nothing not = refl
+none_wanted most table seats Say not = refl
+none_wanted most table seats (Bind stream goal) not = refl
+none_wanted most table seats (Ask c) not = none_asked most table seats c (λ conn id actor goal is. not conn id actor goal (ap Ask is))
+none_wanted most table seats (Judge tunnel n flow) not = refl
+none_wanted most table seats (Push parcel) not = refl
+none_wanted most table seats (Send tunnel n payload) not = refl
+none_wanted most table seats (Over why) not = refl
+
+pub unbound : {Q : Type 0} (most : Q → ℕ) (table : Slab Q) (seats : List PortSeat) (c : Conn) (bound : Option ℕ) → NoOpens c.due → bound ≡ None → IsBound most table seats (want_of c) bound
+unbound most table seats c bound none is =
+    let P : Option ℕ → Type 0 = λ b. IsBound most table seats (want_of c) b in
+    subst P (sym is) (none_wanted most table seats (want_of c) (λ conn id actor goal want. no_open c conn id actor goal none want))
+
+none_room : {L : Type 0} (h : HeldBy L) → h.bound ≡ None → HasRoom h
+none_room h is = let P : Option ℕ → Type 0 = λ b. MatchOption b ⊤ (λ key. vec_len h.ports < vec_capacity h.ports) in subst P (sym is) tt
+
+-- it stands for a state in which no opening is due
+pub stands : {L Q : Type 0} (most : Q → ℕ) (table : Slab Q) (h : HeldBy L) (t : Held) → IsConn h.conn t.conn → t.conn.number ≡ h.number → ArePorts most table h.ports.items t.ports
+    → AreServed t.conn.ending t.conn.tunnels t.ports → NoOpens t.conn.due → h.bound ≡ None → IsHeld most table h t
+stands most table h t conn number ports served opens bound = record {
+  conn = conn;
+  number = number;
+  ports = ports;
+  served = served;
+  bound = unbound most table h.ports.items t.conn h.bound opens bound;
+  room = none_room h bound;
+}
+
+-- ---- which port is bound, by what is wanted
+
+pub bound_none : {Q : Type 0} (most : Q → ℕ) (table : Slab Q) (seats : List PortSeat) (w v : Want) (bound : Option ℕ) → IsBound most table seats w bound → w ≡ v
+    → IsBound most table seats v bound
+bound_none most table seats w v bound is same = let P : Want → Type 0 = λ x. IsBound most table seats x bound in subst P same is
+
+-- ---- a connection of which nothing was read
+
+pub new_stands : {L Q : Type 0} (most : Q → ℕ) (table : Slab Q) (h : HeldBy L) (number actor : ℕ) → IsConn h.conn (new_conn number actor) → h.number ≡ number → h.ports.items ≡ [] → h.bound ≡ None
+    → IsHeld most table h (record { conn = new_conn number actor; link = new_link; ports = [] })
+new_stands most table h number actor conn same seats bound =
+    let A : List PortSeat → Type 0 = λ xs. ArePorts most table xs [] in
+    stands most table h (record { conn = new_conn number actor; link = new_link; ports = [] }) conn (sym same) (subst A (sym seats) tt) refl no_opens_nil bound
+
+pub new_known : (seen : Seen) (actor number : ℕ) → actor < seen.config.workers → IsKnown seen actor (record { conn = new_conn number actor; link = new_link; ports = [] })
+new_known seen actor number worker = record {
+  worker = worker;
+  actor_is = refl;
+  tunnels = All-nil (λ (t : Tunnel). IsOpen seen.entries actor t.id number t.stream t.goal);
+}

@@ -1,0 +1,99 @@
+use Rattle.std.proofs.Common.{◌≡◌, ◌≢◌, ◌∙◌, ℕ, List, All, remove, None, MatchOption, sym, ap, subst}
+use Rattle.slab.specs.Slab.{get}
+use Rattle.mq_outside.specs.Counts.{risen_by}
+use Rattle.mq_talk.specs.declared.book.Call.TheVariants.{Close}
+use Rattle.mq_machine.specs.Want.{Ask, want_of}
+use Rattle.mq_conn.specs.declared.conn.Conn.{Conn as Core}
+use Rattle.mq_conn.specs.Conns.{IsConn}
+use Rattle.mq_held.specs.declared.held.PortSeat.{PortSeat}
+use Rattle.mq_held.specs.Seats.{IsSeatOf, HasNoSeat}
+use Rattle.mq_step.proofs.Standing.{bound_none}
+use Rattle.mq_step.proofs.Alone.{close_alone}
+use Rattle.mq_step.proofs.Asking.{Closes, may_call, same_actor, port_at_alone, closed_seats, close_done, close_stands, closed_left}
+use Rattle.mq_step.proofs.Others.{retire_others}
+use Rattle.mq_step.proofs.Closing.{closed_is, only_seat_of, at_some}
+use Rattle.mq_step.proofs.ask.close.Goals as goal
+
+pub ask-requires : goal.ask-requires
+ask-requires g c =
+    let k = c.requires.known in
+    may_call c.args.held.now.conn (g.O.Office.seen c.args.office.now) (g.O.Office.actor c.args.office.now) k.0 (Close c.args.tunnel) k.1.conn k.2 k.3
+
+pub returns-clause-gives : goal.returns-clause-gives
+returns-clause-gives g c = λ o n so sn s held want boxes orders.
+    let k = c.requires.known in
+    let old = c.args.held.now in
+    let new = c.retire.new.self in
+    let seen = g.O.Office.seen c.args.office.now in
+    let seen_after = g.O.Office.seen c.ask.new.office in
+    let actor = g.O.Office.actor c.args.office.now in
+    let e = c.in_ok-heard.ensures.gives s.conn held.conn tt want in
+    let closes : Closes actor seen seen_after s c.args.tunnel c.in_ok-heard.heard.note e.0 = record { reply_is = e.1.said; replied = e.1.replied; does = e.1.does } in
+    let mine : s.conn.actor ≡ actor = same_actor old.conn s.conn k.0.conn held.conn k.1.conn ∙ k.2.actor_is in
+    let items : c.ask.new.self.ports.items ≡ old.ports.items = ap (λ h. h.ports.items) c.ask.ensures.rest in
+    let P : List PortSeat → Type 0 = λ xs. (place : ℕ) (seat : PortSeat) → IsSeatOf xs c.args.tunnel place seat → new.ports.items ≡ remove xs place in
+    let gone = subst P items (λ place seat is. (c.retire.ensures.seat place seat is).0) in
+    let N : List PortSeat → Type 0 = λ xs. HasNoSeat xs c.args.tunnel → new.ports.items ≡ xs in
+    let none = subst N items (λ without. ap (λ h. h.ports.items) (c.retire.ensures.none without).0) in
+    let alone = close_alone old.conn s.conn c.args.tunnel held.conn want in
+    let port = port_at_alone g.P.P.Port.most c.args.table.now.table old.conn old.ports.items s c.args.tunnel held.conn want held.ports held.served in
+    let seats = closed_seats g.P.P.Port.most c.args.table.now.table old.ports.items new.ports.items s.ports alone.0.id c.args.tunnel alone.2 port gone none in
+    let bound : new.bound ≡ None =
+    ap (λ h. h.bound) c.retire.ensures.rest ∙ ap (λ h. h.bound) c.ask.ensures.rest ∙ bound_none g.P.P.Port.most c.args.table.now.table old.ports.items (want_of s.conn) (Ask (Close c.args.tunnel)) old.bound held.bound want in
+    let number : s.conn.number ≡ new.number = held.number ∙ sym (ap (λ h. h.number) c.retire.ensures.rest ∙ ap (λ h. h.number) c.ask.ensures.rest) in
+    let C : Core → Type 0 = λ x. IsConn x e.0 in
+    let conn = subst C (sym (ap (λ h. h.conn) c.retire.ensures.rest)) e.2 in (
+      closed_left o s e.0,
+      close_done g.P.P.Port.most c.args.table.now.table old.conn old.ports.items o n actor seen seen_after boxes orders s c.args.tunnel c.in_ok-heard.heard.note e.0 held.conn held.ports held.served mine want closes,
+      close_stands g.P.P.Port.most c.retire.new.table.table old.conn new o s actor seen seen_after c.args.tunnel c.in_ok-heard.heard.note e.0 held.conn want number seats bound closes conn,
+      tt,
+    )
+
+pub returns-clause-others : goal.returns-clause-others
+returns-clause-others g c = λ key port at other.
+    let old = c.args.held.now in
+    let new = c.retire.new.self in
+    let items : c.ask.new.self.ports.items ≡ old.ports.items = ap (λ h. h.ports.items) c.ask.ensures.rest in
+    let all = let P : List PortSeat → Type 0 = λ xs. All (λ (seat : PortSeat). seat.key ≢ key) xs in subst P (sym items) other.seats_are in
+    let r = retire_others c.args.table.now.table c.retire.new.table.table c.ask.new.self.ports.items new.ports.items c.args.tunnel key port
+    (λ place seat is. let x = c.retire.ensures.seat place seat is in (x.0, x.1))
+    (λ without. let x = c.retire.ensures.none without in (ap (λ h. h.ports.items) x.0, ap (λ t. t.table) x.1)) at all in
+    let bound : new.bound ≡ old.bound = ap (λ h. h.bound) c.retire.ensures.rest ∙ ap (λ h. h.bound) c.ask.ensures.rest in
+    (r.0, record { seats_are = r.1; bound_is = λ is. other.bound_is (sym bound ∙ is) })
+
+pub returns-clause-closes : goal.returns-clause-closes
+returns-clause-closes g c = λ s held want.
+    let k = c.requires.known in
+    let old = c.args.held.now in
+    let new = c.retire.new.self in
+    let most = g.P.P.Port.most in
+    let table = c.args.table.now.table in
+    let seen = g.O.Office.seen c.args.office.now in
+    let seen_after = g.O.Office.seen c.ask.new.office in
+    let actor = g.O.Office.actor c.args.office.now in
+    let e = c.in_ok-heard.ensures.gives s.conn held.conn tt want in
+    let closes : Closes actor seen seen_after s c.args.tunnel c.in_ok-heard.heard.note e.0 = record { reply_is = e.1.said; replied = e.1.replied; does = e.1.does } in
+    let mine : s.conn.actor ≡ actor = same_actor old.conn s.conn k.0.conn held.conn k.1.conn ∙ k.2.actor_is in
+    let items : c.ask.new.self.ports.items ≡ old.ports.items = ap (λ h. h.ports.items) c.ask.ensures.rest in
+    let P : List PortSeat → Type 0 = λ xs. (place : ℕ) (seat : PortSeat) → IsSeatOf xs c.args.tunnel place seat → new.ports.items ≡ remove xs place in
+    let gone = subst P items (λ place seat is. (c.retire.ensures.seat place seat is).0) in
+    let N : List PortSeat → Type 0 = λ xs. HasNoSeat xs c.args.tunnel → new.ports.items ≡ xs in
+    let none = subst N items (λ without. ap (λ h. h.ports.items) (c.retire.ensures.none without).0) in
+    let alone = close_alone old.conn s.conn c.args.tunnel held.conn want in
+    let port = port_at_alone most table old.conn old.ports.items s c.args.tunnel held.conn want held.ports held.served in
+    let seats = closed_seats most table old.ports.items new.ports.items s.ports alone.0.id c.args.tunnel alone.2 port gone none in
+    let bound : new.bound ≡ None =
+    ap (λ h. h.bound) c.retire.ensures.rest ∙ ap (λ h. h.bound) c.ask.ensures.rest ∙ bound_none most table old.ports.items (want_of s.conn) (Ask (Close c.args.tunnel)) old.bound held.bound want in
+    let number : s.conn.number ≡ new.number = held.number ∙ sym (ap (λ h. h.number) c.retire.ensures.rest ∙ ap (λ h. h.number) c.ask.ensures.rest) in
+    let C : Core → Type 0 = λ x. IsConn x e.0 in
+    let conn = subst C (sym (ap (λ h. h.conn) c.retire.ensures.rest)) e.2 in
+    let S : List PortSeat → Type 0 = λ xs. (seat : PortSeat) → IsSeatOf xs c.args.tunnel 0 seat → MatchOption (get table seat.key)
+    (g.P.Ports.faults c.retire.new.table.ports ≡ g.P.Ports.faults c.args.table.now.ports)
+    (λ port. g.P.Ports.faults c.retire.new.table.ports ≡ risen_by (g.P.P.Port.counts port).faults (g.P.Ports.faults c.args.table.now.ports)) in
+    let handed = subst S items (λ seat is. (c.retire.ensures.seat 0 seat is).2) in (
+      λ boxes orders. closed_is most c.retire.new.table.table old.conn new actor seen seen_after boxes orders s c.args.tunnel c.in_ok-heard.heard.note e.0 held.conn mine want number seats bound closes conn,
+      λ seat port_is are at. at_some (get table seat.key) port_is
+          (g.P.Ports.faults c.retire.new.table.ports ≡ g.P.Ports.faults c.args.table.now.ports)
+          (λ port. g.P.Ports.faults c.retire.new.table.ports ≡ risen_by (g.P.P.Port.counts port).faults (g.P.Ports.faults c.args.table.now.ports)) at
+          (handed seat (only_seat_of most table old.ports.items s.ports alone.0.id c.args.tunnel seat port alone.2 are)),
+    )

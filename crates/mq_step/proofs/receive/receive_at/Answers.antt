@@ -1,0 +1,262 @@
+use Rattle.std.proofs.Common.{◌≡◌, ◌∙◌, ℕ, List, ◌∷◌, [], All, Option, Some, None, MatchOption, Ok, slice_get, slice_set, refl, sym, ap, subst}
+use Rattle.slab.specs.Slab.{get}
+use Rattle.mq_outside.specs.Counts.{risen, risen_by, PortCounts, no_port_counts}
+use Rattle.mq_outside.specs.Ports.{PortHolds}
+use Rattle.mq_talk.specs.declared.place.Parcel.{Parcel}
+use Rattle.mq_machine.specs.State as machine
+use Rattle.mq_conn.specs.declared.conn.Conn.{Conn as Core}
+use Rattle.mq_conn.specs.Conns.{IsConn}
+use Rattle.mq_held.specs.declared.held.PortSeat.{PortSeat}
+use Rattle.mq_held.specs.declared.went.Went.{Went}
+use Rattle.mq_held.specs.Ports.{receive_calls, ReceiveGives}
+use Rattle.mq_held.specs.Seats.{counted}
+use Rattle.mq_step.specs.Holds.{IsHeld}
+use Rattle.mq_step.specs.Gives.{Gives, Waited, Turned, Starved, StandsAsTold, ReadsWait, receive_alone}
+use Rattle.mq_step.proofs.Others.{HasKey, key_at, keys_set, call_others}
+use Rattle.mq_step.proofs.Sending.{same_port}
+use Rattle.mq_step.proofs.Receiving.{Live, live, link_stays, copied_at, same_seat, tunnel_is}
+use Rattle.mq_step.proofs.Received.{Behind, behind_of, behind_call, only_set, came, received_waits, waits_stand, received_starves, starved_stands, starved_told, sunk_then, received_left, received_done, received_stands, received_told}
+use Rattle.mq_step.proofs.PortFailing.{failing, failed_left, failing_known, blind, blind_sees, wants_close, failing_stands, failed_done, failed_told, closes_give, starved_gives}
+use Rattle.mq_step.proofs.receive.receive_at.Goals as goal
+
+pub returns-in-Waits-clause-gives : goal.returns-in-Waits-clause-gives
+returns-in-Waits-clause-gives g c = λ o n so sn s held few wait setup seat at.
+    let old = c.args.held.now in
+    let table = c.args.table.now.table in
+    let mid = c.receive.new.self in
+    let after = c.receive.new.table.table in
+    let most = g.P.P.Port.most in
+    let holds = g.P.P.Port.holds in
+    let past = g.P.P.Port.past in
+    let counts = g.P.P.Port.counts in
+    let mine = c.in-Some.seat in
+    let here : slice_get old.ports.items c.args.place ≡ Some mine =
+    ap (λ (xs : List PortSeat). slice_get xs c.args.place) (sym c.deref.ensures.value)
+    ∙ copied_at c.get.result mine c.deref.result.now c.args.place c.in-Some.ensures c.get.ensures.lookup.1 c.get.ensures.lookup.3 in
+    let e = c.in_ok-receive.ensures in
+    let rest = e.rest in
+    let x : Live most holds counts table old o s mine = live most holds counts table old o s mine c.args.place held wait so.of_table.ports here in
+    let G : Went → Type 0 = λ w. (now : g.row.P-P.Denot) × (get after mine.key ≡ Some now) × ReceiveGives (receive_calls holds past counts x.is.port now) (IsConn mid.conn) s.conn x.t mine.received (Ok w) in
+    let r = subst G c.in-Waits.is (e.gives s.conn held.conn x.t (tunnel_is most holds counts table old o s mine x) x.id x.is.port x.is.at) in
+    let kept = e.kept x.is.port x.is.at in
+    let same : kept.0 ≡ r.0 = same_port after mine.key kept.0 r.0 kept.1 r.1 in
+    let limit : most r.0 ≡ most x.is.port = ap most (sym same) ∙ kept.2 in
+    let b : Behind most holds counts after old mid o n mine x.is.port =
+    behind_of most holds counts g.L.Link.holds g.L.Link.counts after old mid o n mine mine x.is.port r.0 r.1 limit refl refl (ap (λ h. h.ports.items) rest ∙ x.seats_are)
+    (ap (λ h. h.number) rest) (ap (λ h. h.link) rest) (ap (λ h. h.bound) rest) so.of_link sn.of_link sn.of_table.ports in
+    let seen = g.O.Office.seen c.args.office.now in
+    let P : PortSeat → Type 0 = λ y. Waited (receive_alone y.tunnel) o n seen seen s × IsHeld most after mid s in
+    subst P (same_seat old.ports.items c.args.place mine seat here at) (
+      received_waits most holds past counts table after old mid o n s mine x b seen r.2.0,
+      waits_stand most holds past counts table after old mid o n s mine x b (ap (λ h. h.ports.items) rest) r.2.1,
+    )
+
+pub returns-in_err-receive-clause-gives : goal.returns-in_err-receive-clause-gives
+returns-in_err-receive-clause-gives g c = λ o n so sn s held few wait setup seat at.
+    let old = c.args.held.now in
+    let table = c.args.table.now.table in
+    let mid = c.receive.new.self in
+    let after = c.receive.new.table.table in
+    let most = g.P.P.Port.most in
+    let holds = g.P.P.Port.holds in
+    let past = g.P.P.Port.past in
+    let counts = g.P.P.Port.counts in
+    let mine = c.in-Some.seat in
+    let here : slice_get old.ports.items c.args.place ≡ Some mine =
+    ap (λ (xs : List PortSeat). slice_get xs c.args.place) (sym c.deref.ensures.value)
+    ∙ copied_at c.get.result mine c.deref.result.now c.args.place c.in-Some.ensures c.get.ensures.lookup.1 c.get.ensures.lookup.3 in
+    let e = c.in_err-receive.ensures in
+    let rest = e.rest in
+    let x : Live most holds counts table old o s mine = live most holds counts table old o s mine c.args.place held wait so.of_table.ports here in
+    let r = e.gives s.conn held.conn x.t (tunnel_is most holds counts table old o s mine x) x.id x.is.port x.is.at in
+    let kept = e.kept x.is.port x.is.at in
+    let same : kept.0 ≡ r.0 = same_port after mine.key kept.0 r.0 kept.1 r.1 in
+    let limit : most r.0 ≡ most x.is.port = ap most (sym same) ∙ kept.2 in
+    let b : Behind most holds counts after old mid o n mine x.is.port =
+    behind_of most holds counts g.L.Link.holds g.L.Link.counts after old mid o n mine mine x.is.port r.0 r.1 limit refl refl (ap (λ h. h.ports.items) rest ∙ x.seats_are)
+    (ap (λ h. h.number) rest) (ap (λ h. h.link) rest) (ap (λ h. h.bound) rest) so.of_link sn.of_link sn.of_table.ports in
+    let seen = g.O.Office.seen c.args.office.now in
+    let P : PortSeat → Type 0 = λ y. Gives setup (receive_alone y.tunnel) ReadsWait o n seen seen (IsHeld most after mid) s c.from_residual.result in
+    let starves : (boxes : List (List Parcel)) (orders : machine.Orders) → (t : machine.Held) × Starved (receive_alone mine.tunnel) ReadsWait o n seen seen boxes orders s t × StandsAsTold n (IsHeld most after mid) t =
+    λ boxes orders. (
+      sunk_then o s,
+      received_starves most holds past counts table after old mid o n s mine x seen boxes orders r.2.1,
+      (
+        starved_stands most holds past counts table after old mid o n s mine x b (ap (λ h. h.ports.items) rest) r.2.2,
+        starved_told most holds past counts table after old mid o n s mine x b r.2.0,
+      ),
+    ) in
+    subst P (same_seat old.ports.items c.args.place mine seat here at)
+    (starved_gives setup mine.tunnel o n seen seen (IsHeld most after mid) s c.from_residual.result c.from_residual.ensures.0 starves)
+
+pub returns-in-Did-clause-gives : goal.returns-in-Did-clause-gives
+returns-in-Did-clause-gives g c = λ o n so sn s held few wait setup seat at boxes orders.
+    let old = c.args.held.now in
+    let table = c.args.table.now.table in
+    let mid = c.receive.new.self in
+    let after = c.receive.new.table.table in
+    let most = g.P.P.Port.most in
+    let holds = g.P.P.Port.holds in
+    let past = g.P.P.Port.past in
+    let counts = g.P.P.Port.counts in
+    let mine = c.in-Some.seat in
+    let here : slice_get old.ports.items c.args.place ≡ Some mine =
+    ap (λ (xs : List PortSeat). slice_get xs c.args.place) (sym c.deref.ensures.value)
+    ∙ copied_at c.get.result mine c.deref.result.now c.args.place c.in-Some.ensures c.get.ensures.lookup.1 c.get.ensures.lookup.3 in
+    let e = c.in_ok-receive.ensures in
+    let rest = e.rest in
+    let x : Live most holds counts table old o s mine = live most holds counts table old o s mine c.args.place held wait so.of_table.ports here in
+    let G : Went → Type 0 = λ w. (now : g.row.P-P.Denot) × (get after mine.key ≡ Some now) × ReceiveGives (receive_calls holds past counts x.is.port now) (IsConn mid.conn) s.conn x.t mine.received (Ok w) in
+    let r = subst G c.in-Did.is (e.gives s.conn held.conn x.t (tunnel_is most holds counts table old o s mine x) x.id x.is.port x.is.at) in
+    let kept = e.kept x.is.port x.is.at in
+    let same : kept.0 ≡ r.0 = same_port after mine.key kept.0 r.0 kept.1 r.1 in
+    let limit : most r.0 ≡ most x.is.port = ap most (sym same) ∙ kept.2 in
+    let new = c.count.new.self in
+    let done = c.count.ensures.rest in
+    let one : PortSeat = record mine { received = counted mine.received } in
+    let items : mid.ports.items ≡ old.ports.items = ap (λ h. h.ports.items) rest in
+    let still : slice_get mid.ports.items c.args.place ≡ Some mine = ap (λ (xs : List PortSeat). slice_get xs c.args.place) items ∙ here in
+    let M : Option PortSeat → Type 0 = λ m. MatchOption m (new.ports.items ≡ mid.ports.items) (λ y. new.ports.items ≡ slice_set mid.ports.items c.args.place (record y { received = counted y.received })) in
+    let seats : new.ports.items ≡ one ∷ [] = subst M still c.count.ensures.seats ∙ only_set mid.ports.items mine mine one c.args.place (items ∙ x.seats_are) still in
+    let b : Behind most holds counts after old new o n mine x.is.port =
+    behind_of most holds counts g.L.Link.holds g.L.Link.counts after old new o n mine one x.is.port r.0 r.1 limit refl refl seats
+    (ap (λ h. h.number) done ∙ ap (λ h. h.number) rest) (ap (λ h. h.link) done ∙ ap (λ h. h.link) rest) (ap (λ h. h.bound) done ∙ ap (λ h. h.bound) rest) so.of_link sn.of_link sn.of_table.ports in
+    let seen = g.O.Office.seen c.args.office.now in
+    let datagram = r.2.0 in
+    let takes = r.2.1 in
+    let C : Core → Type 0 = λ y. IsConn y (came s x.t mine.received datagram).1 in
+    let conn = subst C (sym (ap (λ h. h.conn) done)) r.2.3 in
+    let P : PortSeat → Type 0 = λ y. (t : machine.Held) × Turned setup (receive_alone y.tunnel) ReadsWait o n seen seen boxes orders s c.in-Did.note (Some t) × StandsAsTold n (IsHeld most after new) t in
+    subst P (same_seat old.ports.items c.args.place mine seat here at) (
+      received_left o s mine x.t datagram,
+      received_done most holds past counts table after old new o n s mine x b setup seen boxes orders datagram c.in-Did.note takes r.2.2,
+      (
+        received_stands most holds past counts table after old new o n s mine x b datagram few seats conn,
+        received_told most holds past counts table after old new o n s mine x b datagram takes,
+      ),
+    )
+
+pub returns-in-Did-clause-others : goal.returns-in-Did-clause-others
+returns-in-Did-clause-others g c = λ key port at other.
+    let old = c.args.held.now in
+    let table = c.args.table.now.table in
+    let mid = c.receive.new.self in
+    let after = c.receive.new.table.table in
+    let most = g.P.P.Port.most in
+    let holds = g.P.P.Port.holds in
+    let past = g.P.P.Port.past in
+    let counts = g.P.P.Port.counts in
+    let mine = c.in-Some.seat in
+    let here : slice_get old.ports.items c.args.place ≡ Some mine =
+    ap (λ (xs : List PortSeat). slice_get xs c.args.place) (sym c.deref.ensures.value)
+    ∙ copied_at c.get.result mine c.deref.result.now c.args.place c.in-Some.ensures c.get.ensures.lookup.1 c.get.ensures.lookup.3 in
+    let e = c.in_ok-receive.ensures in
+    let rest = e.rest in
+    let new = c.count.new.self in
+    let done = c.count.ensures.rest in
+    let one : PortSeat = record mine { received = counted mine.received } in
+    let items : mid.ports.items ≡ old.ports.items = ap (λ h. h.ports.items) rest in
+    let still : slice_get mid.ports.items c.args.place ≡ Some mine = ap (λ (xs : List PortSeat). slice_get xs c.args.place) items ∙ here in
+    let M : Option PortSeat → Type 0 = λ m. MatchOption m (new.ports.items ≡ mid.ports.items) (λ y. new.ports.items ≡ slice_set mid.ports.items c.args.place (record y { received = counted y.received })) in
+    let seats = subst M still c.count.ensures.seats in
+    let r = call_others table after old.ports.items mid.ports.items c.args.place key mine port here e.others items at other.seats_are in
+    let S : List PortSeat → Type 0 = λ xs. All (HasKey key) xs in
+    let bound : new.bound ≡ old.bound = ap (λ h. h.bound) done ∙ ap (λ h. h.bound) rest in (
+      r.0,
+      record {
+        seats_are = subst S (sym seats) (keys_set mid.ports.items key c.args.place one (key_at old.ports.items key c.args.place mine other.seats_are here) r.1);
+        bound_is = λ is. other.bound_is (sym bound ∙ is);
+      },
+    )
+
+pub act-requires : goal.act-requires
+act-requires g c =
+    let k = c.requires.known in
+    let s = k.0 in
+    let held = k.1 in
+    let old = c.args.held.now in
+    let table = c.args.table.now.table in
+    let mid = c.receive.new.self in
+    let after = c.receive.new.table.table in
+    let most = g.P.P.Port.most in
+    let holds : g.row.P-P.Denot → Option PortHolds = λ port. None in
+    let past = g.P.P.Port.past in
+    let counts : g.row.P-P.Denot → PortCounts = λ port. no_port_counts in
+    let mine = c.in-Some.seat in
+    let here : slice_get old.ports.items c.args.place ≡ Some mine =
+    ap (λ (xs : List PortSeat). slice_get xs c.args.place) (sym c.deref.ensures.value)
+    ∙ copied_at c.get.result mine c.deref.result.now c.args.place c.in-Some.ensures c.get.ensures.lookup.1 c.get.ensures.lookup.3 in
+    let e = c.in_ok-receive.ensures in
+    let rest = e.rest in
+    let x : Live most holds counts table old blind s mine = live most holds counts table old blind s mine c.args.place held k.3 (blind_sees table old.ports.items) here in
+    let G : Went → Type 0 = λ w. (now : g.row.P-P.Denot) × (get after mine.key ≡ Some now) × ReceiveGives (receive_calls g.P.P.Port.holds past g.P.P.Port.counts x.is.port now) (IsConn mid.conn) s.conn x.t mine.received (Ok w) in
+    let r = subst G c.in-Failed.is (e.gives s.conn held.conn x.t (tunnel_is most holds counts table old blind s mine x) x.id x.is.port x.is.at) in
+    let kept = e.kept x.is.port x.is.at in
+    let same : kept.0 ≡ r.0 = same_port after mine.key kept.0 r.0 kept.1 r.1 in
+    let limit : most r.0 ≡ most x.is.port = ap most (sym same) ∙ kept.2 in
+    let b = behind_call most holds counts after old mid blind mine x.is.port r.0 r.1 limit (ap (λ h. h.number) rest) (ap (λ h. h.bound) rest) in
+    record {
+      known = (
+        failing s x.t,
+        failing_stands most holds past counts table after old mid blind s mine x _ b (ap (λ h. h.ports.items) rest) (r.2.1 k.3),
+        failing_known (g.O.Office.seen c.args.office.now) (g.O.Office.actor c.args.office.now) s x.t k.2,
+      );
+    }
+
+pub returns-in-Failed-clause-gives : goal.returns-in-Failed-clause-gives
+returns-in-Failed-clause-gives g c = λ o n so sn s held few wait setup seat at.
+    let old = c.args.held.now in
+    let table = c.args.table.now.table in
+    let mid = c.receive.new.self in
+    let after = c.receive.new.table.table in
+    let most = g.P.P.Port.most in
+    let holds = g.P.P.Port.holds in
+    let past = g.P.P.Port.past in
+    let counts = g.P.P.Port.counts in
+    let mine = c.in-Some.seat in
+    let here : slice_get old.ports.items c.args.place ≡ Some mine =
+    ap (λ (xs : List PortSeat). slice_get xs c.args.place) (sym c.deref.ensures.value)
+    ∙ copied_at c.get.result mine c.deref.result.now c.args.place c.in-Some.ensures c.get.ensures.lookup.1 c.get.ensures.lookup.3 in
+    let e = c.in_ok-receive.ensures in
+    let rest = e.rest in
+    let x : Live most holds counts table old o s mine = live most holds counts table old o s mine c.args.place held wait so.of_table.ports here in
+    let G : Went → Type 0 = λ w. (now : g.row.P-P.Denot) × (get after mine.key ≡ Some now) × ReceiveGives (receive_calls holds past counts x.is.port now) (IsConn mid.conn) s.conn x.t mine.received (Ok w) in
+    let r = subst G c.in-Failed.is (e.gives s.conn held.conn x.t (tunnel_is most holds counts table old o s mine x) x.id x.is.port x.is.at) in
+    let kept = e.kept x.is.port x.is.at in
+    let same : kept.0 ≡ r.0 = same_port after mine.key kept.0 r.0 kept.1 r.1 in
+    let limit : most r.0 ≡ most x.is.port = ap most (sym same) ∙ kept.2 in
+    let new = c.act.new.held in
+    let last = c.act.new.table.table in
+    let done = c.act.ensures.rest in
+    let faults = g.P.Ports.faults in
+    let b = behind_call most holds counts after old mid o mine x.is.port r.0 r.1 limit (ap (λ h. h.number) rest) (ap (λ h. h.bound) rest) in
+    let closing = failing s x.t in
+    let items : mid.ports.items ≡ old.ports.items = ap (λ h. h.ports.items) rest in
+    let stand = failing_stands most holds past counts table after old mid o s mine x _ b items (r.2.1 wait) in
+    let want = wants_close most holds past counts table after old mid o s mine x in
+    let closes = c.act.ensures.closes closing stand mine.tunnel want in
+    let back : faults c.act.new.table.ports ≡ risen_by (counts r.0).faults (faults c.receive.new.table.ports) = closes.1 mine r.0 (items ∙ x.seats_are) r.1 in
+    let rose : (counts r.0).faults ≡ risen (o.port_counts mine.tunnel).faults =
+    ap (λ (k : PortCounts). k.faults) r.2.0.counts ∙ ap (λ (k : PortCounts). risen k.faults) (sym x.sees.1) in
+    let fits : n.bind_faults ≡ risen_by (risen (o.port_counts mine.tunnel).faults) o.bind_faults =
+    sn.of_table.faults_are
+    ∙ back
+    ∙ ap (λ (k : ℕ). risen_by k (faults c.receive.new.table.ports)) rose
+    ∙ ap (λ (k : ℕ). risen_by (risen (o.port_counts mine.tunnel).faults) k) (ap faults e.ports ∙ sym so.of_table.faults_are) in
+    let number : new.number ≡ old.number = ap (λ h. h.number) done ∙ ap (λ h. h.number) rest in
+    let link : new.link ≡ old.link = ap (λ h. h.link) done ∙ ap (λ h. h.link) rest in
+    let stays = link_stays g.L.Link.holds g.L.Link.counts old new o n number link so.of_link sn.of_link in
+    let seen = g.O.Office.seen c.args.office.now in
+    let seen_after = g.O.Office.seen c.act.new.office in
+    let stand_for = IsHeld most last new in
+    let P : PortSeat → Type 0 = λ y. Gives setup (receive_alone y.tunnel) ReadsWait o n seen seen_after stand_for s c.act.result in
+    subst P (same_seat old.ports.items c.args.place mine seat here at)
+    (closes_give setup mine.tunnel o n seen seen_after stand_for s closing c.act.result closes.0
+    (λ said boxes orders closed. (
+      failed_left o s closed.conn,
+      failed_done most holds past counts table after old mid o s mine x n setup seen seen_after boxes orders said stand_for r.2.0.fails closed fits,
+      (
+        closed.stands_for (failed_left o s closed.conn).link,
+        failed_told most holds past counts table after old mid o s mine x n closed.conn stays ((closed.stands_for (failed_left o s closed.conn).link).number ∙ number),
+      ),
+    )))

@@ -1,0 +1,82 @@
+use Rattle.std.proofs.Common.{rules, ◌≡◌, ◌≤◌, ◌∙◌, List, length, Result, Ok, Err, sym, ap, subst}
+use Rattle.mq_wire.specs.declared.NoMemory.{NoMemory}
+use Rattle.mq_machine.specs.Turn.{tries_of}
+use Rattle.mq_held.specs.declared.held.PortSeat.{PortSeat}
+use Rattle.mq_step.specs.declared.stepped.Stepped.{Stepped}
+use Rattle.mq_step.specs.declared.stepped.Stepped.TheVariants.{Quiet}
+use Rattle.mq_step.specs.Holds.{IsHeld}
+use Rattle.mq_step.specs.Wanted.{ActGives}
+use Rattle.mq_step.specs.Gives.{Anything}
+use Rattle.mq_step.proofs.Trying.{mid}
+use Rattle.mq_step.proofs.Moving.{gives_err}
+use Rattle.mq_step.proofs.Passing.{at_most_one}
+use Rattle.mq_step.proofs.Stepping.{silent, sight_of, sight_sees, want_waits, want_sight, quiet_gives, act_gives, linked, linked_held, known_then}
+use Rattle.mq_step.proofs.turn.step.Goals as goal
+
+pub try_frame-requires-clause-known : goal.try_frame-requires-clause-known
+try_frame-requires-clause-known g c =
+    let k = c.requires.known in
+    let old = c.args.held.now in
+    let new = c.act.new.held in
+    let few = at_most_one g.P.P.Port.most c.args.table.now.table old k.0 k.1 in
+    let N : List PortSeat → Type 0 = λ xs. length xs ≤ 1 in
+    let stays = c.in_ok-stepped.ensures.stays c.in-Quiet.is in
+    let o = sight_of g.P.P.Port.holds g.P.P.Port.counts (g.P.Ports.faults c.args.table.now.ports) c.args.table.now.table old.ports.items silent in
+    let m = sight_of g.P.P.Port.holds g.P.P.Port.counts (g.P.Ports.faults c.act.new.table.ports) c.act.new.table.table new.ports.items silent in
+    let A : Stepped → Type 0 = λ r. ActGives o m (g.O.Office.seen c.args.office.now) (g.O.Office.seen c.act.new.office) (IsHeld g.P.P.Port.most c.act.new.table.table new) k.0 (Ok r) in
+    let gives = subst A c.in-Quiet.is (c.in_ok-stepped.ensures.gives o m
+    (sight_sees g.P.P.Port.holds g.P.P.Port.counts (g.P.Ports.faults c.args.table.now.ports) c.args.table.now.table old.ports.items silent few)
+    (sight_sees g.P.P.Port.holds g.P.P.Port.counts (g.P.Ports.faults c.act.new.table.ports) c.act.new.table.table new.ports.items silent (subst N (sym stays) few)) k.0 k.1) in (
+      k.0,
+      gives.1,
+      known_then (g.O.Office.seen c.args.office.now) (g.O.Office.seen c.act.new.office) (g.O.Office.actor c.args.office.now) (g.O.Office.actor c.act.new.office) k.0 k.2 gives.0.seen_is c.act.ensures.actor,
+      want_waits o m k.0 (g.O.Office.seen c.args.office.now) (g.O.Office.seen c.act.new.office) gives.0,
+    )
+
+pub returns-in-Quiet-clause-gives : goal.returns-in-Quiet-clause-gives
+returns-in-Quiet-clause-gives g c = λ o n so sn s held counted.
+    let old = c.args.held.now in
+    let new = c.act.new.held in
+    let seen = g.O.Office.seen c.args.office.now in
+    let seen_mid = g.O.Office.seen c.act.new.office in
+    let few = at_most_one g.P.P.Port.most c.args.table.now.table old s held in
+    let N : List PortSeat → Type 0 = λ xs. length xs ≤ 1 in
+    let e = c.in_ok-stepped.ensures in
+    let rest = e.rest in
+    let m = sight_of g.P.P.Port.holds g.P.P.Port.counts (g.P.Ports.faults c.act.new.table.ports) c.act.new.table.table new.ports.items silent in
+    let sm = sight_sees g.P.P.Port.holds g.P.P.Port.counts (g.P.Ports.faults c.act.new.table.ports) c.act.new.table.table new.ports.items silent (subst N (sym (e.stays c.in-Quiet.is)) few) in
+    let A : Stepped → Type 0 = λ r. ActGives o m seen seen_mid (IsHeld g.P.P.Port.most c.act.new.table.table new) s (Ok r) in
+    let gives = subst A c.in-Quiet.is (e.gives o m so.of_table sm s held) in
+    let sees = want_sight g.L.Link.holds g.L.Link.counts g.P.P.Port.most g.P.P.Port.holds g.P.P.Port.counts (g.P.Ports.faults c.args.table.now.ports) (g.P.Ports.faults c.act.new.table.ports) c.args.table.now.table c.act.new.table.table
+    old new o m seen seen_mid s so (ap (λ h. h.number) rest) (ap (λ h. h.link) rest) gives.1 gives.0 sm in
+    quiet_gives g.P.P.Port.most c.args.table.now.table old c.args.setup.now o m n seen seen_mid (g.O.Office.seen c.try_frame.new.office) (IsHeld g.P.P.Port.most c.try_frame.new.table.table c.try_frame.new.held) s c.try_frame.result held gives.0
+    (c.try_frame.ensures.gives (mid o o.link_counts m.port_counts) n sees sn s gives.1 counted (want_waits o m s seen seen_mid gives.0))
+
+pub returns-in_err-stepped-clause-gives : goal.returns-in_err-stepped-clause-gives
+returns-in_err-stepped-clause-gives g c = λ o n so sn s held counted.
+    let old = c.args.held.now in
+    let new = c.act.new.held in
+    let rest = c.act.ensures.rest in
+    let same : n.link new.number ≡ o.link s.conn.number = sn.of_link.link_is ∙ ap g.L.Link.holds (ap (λ h. h.link) rest) ∙ sym so.of_link.link_is ∙ ap o.link (sym held.number) in
+    gives_err c.args.setup.now tries_of Anything o n (g.O.Office.seen c.args.office.now) (g.O.Office.seen c.act.new.office) (IsHeld g.P.P.Port.most c.act.new.table.table new) s c.from_residual.result c.from_residual.ensures.0
+    (λ refused. act_gives g.P.P.Port.most c.act.new.table.table new o n s c.args.setup.now (g.O.Office.seen c.args.office.now) (g.O.Office.seen c.act.new.office) (Err refused) same (λ is. absurd cc)
+    (c.in_err-stepped.ensures.gives o n so.of_table sn.of_table (linked o s) (linked_held g.P.P.Port.most c.args.table.now.table old o s held)))
+
+pub returns-in_default : goal.returns-in_default
+returns-in_default g c = record {
+  gives = λ o n so sn s held counted.
+      let old = c.args.held.now in
+      let new = c.act.new.held in
+      let rest = c.act.ensures.rest in
+      let same : n.link new.number ≡ o.link s.conn.number = sn.of_link.link_is ∙ ap g.L.Link.holds (ap (λ h. h.link) rest) ∙ sym so.of_link.link_is ∙ ap o.link (sym held.number) in
+      act_gives g.P.P.Port.most c.act.new.table.table new o n s c.args.setup.now (g.O.Office.seen c.args.office.now) (g.O.Office.seen c.act.new.office) (Ok c.in_ok-stepped.stepped) same
+      (λ is. c.in_default.not-Quiet (same_ok c.in_ok-stepped.stepped Quiet is))
+      (c.in_ok-stepped.ensures.gives o n so.of_table sn.of_table (linked o s) (linked_held g.P.P.Port.most c.args.table.now.table old o s held));
+  rest = search rules;
+  rooms = search rules;
+  actor = search rules;
+  others = search rules;
+  balanced = search rules;
+} where
+  same_ok : (a b : Stepped) → ◌≡◌ {A = Result Stepped NoMemory} (Ok a) (Ok b) → a ≡ b
+  same_ok a b is = cc

@@ -1,0 +1,101 @@
+-- What it gives that a connection does what it wants: on ports that hold what they told, or else what was found.
+use Rattle.std.specs.Prelude.{◌≡◌, ℕ, Bool, true, false, List, All, map, Option, Some, None, option_map, Result, Ok, Err}
+use Rattle.mq_wire.specs.declared.NoMemory.{NoMemory}
+use Rattle.mq_talk.specs.declared.book.Reply.TheVariants as reply
+use Rattle.mq_talk.specs.declared.note.Note.{Note}
+use Rattle.mq_talk.specs.declared.place.Parcel.{Parcel}
+use Rattle.mq_talk.specs.Offices.{Seen, Sees as SeesBook}
+use Rattle.mq_machine.specs.State.{Tunnel, Port, Held, Orders, Shared}
+use Rattle.mq_machine.specs.Want.{Want, Nothing, Say, Bind, Ask, Judge, Push, Send, Over, Answer, Replied, want_of}
+use Rattle.mq_machine.specs.Shared.{at_port}
+use Rattle.mq_machine.specs.Silent.{Heard}
+use Rattle.mq_machine.specs.Steps.{starved}
+use Rattle.mq_machine.specs.Turn.{Act, can_try, ActNext}
+use Rattle.mq_machine.specs.Acting.{Outside, WantWaited, BindFits, PortsTold, prepared}
+use Rattle.mq_step.specs.declared.stepped.Stepped.{Stepped}
+use Rattle.mq_step.specs.declared.stepped.Stepped.TheVariants.{Quiet, Did, Ended}
+use Rattle.mq_step.specs.Sights.{Found, filled_port, idle, PortsFit, PortGrows}
+
+-- ---- what is shared
+
+-- What is shared before and behind a step of this connection: the book goes on from what the office had seen, and it has seen
+-- what the step left.
+pub record Shares (old new : Seen) (boxes : List (List Parcel)) (orders : Orders) (sh after : Shared) : Type 0 where
+  pub config : sh.config ≡ old.config
+  pub book : SeesBook old sh.book
+  pub wrote : new.entries ≡ after.book
+  pub boxes_are : sh.boxes ≡ boxes
+  pub orders_are : sh.orders ≡ orders
+
+-- the port of a tunnel that opened holds what the outside tells of it
+abbrev pub with_prepared : Outside → Answer → Held → Held
+with_prepared o (Replied (reply.Opened tunnel routes)) h = record h { ports = at_port tunnel (prepared (o.port tunnel)) h.ports }
+with_prepared o answer h = h
+
+-- ---- the want
+
+-- the connection with what ports tell, or else was found
+abbrev pub ported : Outside → Found → Held → Held
+ported o found h = record h { ports = map (filled_port o found) h.ports }
+
+abbrev pub is_send : Want → Bool
+is_send (Send tunnel n payload) = true
+is_send Nothing = false
+is_send Say = false
+is_send (Bind stream goal) = false
+is_send (Ask call) = false
+is_send (Judge tunnel n flow) = false
+is_send (Push parcel) = false
+is_send (Over why) = false
+
+-- It did what it wants.
+pub record WantDone (old new : Outside) (seen seen_after : Seen) (boxes : List (List Parcel)) (orders : Orders) (s : Held) (note : Note) (t : Option Held) : Type 0 where
+  pub found : Found
+  pub answer : Answer
+  pub sh : Shared
+  pub after : Shared
+  pub became : Option Held
+  -- a want that isn't a send asks no port
+  pub calm : is_send (want_of s.conn) ≡ false → found ≡ idle
+  pub can : can_try (ported old found s) Act ≡ true
+  pub shares : Shares seen seen_after boxes orders sh after
+  pub faults : PortsFit old new (ported old found s).ports
+  pub binds : BindFits old new answer
+  pub next : ActNext (ported old found s) sh answer note became after
+  pub then : t ≡ option_map (with_prepared new answer) became
+
+-- what was found leaves each send in vain
+abbrev pub SendsWait : Found → Type 0
+SendsWait found = (tunnel : ℕ) → ((found.port tunnel).send_fails ≡ false) × ((found.port tunnel).send_waits ≡ true)
+
+-- what it wants waits for a port, or it wants nothing
+pub record WantWaits (old new : Outside) (seen seen_after : Seen) (s : Held) : Type 0 where
+  pub cannot : (found : Found) → SendsWait found → can_try (ported old found s) Act ≡ false
+  pub asked : WantWaited old new (want_of s.conn)
+  pub grows : All (λ (p : Port). PortGrows (old.port_counts p.tunnel) (new.port_counts p.tunnel)) s.ports
+  pub told : All (λ (p : Port). new.port p.tunnel ≡ old.port p.tunnel) s.ports
+  pub works : All (λ (p : Port). (new.port_counts p.tunnel).faults ≡ (old.port_counts p.tunnel).faults) s.ports
+  pub faults : new.bind_faults ≡ old.bind_faults
+  pub seen_is : seen_after ≡ seen
+
+-- It was refused memory as it did what it wants, which a connection that is ending is never.
+pub record WantStarves (seen seen_after : Seen) (boxes : List (List Parcel)) (orders : Orders) (old : Outside) (s t : Held) : Type 0 where
+  pub found : Found
+  pub answer : Answer
+  pub sh : Shared
+  pub after : Shared
+  pub asked : Bool
+  pub tunnels : List Tunnel
+  pub can : can_try (ported old found s) Act ≡ true
+  pub alive : s.conn.ending ≡ None
+  pub shares : Shares seen seen_after boxes orders sh after
+  pub heard : Heard asked (ported old found s) sh Act answer tunnels after
+  pub then : t ≡ record (ported old found s) { conn = record (starved s.conn) { tunnels = tunnels } }
+
+abbrev pub ActGives : Outside → Outside → Seen → Seen → (Held → Type 0) → Held → Result Stepped NoMemory → Type 0
+ActGives old new seen seen_after stands s (Ok Quiet) = WantWaits old new seen seen_after s × stands s
+ActGives old new seen seen_after stands s (Ok (Did note)) = (boxes : List (List Parcel)) (orders : Orders)
+    → (t : Held) × WantDone old new seen seen_after boxes orders s note (Some t) × stands t × PortsTold new t.ports
+ActGives old new seen seen_after stands s (Ok (Ended note)) = (boxes : List (List Parcel)) (orders : Orders) → WantDone old new seen seen_after boxes orders s note None
+ActGives old new seen seen_after stands s (Err refused) = (boxes : List (List Parcel)) (orders : Orders)
+    → (t : Held) × WantStarves seen seen_after boxes orders old s t × stands t × PortsTold new t.ports

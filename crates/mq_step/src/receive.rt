@@ -1,0 +1,92 @@
+//! A connection receives on the ports of its tunnels.
+ghost use Rattle.std.specs.Prelude.{◌≡◌, ◌∷◌, ℕ, true, slice_get, [], Some};
+ghost use Rattle.mq_machine.specs.declared.setup.Setup.{Setup};
+ghost use Rattle.mq_machine.specs.Acting.{Outside};
+ghost use Rattle.mq_machine.specs.State as machine;
+ghost use Rattle.mq_machine.specs.Turn.{Receive};
+ghost use Rattle.mq_machine.specs.Want.{want_of};
+ghost use Rattle.mq_conn.specs.Frames.{waits};
+ghost use Rattle.mq_ports.specs.Tables.{IsBalanced};
+ghost use Rattle.mq_held.specs.declared.held.PortSeat.{PortSeat};
+ghost use Rattle.mq_step.specs.Rooms.{HasRooms};
+ghost use Rattle.mq_step.specs.Holds.{IsHeld, IsKnown, AreCounted, KeepsOthers};
+ghost use Rattle.mq_step.specs.Whole.{Sees};
+ghost use Rattle.mq_step.specs.Gives.{Gives, ReadsWait, receives_of, receive_alone};
+
+use crate::rooms::Rooms;
+use crate::stepped::Stepped;
+use crate::want::act;
+use mq_held::{Held, ReceiveReady, Went, WriteReady};
+use mq_outside::Ports;
+use mq_ports::PortTable;
+use mq_talk::Office;
+use mq_wire::NoMemory;
+use std::alloc::Global;
+
+/// Receives once on the port of the seat at this place. Where that failed, the tunnel closes.
+fn receive_at<L: WriteReady, P: Ports, O: Office>(
+    alloc: Global,
+    held: &mut Held<L>,
+    place: usize,
+    rooms: &mut Rooms,
+    table: &mut PortTable<P>,
+    office: &mut O,
+) -> Result<Stepped, NoMemory>
+where
+    P::P: ReceiveReady,
+    requires known { (s : machine.Held) × IsHeld P.P.most table.old.table held.old s × IsKnown (O.seen office.old) (O.actor office.old) s × (waits (want_of s.conn) ≡ true) }
+    requires rooms { HasRooms rooms.old }
+    ensures gives { (o n : Outside) → Sees L.holds L.counts P.P.holds P.P.counts (P.faults table.old.ports) table.old.table held.old o
+        → Sees L.holds L.counts P.P.holds P.P.counts (P.faults table.new.ports) table.new.table held.new n
+        → (s : machine.Held) → IsHeld P.P.most table.old.table held.old s → AreCounted s.ports → waits (want_of s.conn) ≡ true
+        → (setup : Setup) (seat : PortSeat) → slice_get held.old.ports.items place ≡ Some seat
+        → Gives setup (receive_alone seat.tunnel) ReadsWait o n (O.seen office.old) (O.seen office.new) (IsHeld P.P.most table.new.table held.new) s result }
+    ensures rest { held.new ≡ record held.old { conn = held.new.conn; ports = held.new.ports; bound = held.new.bound } }
+    ensures rooms { HasRooms rooms.new }
+    ensures actor { O.actor office.new ≡ O.actor office.old }
+    ensures others { KeepsOthers held.old held.new table.old.table table.new.table }
+    ensures balanced { IsBalanced P.P.place (P.past table.old.ports) table.old.table.slots → IsBalanced P.P.place (P.past table.new.ports) table.new.table.slots }
+{
+    let Some(seat) = held.ports.get(place).copied() else {
+        return Ok(Stepped::Quiet);
+    };
+    match held.receive(alloc, seat, &mut rooms.datagrams, table)? {
+        Went::Waits => Ok(Stepped::Quiet),
+        Went::Failed => act(held, table, office),
+        Went::Did(note) => {
+            held.count(place);
+            Ok(Stepped::Did(note))
+        }
+    }
+}
+
+/// Receives once on the first port that has a datagram.
+pub fn receive<L: WriteReady, P: Ports, O: Office>(
+    alloc: Global,
+    held: &mut Held<L>,
+    rooms: &mut Rooms,
+    table: &mut PortTable<P>,
+    office: &mut O,
+) -> Result<Stepped, NoMemory>
+where
+    P::P: ReceiveReady,
+    requires known { (s : machine.Held) × IsHeld P.P.most table.old.table held.old s × IsKnown (O.seen office.old) (O.actor office.old) s × (waits (want_of s.conn) ≡ true) }
+    requires rooms { HasRooms rooms.old }
+    ensures gives { (o n : Outside) → Sees L.holds L.counts P.P.holds P.P.counts (P.faults table.old.ports) table.old.table held.old o
+        → Sees L.holds L.counts P.P.holds P.P.counts (P.faults table.new.ports) table.new.table held.new n
+        → (s : machine.Held) → IsHeld P.P.most table.old.table held.old s → AreCounted s.ports → waits (want_of s.conn) ≡ true → (setup : Setup)
+        → Gives setup receives_of ReadsWait o n (O.seen office.old) (O.seen office.new) (IsHeld P.P.most table.new.table held.new) s result }
+    ensures rest { held.new ≡ record held.old { conn = held.new.conn; ports = held.new.ports; bound = held.new.bound } }
+    ensures rooms { HasRooms rooms.new }
+    ensures actor { O.actor office.new ≡ O.actor office.old }
+    ensures others { KeepsOthers held.old held.new table.old.table table.new.table }
+    ensures balanced { IsBalanced P.P.place (P.past table.old.ports) table.old.table.slots → IsBalanced P.P.place (P.past table.new.ports) table.new.table.slots }
+{
+    for place in 0..held.ports.len() {
+        match receive_at(alloc, held, place, rooms, table, office)? {
+            Stepped::Quiet => {}
+            stepped => return Ok(stepped),
+        }
+    }
+    Ok(Stepped::Quiet)
+}

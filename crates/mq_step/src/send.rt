@@ -1,0 +1,35 @@
+//! A payload goes to the port of its tunnel.
+ghost use Rattle.std.specs.Prelude.{◌≡◌, ℕ, List, Ok};
+ghost use Rattle.mq_talk.specs.Offices.{Seen};
+ghost use Rattle.mq_machine.specs.Acting.{Outside};
+ghost use Rattle.mq_machine.specs.State as machine;
+ghost use Rattle.mq_machine.specs.Want.{want_of, Send};
+ghost use Rattle.mq_ports.specs.Tables.{IsBalanced};
+ghost use Rattle.mq_step.specs.Holds.{IsHeld, KeepsOthers};
+ghost use Rattle.mq_step.specs.Sights.{SeesTable};
+ghost use Rattle.mq_step.specs.Wanted.{ActGives};
+
+use crate::stepped::Stepped;
+use mq_held::Held;
+use mq_outside::Ports;
+use mq_ports::PortTable;
+
+/// Sends the payload that it wants to send, where the port of its tunnel takes that now.
+pub fn send<L, P: Ports>(held: &mut Held<L>, tunnel: u32, table: &mut PortTable<P>) -> Stepped
+    ensures gives { (o n : Outside) → SeesTable P.P.holds P.P.counts (P.faults table.old.ports) table.old.table held.old.ports.items o
+        → SeesTable P.P.holds P.P.counts (P.faults table.new.ports) table.new.table held.new.ports.items n
+        → (seen : Seen) (s : machine.Held) → IsHeld P.P.most table.old.table held.old s → (k : ℕ) (payload : List ℕ) → want_of s.conn ≡ Send tunnel k payload
+        → ActGives o n seen seen (IsHeld P.P.most table.new.table held.new) s (Ok result) }
+    ensures rest { held.new ≡ record held.old { conn = held.new.conn } }
+    ensures others { KeepsOthers held.old held.new table.old.table table.new.table }
+    ensures balanced { IsBalanced P.P.place (P.past table.old.ports) table.old.table.slots → IsBalanced P.P.place (P.past table.new.ports) table.new.table.slots }
+{
+    let Some(place) = held.place_of(tunnel) else {
+        return Stepped::Quiet;
+    };
+    let seat = held.ports[place];
+    match held.send(seat.key, table) {
+        Some(note) => Stepped::Did(note),
+        None => Stepped::Quiet,
+    }
+}

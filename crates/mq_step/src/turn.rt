@@ -1,0 +1,150 @@
+//! One step of a connection.
+ghost use Rattle.std.specs.Prelude.{◌≡◌, true};
+ghost use Rattle.mq_addr.specs.declared.kind.Kind.TheVariants as kind;
+ghost use Rattle.mq_machine.specs.Acting.{Outside};
+ghost use Rattle.mq_machine.specs.State as machine;
+ghost use Rattle.mq_machine.specs.Turn.{tries_of};
+ghost use Rattle.mq_machine.specs.Want.{want_of};
+ghost use Rattle.mq_conn.specs.Frames.{waits};
+ghost use Rattle.mq_ports.specs.Tables.{IsBalanced};
+ghost use Rattle.mq_step.specs.Rooms.{HasRooms};
+ghost use Rattle.mq_step.specs.Holds.{IsHeld, IsKnown, AreCounted, KeepsOthers};
+ghost use Rattle.mq_step.specs.Whole.{Sees};
+ghost use Rattle.mq_step.specs.Gives.{Gives, Anything, WritesWait, from_read, from_write, from_frame};
+ghost use Rattle.mq_step.specs.Wanted.{SendsWait};
+
+use crate::receive::receive;
+use crate::rooms::Rooms;
+use crate::stepped::Stepped;
+use crate::want::act;
+use mq_held::{Held, ReceiveReady, Went, WriteReady};
+use mq_machine::Setup;
+use mq_outside::Ports;
+use mq_ports::PortTable;
+use mq_talk::Office;
+use mq_wire::NoMemory;
+use std::alloc::Global;
+
+/// Reads, or else receives.
+fn try_read<L: WriteReady, P: Ports, O: Office>(
+    alloc: Global,
+    held: &mut Held<L>,
+    setup: &Setup,
+    rooms: &mut Rooms,
+    table: &mut PortTable<P>,
+    office: &mut O,
+) -> Result<Stepped, NoMemory>
+where
+    P::P: ReceiveReady,
+    requires known { (s : machine.Held) × IsHeld P.P.most table.old.table held.old s × IsKnown (O.seen office.old) (O.actor office.old) s × (waits (want_of s.conn) ≡ true) }
+    requires rooms { HasRooms rooms.old }
+    requires udp { setup.now.udp.kind ≡ kind.Udp }
+    ensures gives { (o n : Outside) → Sees L.holds L.counts P.P.holds P.P.counts (P.faults table.old.ports) table.old.table held.old o
+        → Sees L.holds L.counts P.P.holds P.P.counts (P.faults table.new.ports) table.new.table held.new n
+        → (s : machine.Held) → IsHeld P.P.most table.old.table held.old s → AreCounted s.ports → waits (want_of s.conn) ≡ true
+        → Gives setup.now from_read WritesWait o n (O.seen office.old) (O.seen office.new) (IsHeld P.P.most table.new.table held.new) s result }
+    ensures rest { held.new ≡ record held.old { conn = held.new.conn; ports = held.new.ports; bound = held.new.bound; link = held.new.link } }
+    ensures rooms { HasRooms rooms.new }
+    ensures actor { O.actor office.new ≡ O.actor office.old }
+    ensures others { KeepsOthers held.old held.new table.old.table table.new.table }
+    ensures balanced { IsBalanced P.P.place (P.past table.old.ports) table.old.table.slots → IsBalanced P.P.place (P.past table.new.ports) table.new.table.slots }
+{
+    match held.read(setup, rooms.bytes.as_mut_slice())? {
+        Went::Did(note) => Ok(Stepped::Did(note)),
+        Went::Failed => act(held, table, office),
+        Went::Waits => receive(alloc, held, rooms, table, office),
+    }
+}
+
+/// Writes, or else reads or receives.
+fn try_write<L: WriteReady, P: Ports, O: Office>(
+    alloc: Global,
+    held: &mut Held<L>,
+    setup: &Setup,
+    rooms: &mut Rooms,
+    table: &mut PortTable<P>,
+    office: &mut O,
+) -> Result<Stepped, NoMemory>
+where
+    P::P: ReceiveReady,
+    requires known { (s : machine.Held) × IsHeld P.P.most table.old.table held.old s × IsKnown (O.seen office.old) (O.actor office.old) s × (waits (want_of s.conn) ≡ true) }
+    requires rooms { HasRooms rooms.old }
+    requires udp { setup.now.udp.kind ≡ kind.Udp }
+    ensures gives { (o n : Outside) → Sees L.holds L.counts P.P.holds P.P.counts (P.faults table.old.ports) table.old.table held.old o
+        → Sees L.holds L.counts P.P.holds P.P.counts (P.faults table.new.ports) table.new.table held.new n
+        → (s : machine.Held) → IsHeld P.P.most table.old.table held.old s → AreCounted s.ports → waits (want_of s.conn) ≡ true
+        → Gives setup.now from_write SendsWait o n (O.seen office.old) (O.seen office.new) (IsHeld P.P.most table.new.table held.new) s result }
+    ensures rest { held.new ≡ record held.old { conn = held.new.conn; ports = held.new.ports; bound = held.new.bound; link = held.new.link } }
+    ensures rooms { HasRooms rooms.new }
+    ensures actor { O.actor office.new ≡ O.actor office.old }
+    ensures others { KeepsOthers held.old held.new table.old.table table.new.table }
+    ensures balanced { IsBalanced P.P.place (P.past table.old.ports) table.old.table.slots → IsBalanced P.P.place (P.past table.new.ports) table.new.table.slots }
+{
+    match held.write(alloc)? {
+        Went::Did(note) => Ok(Stepped::Did(note)),
+        Went::Failed => act(held, table, office),
+        Went::Waits => try_read(alloc, held, setup, rooms, table, office),
+    }
+}
+
+/// Frames, or else writes, reads or receives.
+fn try_frame<L: WriteReady, P: Ports, O: Office>(
+    alloc: Global,
+    held: &mut Held<L>,
+    setup: &Setup,
+    rooms: &mut Rooms,
+    table: &mut PortTable<P>,
+    office: &mut O,
+) -> Result<Stepped, NoMemory>
+where
+    P::P: ReceiveReady,
+    requires known { (s : machine.Held) × IsHeld P.P.most table.old.table held.old s × IsKnown (O.seen office.old) (O.actor office.old) s × (waits (want_of s.conn) ≡ true) }
+    requires rooms { HasRooms rooms.old }
+    requires udp { setup.now.udp.kind ≡ kind.Udp }
+    ensures gives { (o n : Outside) → Sees L.holds L.counts P.P.holds P.P.counts (P.faults table.old.ports) table.old.table held.old o
+        → Sees L.holds L.counts P.P.holds P.P.counts (P.faults table.new.ports) table.new.table held.new n
+        → (s : machine.Held) → IsHeld P.P.most table.old.table held.old s → AreCounted s.ports → waits (want_of s.conn) ≡ true
+        → Gives setup.now from_frame SendsWait o n (O.seen office.old) (O.seen office.new) (IsHeld P.P.most table.new.table held.new) s result }
+    ensures rest { held.new ≡ record held.old { conn = held.new.conn; ports = held.new.ports; bound = held.new.bound; link = held.new.link } }
+    ensures rooms { HasRooms rooms.new }
+    ensures actor { O.actor office.new ≡ O.actor office.old }
+    ensures others { KeepsOthers held.old held.new table.old.table table.new.table }
+    ensures balanced { IsBalanced P.P.place (P.past table.old.ports) table.old.table.slots → IsBalanced P.P.place (P.past table.new.ports) table.new.table.slots }
+{
+    match held.frame()? {
+        Some(note) => Ok(Stepped::Did(note)),
+        None => try_write(alloc, held, setup, rooms, table, office),
+    }
+}
+
+/// The connection does the first of its tries that can be done: what it wants, a frame, a write, a read, a receive on each
+/// port. Where the link or a port fails, the close or the end that follows is the same step. Where memory is refused, the
+/// connection is ending. The room for a read has 16,384 bytes, and the template for UDP tunnels is one of that kind.
+pub fn step<L: WriteReady, P: Ports, O: Office>(
+    alloc: Global,
+    held: &mut Held<L>,
+    setup: &Setup,
+    rooms: &mut Rooms,
+    table: &mut PortTable<P>,
+    office: &mut O,
+) -> Result<Stepped, NoMemory>
+where
+    P::P: ReceiveReady,
+    requires known { (s : machine.Held) × IsHeld P.P.most table.old.table held.old s × IsKnown (O.seen office.old) (O.actor office.old) s }
+    requires rooms { HasRooms rooms.old }
+    requires udp { setup.now.udp.kind ≡ kind.Udp }
+    ensures gives { (o n : Outside) → Sees L.holds L.counts P.P.holds P.P.counts (P.faults table.old.ports) table.old.table held.old o
+        → Sees L.holds L.counts P.P.holds P.P.counts (P.faults table.new.ports) table.new.table held.new n
+        → (s : machine.Held) → IsHeld P.P.most table.old.table held.old s → AreCounted s.ports
+        → Gives setup.now tries_of Anything o n (O.seen office.old) (O.seen office.new) (IsHeld P.P.most table.new.table held.new) s result }
+    ensures rest { held.new ≡ record held.old { conn = held.new.conn; ports = held.new.ports; bound = held.new.bound; link = held.new.link } }
+    ensures rooms { HasRooms rooms.new }
+    ensures actor { O.actor office.new ≡ O.actor office.old }
+    ensures others { KeepsOthers held.old held.new table.old.table table.new.table }
+    ensures balanced { IsBalanced P.P.place (P.past table.old.ports) table.old.table.slots → IsBalanced P.P.place (P.past table.new.ports) table.new.table.slots }
+{
+    match act(held, table, office)? {
+        Stepped::Quiet => try_frame(alloc, held, setup, rooms, table, office),
+        stepped => Ok(stepped),
+    }
+}
