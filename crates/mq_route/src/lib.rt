@@ -4,9 +4,13 @@
 mod clip;
 mod list;
 mod meet;
+mod order;
 mod put;
 
 pub use list::RouteList;
+pub use order::is_ordered;
 
+#[cfg(test)]
+mod table;
 #[cfg(test)]
 mod tests;
