@@ -2,10 +2,10 @@
 """Writes the tables that the tests of mq_pool, mq_route and mq_book read (crates/NAME/src/table.rt).
 
 Addresses and blocks are those of Python's `ipaddress`. Expected values come from models that are written here by the
-definitions alone: a free block is looked for among all blocks of the length where the space is small, and between the taken
-ones where it is large (on small spaces both are asked, and agree); a meet is a set of numbers on small spaces, and intervals
-on large ones; the book is a list of entries, and every answer is a filter over the whole list. Random rows come from a seed,
-so each run writes the same files. Run it, and then `rt fmt` in each of the three crates. It isn't part of the gate.
+definitions alone: a free block is looked for among all blocks of the length where the space is small, and between
+the taken ones where it is large (on small spaces both are asked, and agree); a meet is blocks of `ipaddress`, collapsed,
+and on small spaces also a set of addresses; the book is a list of entries, and every answer is a filter over the whole
+list. Random rows come from a seed, so each run writes the same files. Run it, and then `rt fmt` in each of the three crates. It isn't part of the gate.
 """
 import ipaddress
 import pathlib
@@ -161,7 +161,7 @@ def precedes(r, s):
 
 
 def in_order(ranges):
-    """How many of the first ranges are in order: up to the first that isn't a range or doesn't stand behind the others."""
+    """How many of the first are in order: up to the first that isn't a range or doesn't stand behind the others."""
     for place, r in enumerate(ranges):
         if not is_span(r) or not all(precedes(other, r) for other in ranges[:place]):
             return place
@@ -193,7 +193,7 @@ def clip(nets, area):
 
 
 def meet(ranges, area, asked):
-    """For each version and protocol value the blocks of Python's `ipaddress`, collapsed, and joined where they touch."""
+    """For each version and protocol value the blocks of `ipaddress`, collapsed, and joined where they touch."""
     parts = {}
     for first, last, own in ranges:
         if asked is None or own in (0, asked):
@@ -281,8 +281,10 @@ ALLOW_ROWS = [
     (f"0.0.0.0-{MAX4}-58 ::-{MAX6}-1", ("198.51.100.7", "2001:db8::7")),
     (f"0.0.0.0-{MAX4}-1 ::-{MAX6}-58", ("198.51.100.7", "2001:db8::7")),
     (f"0.0.0.0-{MAX4}-255", ("198.51.100.7",)),
-    (MIXED, ("198.51.99.255", "198.51.100.0", "198.51.100.3", "198.51.100.4", "198.51.100.9", "198.51.100.10", "198.51.100.11",
-             "198.51.100.12", "198.51.100.20", "198.51.100.21", "198.51.100.30", "198.51.100.31", "2001:db8::", "2001:db8::f",
+    (MIXED, ("198.51.99.255", "198.51.100.0", "198.51.100.3", "198.51.100.4", "198.51.100.9", "198.51.100.10",
+             "198.51.100.11",
+             "198.51.100.12", "198.51.100.20", "198.51.100.21", "198.51.100.30", "198.51.100.31", "2001:db8::",
+             "2001:db8::f",
              "2001:db8::10", "2001:db8::1f", "2001:db8::20", "::c633:6400")),
     ("192.0.2.1-192.0.2.1-6", ("192.0.2.0", "192.0.2.1", "192.0.2.2")),
     (ENDS4, ("0.0.0.1", "0.0.0.2", "255.255.255.253", "255.255.255.254")),
@@ -305,8 +307,10 @@ OVERLAP_ROWS = [
     ("", ("",)),
     (ENDS4, ("0.0.0.2-255.255.255.253-0", "0.0.0.1-0.0.0.2-0", "255.255.255.253-255.255.255.254-17", ENDS6, ENDS4)),
     (ENDS6, (f"::2-{MAX6[:-1]}d-0", "::1-::2-6", f"{MAX6[:-1]}d-{MAX6[:-1]}e-17")),
-    ("198.51.100.8-198.51.100.15-6", ("198.51.100.0-198.51.100.7-6", "198.51.100.16-198.51.100.20-6", "198.51.100.0-198.51.100.8-17",
-                                      "198.51.100.15-198.51.100.20-17", "198.51.100.10-198.51.100.11-0", "198.51.100.0-198.51.100.20-58",
+    ("198.51.100.8-198.51.100.15-6", ("198.51.100.0-198.51.100.7-6", "198.51.100.16-198.51.100.20-6",
+                                      "198.51.100.0-198.51.100.8-17",
+                                      "198.51.100.15-198.51.100.20-17", "198.51.100.10-198.51.100.11-0",
+                                      "198.51.100.0-198.51.100.20-58",
                                       "198.51.100.8-198.51.100.15-17", "::c633:6408-::c633:640f-6")),
     (MIXED, ("198.51.100.11-198.51.100.11-255", "198.51.100.31-198.51.100.99-0", "2001:db8::1f-2001:db8::ff-6",
              "2001:db8::20-2001:db8::ff-0", "198.51.99.0-198.51.99.255-0 2001:db8:1::-2001:db8:1::-0",
@@ -380,7 +384,8 @@ class Book:
         return self.entries[t] if t < len(self.entries) and self.entries[t][1] == "open" else None
 
     def is_live(self, t):
-        return self.opening(t) is not None and ("close", t) not in [(verb, u) for _, verb, u, *_ in self.entries[t + 1:]]
+        closed = [u for _, verb, u, _ in self.entries[t + 1:] if verb == "close"]
+        return self.opening(t) is not None and t not in closed
 
     def live(self):
         return [t for t in range(len(self.entries)) if self.is_live(t)]
@@ -468,7 +473,8 @@ class Book:
     # where a packet goes, with the rule that says so
 
     def owners(self, a):
-        return [t for t in self.live() if any(a in part for _, part in self.held(t)) or any(has(r, a) for r in self.ranges(t))]
+        return [t for t in self.live()
+                if any(a in part for _, part in self.held(t)) or any(has(r, a) for r in self.ranges(t))]
 
     def owns(self, t, a, protocol):
         if not self.is_live(t):
@@ -506,7 +512,9 @@ class Book:
             return verdict, ("net" if origin == "net" else "tunnel", *why)
         if origin == "net":
             return "no route", ("no owner", self.is_ours(target))
-        return ("no route", ("vacant", any(target in part for part in self.pool))) if self.is_ours(target) else ("net", ("out",))
+        if self.is_ours(target):
+            return "no route", ("vacant", any(target in part for part in self.pool))
+        return "net", ("out",)
 
 
 def named(words):
@@ -544,28 +552,38 @@ BLOCK_LINES = [
     # any block; an ID that is held keeps its own
     "0 assign|0|5=0.0.0.0/32", "0 assign|0|5=0.0.0.0/32", "0 assign|0|5=0.0.0.0/31", "0 assign|0|6=0.0.0.0/30",
     # none is long enough; a second denied entry with one ID, in a request behind and in one request
-    "0 assign|0|7=0.0.0.0/29", "0 assign|0|7=0.0.0.0/29", "0 assign|0|7=0.0.0.0/28 7=0.0.0.0/29", "0 assign|0|7=0.0.0.0/0 8=::/0",
+    "0 assign|0|7=0.0.0.0/29", "0 assign|0|7=0.0.0.0/29", "0 assign|0|7=0.0.0.0/28 7=0.0.0.0/29",
+    "0 assign|0|7=0.0.0.0/0 8=::/0",
     # denied, and then given
     "0 assign|0|9=0.0.0.0/28 9=0.0.0.0/31",
     # blocks that are named: of another tunnel, around it, behind the pool, across two that touch, and its own again
-    "1 assign|1|1=198.51.100.8/32", "1 assign|1|1=198.51.100.8/29", "1 assign|1|1=198.51.100.20/32", "1 assign|1|1=198.51.100.16/29",
-    "1 assign|1|1=198.51.100.16/30", "1 assign|1|2=198.51.100.16/30", "1 assign|1|1=198.51.100.16/30", "1 assign|1|1=198.51.100.12/30",
+    "1 assign|1|1=198.51.100.8/32", "1 assign|1|1=198.51.100.8/29", "1 assign|1|1=198.51.100.20/32",
+    "1 assign|1|1=198.51.100.16/29",
+    "1 assign|1|1=198.51.100.16/30", "1 assign|1|2=198.51.100.16/30", "1 assign|1|1=198.51.100.16/30",
+    "1 assign|1|1=198.51.100.12/30",
     "1 assign|1|2=203.0.113.1/32 3=192.0.2.1/32",
     # the other version, and several in one request, of which earlier ones count
-    "1 assign|1|3=::/128", "1 assign|1|4=::/125", "1 assign|1|5=2001:db8::1/128 6=2001:db8::/127 7=2001:db8::/124 8=2001:db8::2/127",
-    "1 assign|1|8=::/32 9=::/123 10=::/124", "0 assign|2|1=0.0.0.0/32 2=::/128", "0 assign|2|2=198.51.100.9/32 3=::/126",
+    "1 assign|1|3=::/128", "1 assign|1|4=::/125",
+    "1 assign|1|5=2001:db8::1/128 6=2001:db8::/127 7=2001:db8::/124 8=2001:db8::2/127",
+    "1 assign|1|8=::/32 9=::/123 10=::/124", "0 assign|2|1=0.0.0.0/32 2=::/128",
+    "0 assign|2|2=198.51.100.9/32 3=::/126",
     # what may not be called
-    "1 assign|0|1=0.0.0.0/32", "0 assign|1|1=0.0.0.0/32", "2 assign|0|1=0.0.0.0/32", "0 assign|3|1=0.0.0.0/32", "0 assign|99|1=0.0.0.0/32",
-    "0 assign|0|", "0 assign|0|0=0.0.0.0/32", f"0 assign|0|{1 << 62}=0.0.0.0/32", f"0 assign|0|{(1 << 62) - 1}=0.0.0.0/32",
+    "1 assign|0|1=0.0.0.0/32", "0 assign|1|1=0.0.0.0/32", "2 assign|0|1=0.0.0.0/32", "0 assign|3|1=0.0.0.0/32",
+    "0 assign|99|1=0.0.0.0/32",
+    "0 assign|0|", "0 assign|0|0=0.0.0.0/32", f"0 assign|0|{1 << 62}=0.0.0.0/32",
+    f"0 assign|0|{(1 << 62) - 1}=0.0.0.0/32",
     "2 open|*|*", "1 close|0|",
     # a close gives the blocks back
     "0 close|0|", "0 close|0|", "0 assign|0|1=0.0.0.0/32", "1 assign|1|11=198.51.100.8/32", "1 assign|1|12=0.0.0.0/31",
     # sixteen, seventeen
     "new|2001:db8::/123|||100", "0 open|*|*", "0 open|*|*",
-    "0 assign|0|" + " ".join(f"{n}=::/128" for n in range(1, 18)), "0 assign|0|" + " ".join(f"{n}=::/128" for n in range(1, 16)),
-    "0 assign|0|16=::/128 17=::/128", "0 assign|0|17=::/128", "0 assign|0|17=2001:db8::1f/128 16=::/128", "0 assign|1|17=2001:db8::10/128",
+    "0 assign|0|" + " ".join(f"{n}=::/128" for n in range(1, 18)),
+    "0 assign|0|" + " ".join(f"{n}=::/128" for n in range(1, 16)),
+    "0 assign|0|16=::/128 17=::/128", "0 assign|0|17=::/128", "0 assign|0|17=2001:db8::1f/128 16=::/128",
+    "0 assign|1|17=2001:db8::10/128",
     # one address in each version, and whole halves of the space
-    "new|192.0.2.1/32 2001:db8::1/128|||100", "0 open|*|*", "0 assign|0|1=0.0.0.0/31 2=0.0.0.0/32 3=0.0.0.0/32 4=::/128 5=::/128",
+    "new|192.0.2.1/32 2001:db8::1/128|||100", "0 open|*|*",
+    "0 assign|0|1=0.0.0.0/31 2=0.0.0.0/32 3=0.0.0.0/32 4=::/128 5=::/128",
     "0 assign|0|6=192.0.2.1/32 7=2001:db8::1/128",
     "new|128.0.0.0/1 8000::/1|||100", "0 open|*|*", "0 assign|0|1=0.0.0.0/0 2=0.0.0.0/1 3=::/0 4=::/1 5=::/128",
     "0 assign|0|6=255.255.255.255/32 7=255.255.255.254/31",
@@ -579,19 +597,24 @@ RANGE_LINES = [
     "0 advertise|0|9.0.0.0-9.0.0.10-6", "1 advertise|1|9.0.0.0-9.127.255.255-0", "0 advertise|0|9.0.0.5-9.0.0.5-58",
     "0 advertise|0|9.128.0.0-9.255.255.255-0", "0 advertise|0|9.128.0.0-9.128.0.9-0 9.128.0.0-9.128.0.9-6",
     # what clients may lead to: across two blocks that touch, behind them, in the pool, in part
-    "1 advertise|1|", "0 advertise|0|9.127.255.255-9.128.0.0-0", "0 advertise|0|9.127.255.255-9.127.255.255-0 9.128.0.0-9.128.0.0-0",
-    "0 advertise|0|10.0.0.0-10.0.0.0-0", "0 advertise|0|8.255.255.255-9.0.0.0-0", "0 advertise|0|198.51.100.8-198.51.100.8-0",
+    "1 advertise|1|", "0 advertise|0|9.127.255.255-9.128.0.0-0",
+    "0 advertise|0|9.127.255.255-9.127.255.255-0 9.128.0.0-9.128.0.0-0",
+    "0 advertise|0|10.0.0.0-10.0.0.0-0", "0 advertise|0|8.255.255.255-9.0.0.0-0",
+    "0 advertise|0|198.51.100.8-198.51.100.8-0",
     "0 advertise|0|9.0.0.0-9.0.0.0-0 10.0.0.0-10.0.0.0-0", "0 advertise|0|0.0.0.0-255.255.255.255-0",
     # the other version
     "0 advertise|0|2001:db8:1::-2001:db8:1:ffff:ffff:ffff:ffff:ffff-0", "1 advertise|1|2001:db8:1::5-2001:db8:1::5-58",
     "1 advertise|1|9.0.0.0-9.0.0.0-0", "1 advertise|1|9.0.0.0-9.0.0.0-0 2001:db8:1::-2001:db8:1::-0",
-    "0 advertise|0|2001:db8:1::-2001:db8:2::-0", "1 advertise|1|9.0.0.0-9.0.0.0-0 2001:db8:1::-2001:db8:1::-0", "0 advertise|2|::-::-0",
+    "0 advertise|0|2001:db8:1::-2001:db8:2::-0", "1 advertise|1|9.0.0.0-9.0.0.0-0 2001:db8:1::-2001:db8:1::-0",
+    "0 advertise|2|::-::-0",
     # thirty-two, thirty-three
     "1 advertise|1|" + " ".join(f"9.0.0.{2 * n}-9.0.0.{2 * n}-0" for n in range(32)),
     "0 advertise|0|9.0.0.62-9.0.0.62-1", "0 advertise|0|9.0.0.61-9.0.0.61-1",
-    "1 advertise|1|" + " ".join(f"9.0.0.{2 * n}-9.0.0.{2 * n}-0" for n in range(33)), "0 advertise|0|9.0.0.62-9.0.0.62-1",
+    "1 advertise|1|" + " ".join(f"9.0.0.{2 * n}-9.0.0.{2 * n}-0" for n in range(33)),
+    "0 advertise|0|9.0.0.62-9.0.0.62-1",
     # what may not be called
-    "1 advertise|1|9.0.0.9-9.0.0.8-0", "1 advertise|1|9.0.0.8-9.0.0.9-6 9.0.0.9-9.0.0.9-6", "1 advertise|1|9.0.0.8-9.0.0.9-6 9.0.0.1-9.0.0.1-0",
+    "1 advertise|1|9.0.0.9-9.0.0.8-0", "1 advertise|1|9.0.0.8-9.0.0.9-6 9.0.0.9-9.0.0.9-6",
+    "1 advertise|1|9.0.0.8-9.0.0.9-6 9.0.0.1-9.0.0.1-0",
     "0 advertise|1|9.0.0.8-9.0.0.9-6", "1 advertise|0|9.1.0.8-9.1.0.9-6", "0 advertise|3|9.1.0.8-9.1.0.9-6",
     # a close gives the ranges back
     "1 close|1|", "0 advertise|0|9.0.0.0-9.0.0.62-6", "1 advertise|1|9.1.0.8-9.1.0.9-6",
@@ -603,7 +626,8 @@ def full_lines():
     lines = []
     for places in range(7):
         lines += [f"new|198.51.100.8/29|203.0.113.0/24||{places}", "0 open|*|*", "1 udp||", "0 assign|0|5=0.0.0.0/32",
-                  "0 advertise|0|203.0.113.1-203.0.113.1-6", "0 assign|0|6=0.0.0.0/32", "0 close|0|", "1 assign|1|5=0.0.0.0/32",
+                  "0 advertise|0|203.0.113.1-203.0.113.1-6", "0 assign|0|6=0.0.0.0/32", "0 close|0|",
+                  "1 assign|1|5=0.0.0.0/32",
                   "1 close|1|", "0 open|*|*"]
     return lines + ["new||||4", "0 open|*|*", "0 close|0|", "0 open|*|*"]
 
@@ -611,7 +635,8 @@ def full_lines():
 JUDGED_LINES = [
     f"new|198.51.100.8/29 2001:db8::/124|203.0.113.0/24 2001:db8:1::/48|{ALL4} {ALL6}|100",
     "0 open|*|*", "1 open|*|17", "0 open|198.51.100.0/24|*", "1 open|2001:db8::/32|58", "0 udp||", "1 open|*|1",
-    "0 assign|0|5=0.0.0.0/32 6=::/128", "1 assign|1|5=0.0.0.0/32 6=::/128", "0 assign|2|5=0.0.0.0/32", "1 assign|3|6=::/126",
+    "0 assign|0|5=0.0.0.0/32 6=::/128", "1 assign|1|5=0.0.0.0/32 6=::/128", "0 assign|2|5=0.0.0.0/32",
+    "1 assign|3|6=::/126",
     "0 assign|4|5=0.0.0.0/32", "1 assign|5|5=0.0.0.0/32",
     "0 advertise|0|203.0.113.0-203.0.113.9-6 2001:db8:1::-2001:db8:1::ff-17",
     "1 advertise|1|203.0.113.16-203.0.113.31-0 2001:db8:1:1::-2001:db8:1:1::ff-1",
@@ -619,9 +644,11 @@ JUDGED_LINES = [
     "1 close|5|",
 ]
 JUDGED = {
-    4: ["198.51.100.8", "198.51.100.9", "198.51.100.10", "198.51.100.11", "198.51.100.12", "198.51.100.15", "203.0.113.0", "203.0.113.9",
+    4: ["198.51.100.8", "198.51.100.9", "198.51.100.10", "198.51.100.11", "198.51.100.12", "198.51.100.15",
+        "203.0.113.0", "203.0.113.9",
         "203.0.113.10", "203.0.113.31", "203.0.113.64", "192.0.2.1", "198.51.100.16", "0.0.0.0", "255.255.255.255"],
-    6: ["2001:db8::", "2001:db8::1", "2001:db8::4", "2001:db8::7", "2001:db8::f", "2001:db8:1::", "2001:db8:1::ff", "2001:db8:1::100",
+    6: ["2001:db8::", "2001:db8::1", "2001:db8::4", "2001:db8::7", "2001:db8::f", "2001:db8:1::",
+        "2001:db8:1::ff", "2001:db8:1::100",
         "2001:db8:1:1::5", "2001:db8:1:2::5", "2001:db8:2::1", MAX6],
 }
 ORIGINS = ["0", "1", "2", "3", "4", "5", "7", "99", "net"]
@@ -630,7 +657,8 @@ ORIGINS = ["0", "1", "2", "3", "4", "5", "7", "99", "net"]
 def judged_rows():
     """Of all packets between some addresses one for each version, rule, kind of protocol and verdict."""
     rows, book = script(JUDGED_LINES)
-    packets = [(origin, source, target, protocol) for version in JUDGED for origin in ORIGINS for source in JUDGED[version]
+    packets = [(origin, source, target, protocol)
+               for version in JUDGED for origin in ORIGINS for source in JUDGED[version]
                for target in JUDGED[version] for protocol in (0, 1, 6, 17, 58)]
     random.Random(47).shuffle(packets)
     seen = {}
@@ -656,7 +684,8 @@ CONFIG_ROWS = [
     "|2001:db8::/32 2001:db8:ffff::/48||0",
     "2001:db8::/33|2001:db8:8000::/33||0",
     # the all-zero address
-    "0.0.0.0/0|||0", "::/0|||0", "|0.0.0.0/32||0", "|::/128||0", "0.0.0.1/32 ::1/128|||0", "0.0.0.0/8|||0", "128.0.0.0/1|8000::/1||0",
+    "0.0.0.0/0|||0", "::/0|||0", "|0.0.0.0/32||0", "|::/128||0", "0.0.0.1/32 ::1/128|||0", "0.0.0.0/8|||0",
+    "128.0.0.0/1|8000::/1||0",
     f"{MAX4}/32|{MAX6}/128||0",
     # sixteen, seventeen
     " ".join(f"9.{n}.0.0/16" for n in range(16)) + "|||0",
@@ -727,10 +756,12 @@ def write_route():
 
 
 def write_book():
-    (blocks, _), (ranges, _), (full, _), (before, packets) = script(BLOCK_LINES), script(RANGE_LINES), script(full_lines()), judged_rows()
+    blocks, ranges, full = (script(lines)[0] for lines in (BLOCK_LINES, RANGE_LINES, full_lines()))
+    before, packets = judged_rows()
     calls = "Books, calls and packets, with what they are answered"
     write("mq_book", "Configurations, calls and packets, from a model of the book over Python's `ipaddress`", [
-        (["Whether a book may have a configuration: pool, reach, routes, and how many entries."], "CONFIGS", config_rows()),
+        (["Whether a book may have a configuration: pool, reach, routes, and how many entries."],
+         "CONFIGS", config_rows()),
         ([f"{calls}: blocks."], "BLOCKS", blocks),
         ([f"{calls}: ranges."], "RANGES", ranges),
         ([f"{calls}: histories that are full but for the closes."], "FULL", full),

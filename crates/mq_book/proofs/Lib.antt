@@ -1,3 +1,4 @@
+pub mod Allowed
 pub mod More
 pub mod Legal
 pub mod Members

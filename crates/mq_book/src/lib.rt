@@ -14,4 +14,6 @@ pub use laws::{begins_legal, each_reply_fits, one_answer, one_owner, one_verdict
 pub use mq_talk::Config;
 
 #[cfg(test)]
+mod table;
+#[cfg(test)]
 mod tests;

@@ -145,7 +145,7 @@ fn lies_in(blocks: &[Prefix], part: &Prefix) -> bool
 }
 
 /// Whether a block of a list has an address of another block.
-fn meets_any(blocks: &[Prefix], block: &Prefix) -> bool
+pub(crate) fn meets_any(blocks: &[Prefix], block: &Prefix) -> bool
     ensures { IsTrue result ↔ Any (λ other. Overlap other block.now) blocks.now }
 {
     blocks.iter().any(|other| overlaps(other, block))
