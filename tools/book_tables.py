@@ -2,10 +2,11 @@
 """Writes the tables that the tests of mq_pool, mq_route and mq_book read (crates/NAME/src/table.rt).
 
 Addresses and blocks are those of Python's `ipaddress`. Expected values come from models that are written here by the
-definitions alone: a free block is looked for among all blocks of the length where the space is small, and between
-the taken ones where it is large (on small spaces both are asked, and agree); a meet is blocks of `ipaddress`, collapsed,
-and on small spaces also a set of addresses; the book is a list of entries, and every answer is a filter over the whole
-list. Random rows come from a seed, so each run writes the same files. Run it, and then `rt fmt` in each of the three crates. It isn't part of the gate.
+definitions alone. A free block is looked for among all blocks of the length where the space is small, and between the
+taken ones where it is large; on small spaces both are asked, and agree. A meet is blocks of `ipaddress`, collapsed, and
+on small spaces also a set of addresses. The book is a list of entries, and every answer is a filter over the whole list.
+Random rows come from a seed, so each run writes the same files. Run it, and then `rt fmt` in each of the three crates.
+It isn't part of the gate.
 """
 import ipaddress
 import pathlib
