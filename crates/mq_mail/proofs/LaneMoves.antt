@@ -1,8 +1,7 @@
 -- Each move keeps the rule of a lane.
 use Rattle.std.proofs.Common.{◌≡◌, ◌≢◌, ℕ, true, false, true≢false, List, [], ◌∷◌, ◌++◌, length, set, sym, refl, ap, ◌∙◌, append_assoc}
 use Rattle.std.proofs.lemmas.List.{append-nil}
-use mathlib.Core.Option.{some, some-ne-none}
-use lib.ListN.{get_elem?}
+use mathlib.Core.Option.{some-ne-none}
 use Rattle.crossbeam_queue.specs.Fifo.{Pushes, Pops, Forks, Merges, Learns}
 use Rattle.mq_mail.specs.declared.lane_rule.Hand.{Hand}
 use Rattle.mq_mail.specs.LaneRule.{hand, StartsWith, Fits, IsInOrder}

@@ -1,9 +1,18 @@
 //! Lanes and inboxes between threads: what one thread hands in, another gets, whole, once and in order.
 #![tactic(auto)]
 
+mod inbox_rule;
+mod key;
 mod lane;
 mod lane_rule;
+mod post;
+mod ruled;
+mod start;
 #[cfg(test)]
 mod tests;
 
+pub use key::MailKey;
 pub use lane::{Lane, LaneIn, LaneOut, Note, make_lane};
+pub use post::{Post, Tally};
+pub use ruled::RuledMail;
+pub use start::matrix;
