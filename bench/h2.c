@@ -18,14 +18,18 @@ enum { MEGABYTE = 1048576 };
 static long sum;
 static int owned;
 
+/* a compiler may not leave out what was copied to here */
+static void keep(void *copy) { __asm__ volatile("" : : "r"(copy) : "memory"); }
+
 static int on_data(nghttp2_session *session, uint8_t flags, int32_t stream, const uint8_t *data, size_t len,
                    void *user) {
     sum += len;
     if (owned) {
-        volatile uint8_t *copy = malloc(len + 1);
+        uint8_t *copy = malloc(len + 1);
         if (!copy) exit(1);
-        memcpy((void *)copy, data, len);
-        free((void *)copy);
+        memcpy(copy, data, len);
+        keep(copy);
+        free(copy);
     }
     return 0;
 }
@@ -34,11 +38,12 @@ static int on_header(nghttp2_session *session, const nghttp2_frame *frame, const
                      const uint8_t *value, size_t value_len, uint8_t flags, void *user) {
     sum += name_len + value_len;
     if (owned) {
-        volatile uint8_t *copy = malloc(name_len + value_len + 1);
+        uint8_t *copy = malloc(name_len + value_len + 1);
         if (!copy) exit(1);
-        memcpy((void *)copy, name, name_len);
-        memcpy((void *)(copy + name_len), value, value_len);
-        free((void *)copy);
+        memcpy(copy, name, name_len);
+        memcpy(copy + name_len, value, value_len);
+        keep(copy);
+        free(copy);
     }
     return 0;
 }

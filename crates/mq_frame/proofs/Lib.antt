@@ -4,3 +4,4 @@ pub mod Streams
 pub mod Readers
 pub mod Writing
 pub mod Told
+pub mod Fitting

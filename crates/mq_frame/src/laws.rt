@@ -1,6 +1,6 @@
 //! Laws of the definitions that the reader and the writer go by. The functions do nothing.
 ghost use Rattle.mq_frame.specs.Laws.{IsReadable, IsReadOnce, StaysRead, EndsAtFault, NothingIsRead};
-ghost use Rattle.mq_frame.specs.Told.{StaysBounded, Alternates};
+ghost use Rattle.mq_frame.specs.Told.{StaysBounded, FitsFields, Alternates};
 ghost use Rattle.mq_frame.specs.Writing.{IsAsLong, IsReadBack, AreReadBack};
 
 /// All bytes are frames, then a rest or an error.
@@ -33,9 +33,14 @@ pub fn is_as_long()
     ensures { IsAsLong }
 {}
 
-/// Streams, ids, growths and contents of the frames that are read are within their bounds.
+/// Streams, ids, growths, contents and errors of the frames that are read are within their bounds.
 pub fn stays_bounded()
     ensures { StaysBounded }
+{}
+
+/// Codes, settings and PINGs of the frames that are read fit the fields that they are written in.
+pub fn fits_fields()
+    ensures { FitsFields }
 {}
 
 /// SETTINGS comes first, and behind a frame whose header block goes on only CONTINUATION of its stream, or an error.

@@ -12,3 +12,9 @@ pub mod Rooms
 pub mod OneRead
 pub mod Outcome
 pub mod Held
+pub mod Flowing
+pub mod Owing
+pub mod Streams
+pub mod Sound
+pub mod Reaching
+pub mod Responding

@@ -10,7 +10,7 @@ use Rattle.mq_streams.specs.declared.answers.Granted.{Granted}
 use Rattle.mq_streams.specs.declared.answers.Granted.TheVariants as granted
 
 -- the tests of DATA, one after another
-abbrev by_tests : Bool → Bool → Bool → Bool → Bool → Counted
+abbrev pub by_tests : Bool → Bool → Bool → Bool → Bool → Counted
 by_tests a b l f w = cond a counted.OverConnection (cond b counted.Idle (cond (not l || f) counted.Ignored (cond w counted.OverStream counted.Yes)))
 
 yes_by : (a b l f w : Bool) → by_tests a b l f w ≡ counted.Yes → l ≡ true

@@ -1,5 +1,5 @@
 -- The room for what is put without memory.
-use Rattle.std.proofs.Common.{◌≡◌, ◌≤◌, ℕ, ◌+◌, Bool, true, false, not, cond, ◌||◌, eqb, List, [], ◌∷◌, ◌++◌, length, filter, refl, sym, ap, subst, ◌∙◌, arith, append-nil, append_assoc}
+use Rattle.std.proofs.Common.{◌≡◌, ◌≤◌, ℕ, ◌+◌, Bool, true, false, not, cond, ◌||◌, eqb, List, [], ◌∷◌, ◌++◌, length, filter, min, refl, sym, ap, subst, ◌∙◌, arith, append-nil, append_assoc}
 use Rattle.std.specs.List.{list_any}
 use Rattle.std.specs.Bool.{IsTrue}
 use Rattle.mq_frame.specs.declared.frame.Frame.TheVariants as frame
@@ -13,7 +13,9 @@ use Rattle.mq_h2.specs.declared.parts.Core.{Core}
 use Rattle.mq_h2.specs.State.{State, put}
 use Rattle.mq_h2.specs.Stand.{Serves}
 use Rattle.mq_h2.specs.Doing.{PutsWithin, CanClose, IsReady}
+use Rattle.mq_streams.specs.Answers.{send_window, connection_send_window}
 use Rattle.mq_h2.specs.Acts.{ending_text}
+use Rattle.mq_h2.specs.Laws.{SendsWithin}
 use Rattle.std.proofs.lemmas.List.{length-append}
 use Rattle.mq_h2.proofs.Cores.{put_owed, put_given}
 use Rattle.mq_h2.specs.Left.{left}
@@ -139,3 +141,11 @@ headers_len id block end = length-append (header_text (length block) kinds.Heade
 pub data_len : (id : ℕ) (bytes : List ℕ) → length (spelling_of (frame.Content id bytes (length bytes) false)) ≡ 9 + length bytes
 unfolding spelling_of
 data_len id bytes = length-append (header_text (length bytes) kinds.Data 0 id) bytes
+
+-- the least of four numbers
+least : (count n m a b : ℕ) → count ≡ min (min n m) (min a b) → (count ≤ a) × (count ≤ b) × (count ≤ m) × (count ≤ n)
+least count n m a b e = (omega arith, omega arith, omega arith, omega arith)
+
+-- DATA that is sent is within its rooms
+pub sends_within : SendsWithin
+sends_within id bytes count s t is = least count (length bytes) 16384 (send_window id s.history) (connection_send_window s.history) is.0

@@ -3,7 +3,9 @@ use Rattle.std.specs.Prelude.{◌≡◌, ℕ, ◌+◌, ◌≤◌, List, ◌++◌
 use Rattle.std.specs.List.{flat_map}
 use Rattle.mq_frame.specs.declared.frame.Frame.{Frame}
 use Rattle.mq_frame.specs.Numbers.{max_frame_size}
-use Rattle.mq_frame.specs.Writing.{spelling_of}
+use Rattle.mq_frame.specs.declared.place.Place.TheVariants.{First}
+use Rattle.mq_frame.specs.Stream.{FramesOf}
+use Rattle.mq_frame.specs.Writing.{spelling_of, AreWritten}
 use Rattle.mq_hpack.specs.declared.field.Field.{Field}
 use Rattle.mq_streams.specs.Answers.{send_window, connection_send_window}
 use Rattle.mq_streams.specs.History.{total, arrived_on, consumed_on}
@@ -11,6 +13,7 @@ use Rattle.mq_h2.specs.declared.event.StreamEvent.{StreamEvent}
 use Rattle.mq_h2.specs.Acts.{Responds, SendsData, ends_stream, resets_stream, where_live, ends_act}
 use Rattle.mq_h2.specs.State.{State}
 use Rattle.mq_h2.specs.Reading.{told_in, ReadTo}
+use Rattle.mq_h2.specs.Reached.{IsReached}
 
 -- a read gives one list of events, and leads to one state
 abbrev pub IsOneRead : Type 0
@@ -45,3 +48,15 @@ pub record PutsWholeFrames : Type 0 where
   pub ends : (id : ℕ) (s : State) → PutsFrames s (where_live id (ends_stream id) s)
   pub resets : (id code : ℕ) (s : State) → PutsFrames s (where_live id (resets_stream id code) s)
   pub act : (s : State) → PutsFrames s (ends_act s)
+
+-- All that was put for writing, from the connection's beginning on, is frames that can be written, none of which is an
+-- error where it stands, and a reader of frames reads these and no others.
+pub record IsReadBack (s : State) : Type 0 where
+  pub frames : List Frame
+  pub put : s.out ≡ flat_map spelling_of frames
+  pub written : AreWritten First frames
+  pub read : FramesOf s.out frames
+
+-- in each state that reads and acts lead to
+abbrev pub ReadsBack : Type 0
+ReadsBack = (s : State) → IsReached s → IsReadBack s

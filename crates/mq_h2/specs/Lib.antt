@@ -5,6 +5,7 @@ pub mod Frames
 pub mod Reading
 pub mod Laws
 pub mod Acts
+pub mod Reached
 pub mod Left
 pub mod Stand
 pub mod Doing

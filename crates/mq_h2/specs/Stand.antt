@@ -13,6 +13,7 @@ use Rattle.mq_h2.specs.declared.h2.Phase.{Phase}
 use Rattle.mq_h2.specs.declared.h2.Phase.TheVariants.{Reading, Ended, Spent}
 use Rattle.mq_h2.specs.State.{State, owed}
 use Rattle.mq_h2.specs.Reading.{ReadTo}
+use Rattle.mq_h2.specs.Reached.{IsReached}
 use Rattle.mq_h2.specs.Left.{left}
 
 -- the parts that serve whether or not more is read
@@ -51,10 +52,11 @@ pub record HasRoom (c : Core) (s : State) : Type 0 where
   pub room : vec_len c.owed.bytes + end_room * length (live s.history) ≤ vec_capacity c.owed.bytes
   pub least : least_room ≤ vec_capacity c.owed.bytes
 
--- the core stands for this state
+-- the core stands for this state, to which its calls led
 pub record IsH2 (v : H2) (s : State) : Type 0 where
   pub phase : IsPhase v.phase v s
   pub room : HasRoom v.core s
+  pub reached : IsReached s
 
 -- memory ran out while it read
 abbrev pub IsSpent : H2 → Type 0

@@ -12,7 +12,7 @@ ghost use Rattle.mq_h2.specs.Doing.{Keeps, PutsWithin, CanClose, IsReady, Respon
 use crate::codes::NO_ERROR;
 use crate::parts::Core;
 use crate::read::FOR_ENDS;
-use crate::text::{end_text, reset_text, window_text};
+use mq_frame::{end_text, reset_text, window_text};
 use mq_hpack::Field;
 use mq_streams::few_are_live;
 use mq_wire::NoMemory;

@@ -4,10 +4,12 @@ ghost use Rattle.mq_streams.specs.History.{total, arrived_on, consumed_on, is_li
 ghost use Rattle.mq_streams.specs.Answers.{room_of};
 ghost use Rattle.mq_h2.specs.State.{State, new_state, owed};
 ghost use Rattle.mq_h2.specs.Acts.{Responds, SendsData, ends_stream, resets_stream, where_live, FitsFrame, consumes, ends_act, writes};
+ghost use Rattle.mq_h2.specs.Laws.{IsReadBack};
 ghost use Rattle.mq_h2.specs.Stand.{IsH2, IsSpent, IsBegun, Feeds};
 ghost use Rattle.mq_h2.specs.Doing.{phase_behind};
 
 use crate::event::StreamEvent;
+use crate::laws::what_is_owed_is_read_back;
 use crate::owed::Owed;
 use crate::parts::Core;
 use crate::read::{LEAST_ROOM, Read};
@@ -45,6 +47,7 @@ pub struct H2 {
 
 impl H2 {
     /// A connection of which nothing was read. It owes the server's SETTINGS.
+    #[tactic(auto, using(crate::proofs::Reaching::as_new))]
     pub fn new(alloc: Global) -> Result<H2, NoMemory>
         ensures { IfOk result (λ h2. IsH2 h2 new_state) }
     {
@@ -113,6 +116,7 @@ impl H2 {
     }
 
     /// Puts as many of the bytes as a DATA frame on a live stream may have now, and answers how many.
+    #[tactic(auto, using(crate::proofs::Reaching::sent))]
     pub fn send_data(&mut self, stream: u32, bytes: &[u8]) -> Result<u32, NoMemory>
         ensures { (s : State) → IsH2 self.old s → IsTrue (is_live stream s.history)
             → MatchResult result (λ count. (t : State) × SendsData stream bytes.now count s t × IsH2 self.new t) (λ _. IsH2 self.new s) }
@@ -121,6 +125,7 @@ impl H2 {
     }
 
     /// Ends the server's side of a stream, where it is live, and closes it.
+    #[tactic(auto, using(crate::proofs::Reaching::ended))]
     pub fn end_stream(&mut self, stream: u32)
         ensures { (s : State) → IsH2 self.old s → IsH2 self.new (where_live stream (ends_stream stream) s) }
     {
@@ -128,6 +133,7 @@ impl H2 {
     }
 
     /// Resets a stream, where it is live.
+    #[tactic(auto, using(crate::proofs::Reaching::was_reset))]
     pub fn reset(&mut self, stream: u32, code: u32)
         ensures { (s : State) → IsH2 self.old s → IsH2 self.new (where_live stream (resets_stream stream code) s) }
     {
@@ -135,6 +141,7 @@ impl H2 {
     }
 
     /// So many bytes of the DATA that was told on a stream are consumed.
+    #[tactic(auto, using(crate::proofs::Reaching::consumed))]
     pub fn consumed(&mut self, stream: u32, length: u32)
         ensures { (s : State) → IsH2 self.old s → total (consumed_on stream) s.history + length ≤ total (arrived_on stream) s.history
             → IsH2 self.new (consumes stream length s) }
@@ -143,20 +150,24 @@ impl H2 {
     }
 
     /// The end of an act: where nothing is owed, the next WINDOW_UPDATE is put that is due.
+    #[tactic(auto, using(crate::proofs::Reaching::acted))]
     pub fn end_act(&mut self)
         ensures { (s : State) → IsH2 self.old s → IsH2 self.new (ends_act s) }
     {
         self.core.end_act();
     }
 
-    /// The bytes that are still to be written.
+    /// The bytes that are still to be written: the end of all that was put for writing, which is read back as frames.
     pub fn owed(&self) -> &[u8]
-        ensures { (s : State) → IsH2 self.now s → result.now ≡ owed s }
+        ensures bytes { (s : State) → IsH2 self.now s → result.now ≡ owed s }
+        ensures frames { (s : State) → IsH2 self.now s → IsReadBack s }
     {
+        what_is_owed_is_read_back();
         self.core.owed.as_slice()
     }
 
     /// So many of them were written.
+    #[tactic(auto, using(crate::proofs::Reaching::wrote))]
     pub fn wrote(&mut self, count: u32)
         ensures { (s : State) → IsH2 self.old s → count ≤ length (owed s) → IsH2 self.new (writes count s) }
     {

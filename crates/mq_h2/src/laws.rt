@@ -1,8 +1,9 @@
 //! Laws of the definitions that the core goes by. The functions do nothing.
-ghost use Rattle.mq_h2.specs.Laws.{IsOneRead, HasOutcome, SendsWithin, IsTold, PutsWholeFrames};
+ghost use Rattle.mq_h2.specs.Laws.{IsOneRead, HasOutcome, SendsWithin, IsTold, PutsWholeFrames, ReadsBack};
 
-use mq_frame::{is_read_once, is_readable, stays_read};
+use mq_frame::{are_read_back, fits_fields, is_read_once, is_readable, stays_bounded, stays_read};
 use mq_hpack::has_one_reading;
+use mq_streams::consumed_within_what_came;
 
 /// What a read gives, and where it leads, is one.
 pub fn one_read()
@@ -35,3 +36,13 @@ pub fn what_is_told_is_held()
 pub fn what_is_put_is_whole_frames()
     ensures { PutsWholeFrames }
 {}
+
+/// Whatever was read and done, all that was put for writing is read back as the frames that it was put as.
+pub fn what_is_owed_is_read_back()
+    ensures { ReadsBack }
+{
+    are_read_back();
+    stays_bounded();
+    fits_fields();
+    consumed_within_what_came();
+}

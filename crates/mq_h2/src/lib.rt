@@ -21,8 +21,8 @@ mod writing;
 pub use event::StreamEvent;
 pub use h2::H2;
 pub use laws::{
-    data_is_within_its_windows, each_read_has_an_outcome, one_read, what_is_put_is_whole_frames,
-    what_is_told_is_held,
+    data_is_within_its_windows, each_read_has_an_outcome, one_read, what_is_owed_is_read_back,
+    what_is_put_is_whole_frames, what_is_told_is_held,
 };
 
 #[cfg(test)]

@@ -2,9 +2,9 @@
 ghost use Rattle.std.specs.Prelude.{◌≡◌, ℕ, ◌+◌, ◌<◌, ◌≤◌, ◌∷◌, [], length, IsTrue, IfOk, MatchResult, min, true, false};
 ghost use Rattle.std.specs.List.{HoldsAt};
 ghost use Rattle.std.specs.Option.{IfSome};
-ghost use Rattle.mq_streams.specs.History.{Arrived, Consumed, Sent, Finished, Dropped, Shifted, total, consumed_on, arrived_on, highest, live, is_live, has_finished};
+ghost use Rattle.mq_streams.specs.History.{History, Arrived, Consumed, Sent, Finished, Dropped, Shifted, total, consumed_on, consumed, arrived_on, arrived, highest, live, is_live, has_finished};
 ghost use Rattle.mq_streams.specs.Answers.{begun, after_begin, count_of, after_count, next_update, after_update, grant_of, after_grant, room_of, can_shift, is_idle};
-ghost use Rattle.mq_streams.specs.Stand.{StandFor, InEach};
+ghost use Rattle.mq_streams.specs.Stand.{ConsumesWhatCame, StandFor, InEach};
 ghost use Rattle.mq_streams.specs.Takers.{Takes, Declines};
 
 use crate::answers::{Began, Counted, Granted, Over};
@@ -258,11 +258,14 @@ impl Streams {
     }
 }
 
-/// Whatever happened, no more was consumed on a stream than came, and DATA that counts can be consumed at once.
+/// Whatever happened, no more was consumed on a stream than came, nor on the connection, and DATA that counts can be
+/// consumed at once.
 pub fn consumed_within_what_came()
     ensures within { (streams : Streams) (id : ℕ) → InEach streams (λ h. total (consumed_on id) h ≤ total (arrived_on id) h) }
     ensures at_once { (streams : Streams) (id size : ℕ) → InEach streams (λ h.
         total (consumed_on id) (Arrived id size ∷ h) + size ≤ total (arrived_on id) (Arrived id size ∷ h)) }
+    ensures all { (h : History) → ConsumesWhatCame h → (total consumed h ≤ total arrived h)
+        × ((id : ℕ) → total (consumed_on id) h ≤ total (arrived_on id) h) }
 {}
 
 /// At most a hundred streams are live.

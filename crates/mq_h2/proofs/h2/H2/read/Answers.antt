@@ -1,4 +1,5 @@
-use Rattle.std.proofs.Common.{ℕ, Bool, List, ◌++◌, refl, sym, subst, ◌∙◌, arith}
+use Rattle.std.proofs.Common.{ℕ, ◌^◌, ◌<◌, Bool, List, ◌++◌, refl, sym, subst, ◌∙◌, arith}
+use Rattle.std.proofs.lemmas.List.Elements.{All-from_get_or}
 use Rattle.mq_frame.specs.declared.frame.Frame.{Frame}
 use Rattle.mq_streams.specs.History.{History}
 use Rattle.mq_h2.specs.declared.event.StreamEvent.{StreamEvent}
@@ -8,6 +9,7 @@ use Rattle.mq_h2.specs.State.{State}
 use Rattle.mq_h2.specs.Reading.{drained, ReadsWhile}
 use Rattle.mq_h2.specs.Stand.{Serves, IsPhase}
 use Rattle.mq_h2.specs.Doing.{ReadFrames}
+use Rattle.mq_h2.specs.Reached.{by_reading}
 use Rattle.mq_h2.proofs.Phases.{Reads, reading, phase_is, serves_read, goes_read}
 use Rattle.mq_h2.proofs.h2.H2.read.Goals as goal
 
@@ -30,22 +32,25 @@ returns c = λ s is on.
     let w : H2 = record { frames = c.feed.new.self; core = c.read.new.self; phase = c.phase_behind-self.result } in
     let serves : Serves w.core t = serves_read w.core (record done.met { history = h }) bytes done.serves in
     let few = c.few_are_live.ensures w.core.streams h serves.streams in
-    let space = c.in_ok-events.ensures.room in (
+    let space = c.in_ok-events.ensures.room in
+    let reads : ReadsWhile s.ended s piece c.from_vec.result t =
+    subst (λ (b : Bool). ReadsWhile b s piece c.from_vec.result t) (sym on) (record {
+      earlier = were.0;
+      frames = frames;
+      were = were.1;
+      are = are;
+      told = done.told;
+      met = done.met;
+      did = done.did;
+      events_are = c.from_vec.ensures ∙ done.events_are;
+      state_is = refl;
+    }) in (
       t,
-      subst (λ (b : Bool). ReadsWhile b s piece c.from_vec.result t) (sym on) (record {
-        earlier = were.0;
-        frames = frames;
-        were = were.1;
-        are = are;
-        told = done.told;
-        met = done.met;
-        did = done.did;
-        events_are = c.from_vec.ensures ∙ done.events_are;
-        state_is = refl;
-      }),
+      reads,
       record {
         phase = subst (λ (p : Phase). IsPhase p w t) (sym c.phase_behind-self.ensures)
             (phase_is ended w t stands serves (λ e. goes_read w.core (record done.met { history = h }) bytes (done.goes e)) done.over);
         room = record { room = omega (arith, space, few); least = omega (arith, space) };
+        reached = by_reading s piece c.from_vec.result t is.reached (All-from_get_or (λ b. b < 2 ^ 8) piece 0 (λ i lt. (c.type_inv.piece i).fits)) reads;
       },
     )
