@@ -12,7 +12,7 @@ use mq_wire::{Bytes, NoMemory};
 use std::alloc::Global;
 
 /// The most bytes of a datagram.
-const MOST_DATAGRAM: usize = 65_535;
+pub(crate) const MOST_DATAGRAM: usize = 65_535;
 
 /// What a receive gives: nothing yet, a failure, or a datagram.
 #[derive(Drop)]

@@ -7,13 +7,11 @@ ghost use Rattle.mq_conn.specs.Conns.{IsConn};
 ghost use Rattle.mq_ports.specs.Tables.{Changes, IsBalanced};
 ghost use Rattle.mq_held.specs.Ports.{SendGives, KeepsMost};
 
+use crate::datagrams::MOST_DATAGRAM;
 use crate::held::Held;
 use mq_outside::{PortPut, Ports};
 use mq_ports::PortTable;
 use mq_talk::Note;
-
-/// The most bytes of a datagram.
-const MOST_DATAGRAM: usize = 65_535;
 
 impl<L> Held<L> {
     /// Sends the payload that it wants to send on the port under a key, whose limit no datagram passes. A payload that is
