@@ -1,3 +1,5 @@
+pub mod Closing
+pub mod Counting
 pub mod InboxMoves
 pub mod KeyMoves
 pub mod LaneMoves

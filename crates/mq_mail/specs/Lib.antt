@@ -1,3 +1,4 @@
+pub mod Closing
 pub mod InboxRule
 pub mod Keys
 pub mod LaneRule
@@ -6,3 +7,4 @@ pub mod Letters
 pub mod Made
 pub mod PostParts
 pub mod Posts
+pub mod Tallies

@@ -22,11 +22,11 @@ const MOST: u64 = 1 << 63;
 /// The one key of an actor.
 #[derive(Drop)]
 pub struct MailKey {
-    actor: u32,
-    ways: Vec<InboxPass>,
-    counts: Vec<u64>,
-    inbox: InboxPass,
-    count: u64,
+    pub(crate) actor: u32,
+    pub(crate) ways: Vec<InboxPass>,
+    pub(crate) counts: Vec<u64>,
+    pub(crate) inbox: InboxPass,
+    pub(crate) count: u64,
 }
 
 impl Model for MailKey {
@@ -106,7 +106,7 @@ impl MailKey {
 }
 
 /// The number itself, where it has a next one.
-fn below_most<R: Wait>(rt: &R, number: u64) -> u64
+pub(crate) fn below_most<R: Wait>(rt: &R, number: u64) -> u64
     ensures same { result ≡ number }
     ensures below { result < 2 ^ 63 }
 {

@@ -1,6 +1,7 @@
 //! Lanes and inboxes between threads: what one thread hands in, another gets, whole, once and in order.
 #![tactic(auto)]
 
+mod close;
 mod inbox_rule;
 mod key;
 mod lane;

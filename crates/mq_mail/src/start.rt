@@ -114,7 +114,7 @@ fn make_keys(
 }
 
 /// Takes the front, where there is one.
-fn first_of<T>(queue: &mut VecDeque<T>) -> T
+pub(crate) fn first_of<T>(queue: &mut VecDeque<T>) -> T
     requires { 0 < length queue.old.items }
     ensures { queue.old.items ≡ result ∷ queue.new.items }
 {
