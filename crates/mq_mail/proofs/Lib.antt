@@ -6,4 +6,5 @@ pub mod LaneMoves
 pub mod Mails
 pub mod MatrixMoves
 pub mod Numbering
+pub mod Packets
 pub mod Views

@@ -1,6 +1,9 @@
 //! Lanes, in one thread and between two.
 ghost use Rattle.std.specs.Prelude.{◌≡◌};
 
+mod inboxes;
+mod packets;
+
 use crate::{Lane, LaneIn, LaneOut, make_lane};
 use std::process::Abort;
 use std::sync::Wait;

@@ -1,0 +1,8 @@
+use Rattle.std.proofs.Common.{◌≡◌}
+use Rattle.mq_mail.proofs.tests.inboxes.pop_all.Given as goal
+
+abbrev pub invariant-loop : goal.invariant-loop
+invariant-loop g l = record {
+  post : l.key.post ≡ l.fn.key.post;
+  actor : l.key.actor ≡ l.fn.key.actor;
+}
