@@ -2,6 +2,7 @@
 ghost use Rattle.std.specs.Prelude.{◌≡◌};
 
 mod inboxes;
+mod many;
 mod packets;
 
 use crate::{Lane, LaneIn, LaneOut, make_lane};
@@ -44,7 +45,7 @@ fn ten_thousand_from_one_thread_to_another(rt: HostRuntime) -> Result<(), Fail> 
     across(&rt, lane, into, out, 10_000)
 }
 
-fn across<R: Threads + Wait + Abort + Sync>(
+pub fn across<R: Threads + Wait + Abort + Sync>(
     rt: &R,
     lane: Lane<u32>,
     into: LaneIn<u32>,

@@ -95,7 +95,7 @@ fn pop_parts<R: Wait>(rt: &R, post: &Post, key: &mut MailKey) -> Option<(u32, u6
 }
 
 /// Pushes a parcel, and says whether it was taken.
-fn is_taken<R: Wait>(rt: &R, post: &Post, key: &mut MailKey, to: u32, parcel: Parcel) -> bool
+pub fn is_taken<R: Wait>(rt: &R, post: &Post, key: &mut MailKey, to: u32, parcel: Parcel) -> bool
     requires same { key.old.post ≡ post.now.inboxes }
     requires to { to < length key.old.post }
     requires parcel { IsParcel parcel }
@@ -210,7 +210,7 @@ fn push_until<R: Wait>(rt: &R, post: &Post, key: &mut MailKey, to: u32, mut parc
 }
 
 /// Pushes so many parcels, and says how many.
-fn push_all<R: Wait>(
+pub fn push_all<R: Wait>(
     rt: &R,
     alloc: Global,
     post: &Post,
@@ -232,9 +232,9 @@ fn push_all<R: Wait>(
 }
 
 /// Whether it is the next parcel of its actor's, of which the numbers are kept.
-fn is_next(next: &mut [u64; 2], parcel: &Parcel) -> bool {
+fn is_next(next: &mut [u64; 4], parcel: &Parcel) -> bool {
     let (actor, n, _) = parts_of(parcel);
-    if actor > 1 || n == u64::MAX {
+    if actor > 3 || n == u64::MAX {
         return false;
     }
     let is = next[actor as usize] == n;
@@ -243,11 +243,11 @@ fn is_next(next: &mut [u64; 2], parcel: &Parcel) -> bool {
 }
 
 /// Pops so many parcels, and says whether each was the next of its actor's.
-fn pop_all<R: Wait>(rt: &R, post: &Post, mut key: MailKey, count: u64) -> (MailKey, bool)
+pub fn pop_all<R: Wait>(rt: &R, post: &Post, mut key: MailKey, count: u64) -> (MailKey, bool)
     requires { key.post ≡ post.now.inboxes }
     ensures { (result.0.post ≡ key.post) × (result.0.actor ≡ key.actor) }
 {
-    let mut next = [0, 0];
+    let mut next = [0, 0, 0, 0];
     let mut in_order = true;
     let mut popped = 0;
     for _ in rt.forever() {
@@ -339,7 +339,7 @@ fn deliver<R: Threads + Wait + Abort + Sync>(
 #[test]
 fn two_threads_push_and_one_pops(rt: HostRuntime) -> Result<(), Fail> {
     for (capacity, left) in [(1, 0), (1, 1), (2, 0), (16, 10), (256, 256), (2_000, 7)] {
-        for _ in 0..5 {
+        for _ in 0..50 {
             deliver(&rt, rt.alloc(), capacity, left)?;
         }
     }
