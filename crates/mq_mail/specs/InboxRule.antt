@@ -1,4 +1,5 @@
--- The rule of an inbox's queue: what each actor pushed is what was popped of it and what waits of it, in order. One pass at most pushes for each actor, and one pops.
+-- The rule of an inbox's queue: what each actor pushed is what was popped of it and what waits of it, in order. One
+-- pass at most pushes for each actor, and one pops.
 use Rattle.std.specs.Prelude.{◌≡◌, ℕ, ◌≤◌, true, false, List, [], ◌∷◌, ◌++◌, Option, Some, None}
 use mathlib.Core.Option.{some}
 use lib.ListN.{get_elem?}
@@ -30,12 +31,14 @@ Owns seat pushed pass [] = Unit {0}
 Owns seat pushed pass (own ∷ rest) = ((seat own.0 ≡ Some pass) × (own.1 ≡ pushed own.0)) × Owns seat pushed pass rest
 
 -- the one pass that pops knows what was popped, and that actors which weren't made have no pass and pushed nothing
-pub record IsPopper (reader : ℕ) (seat : ℕ → Option ℕ) (pushed : ℕ → List Parcel) (popped : List Letter) (pass : ℕ) (v : Part) : Type 0 where
+pub record IsPopper (reader : ℕ) (seat : ℕ → Option ℕ) (pushed : ℕ → List Parcel) (popped : List Letter) (pass : ℕ)
+    (v : Part) : Type 0 where
   pub place : pass ≡ reader
   pub all : v.popped ≡ popped
   pub later : (p : ℕ) → v.made ≤ p → (seat p ≡ None) × (pushed p ≡ [])
 
-pub record Knows (reader : ℕ) (seat : ℕ → Option ℕ) (pushed : ℕ → List Parcel) (popped : List Letter) (pass : ℕ) (v : Part) : Type 0 where
+pub record Knows (reader : ℕ) (seat : ℕ → Option ℕ) (pushed : ℕ → List Parcel) (popped : List Letter) (pass : ℕ)
+    (v : Part) : Type 0 where
   pub owns : Owns seat pushed pass v.owns
   pub pops : v.pops ≡ true → IsPopper reader seat pushed popped pass v
 

@@ -32,7 +32,8 @@ abbrev pub AreWays : ℕ → List InboxPass → Type 0
 AreWays actor [] = Unit {0}
 AreWays actor (p ∷ ps) = IsWay actor p × AreWays actor ps
 
--- a way to each inbox with the count of what was pushed there, and the pass that pops the own inbox with the count of what was popped
+-- a way to each inbox with the count of what was pushed there, and the pass that pops the own inbox with the count of
+-- what was popped
 pub record IsKey (actor : ℕ) (all : List InboxPass) (numbers : List ℕ) (inbox : InboxPass) (number : ℕ) : Type 0 where
   pub ways : AreWays actor all
   pub counts : numbers ≡ map count_of all

@@ -1,4 +1,5 @@
--- The rule of a lane's queue: what was put is what was taken and what waits. One pass at most may put, and it has the list of what was put. The same for takes.
+-- The rule of a lane's queue: what was put is what was taken and what waits. One pass at most may put, and it has the
+-- list of what was put. The same for takes.
 use Rattle.std.specs.Prelude.{◌≡◌, ℕ, Bool, true, List, ◌++◌}
 use mathlib.Core.Option.{some}
 use lib.ListN.{get_elem?}

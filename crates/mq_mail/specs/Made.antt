@@ -46,4 +46,5 @@ AreRows from ids (row ∷ rows) = AreWaysTo from (length ids) ids row.items × A
 -- the passes that pop, from one inbox on
 abbrev pub AreLast : ℕ → ℕ → List TableId → List InboxPass → Type 0
 AreLast made from ids [] = Unit {0}
-AreLast made from ids (p ∷ ps) = ((id : TableId) × (slice_get ids from ≡ Some id) × IsFirst made id p) × AreLast made (suc from) ids ps
+AreLast made from ids (p ∷ ps) =
+    ((id : TableId) × (slice_get ids from ≡ Some id) × IsFirst made id p) × AreLast made (suc from) ids ps

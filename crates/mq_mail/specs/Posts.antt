@@ -1,5 +1,6 @@
 -- What a clause says of a post with its inboxes, and of an actor's key to it.
-use Rattle.std.specs.Prelude.{◌≡◌, ℕ, zero, suc, List, [], ◌∷◌, ◌++◌, length, slice_get, slice_set, map, Option, Some, None}
+use Rattle.std.specs.Prelude.{◌≡◌, ℕ, zero, suc, List, [], ◌∷◌, ◌++◌, length, map, Option, Some, None}
+use Rattle.std.specs.Prelude.{slice_get, slice_set}
 use Rattle.std.specs.Option.{unwrap_or}
 use Rattle.atomic_table.specs.Seated.{TableId}
 use Rattle.mq_talk.specs.declared.place.Parcel.{Parcel}
@@ -17,7 +18,8 @@ pub record PostOf : Type 0 where
   pub inboxes : PostId
   pub capacity : ℕ
 
--- an actor's key: of which inboxes and which actor it is, what it has pushed to each, and what it has popped of the actor's own
+-- an actor's key: of which inboxes and which actor it is, what it has pushed to each, and what it has popped of the
+-- actor's own
 pub record KeyOf : Type 0 where
   pub post : PostId
   pub actor : ℕ
@@ -40,12 +42,15 @@ pub record WasFull (capacity pusher : ℕ) (pushed : List Parcel) : Type 0 where
 -- a push: the parcel is the next of this actor's, or it comes back and takes no number
 abbrev pub PushesBy : ℕ → KeyOf → ℕ → Parcel → Pushed → KeyOf → Type 0
 PushesBy capacity old to parcel pushed.Taken new = new ≡ record old { pushed = with_pushed old.pushed to parcel }
-PushesBy capacity old to parcel (pushed.Full back) new = (back ≡ parcel) × (new ≡ old) × WasFull capacity old.actor (pushed_to old.pushed to)
+PushesBy capacity old to parcel (pushed.Full back) new =
+    (back ≡ parcel) × (new ≡ old) × WasFull capacity old.actor (pushed_to old.pushed to)
 
--- a pop: the next letter of its pusher's; or nothing waited, and what was popped is all that was pushed until then, numbered in order for each pusher
+-- a pop: the next letter of its pusher's; or nothing, and what was popped until then is numbered from 0 for each
+-- pusher, with none left out
 abbrev pub PopsBy : KeyOf → Option Parcel → KeyOf → Type 0
 PopsBy old None new = (new ≡ old) × AreNumbered old.popped
-PopsBy old (Some parcel) new = (x : Letter) × (x.parcel ≡ parcel) × IsNext old.popped x × (new ≡ record old { popped = old.popped ++ x ∷ [] })
+PopsBy old (Some parcel) new =
+    (x : Letter) × (x.parcel ≡ parcel) × IsNext old.popped x × (new ≡ record old { popped = old.popped ++ x ∷ [] })
 
 -- a key with which nothing was done
 abbrev pub new_key : PostId → ℕ → KeyOf

@@ -12,8 +12,8 @@ pub struct Letter {
     pub parcel: Parcel,
 }
 
-/// What a pass may do and what it knows: for which actors it pushes, each with what it has pushed; whether it pops, and then
-/// what was popped, and how many actors were made. No value of it is made.
+/// What a pass may do and what it knows: for which actors it pushes, each with what it has pushed; whether it pops, and
+/// then what was popped, and how many actors were made. No value of it is made.
 pub struct Part {
     pub owns: LinkedList<(u64, LinkedList<Parcel>)>,
     pub pops: bool,

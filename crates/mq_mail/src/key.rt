@@ -37,7 +37,12 @@ impl Model for MailKey {
 
     ghost Value = { KeyOf };
 
-    ghost view = { λ k. record { post = map id_of k.ways.items; actor = k.actor; pushed = map pushed_of k.ways.items; popped = (known k.inbox).popped } };
+    ghost view = { λ k. record {
+      post = map id_of k.ways.items;
+      actor = k.actor;
+      pushed = map pushed_of k.ways.items;
+      popped = (known k.inbox).popped;
+    } };
 
     ghost invariant = { λ k. IsKey k.actor k.ways.items k.counts.items k.inbox k.count };
 }
@@ -52,7 +57,8 @@ impl MailKey {
         inbox: InboxPass,
     ) -> Result<MailKey, NoMemory>
         requires ways { AreWaysTo actor (length (map inbox_id inboxes.now)) (map inbox_id inboxes.now) ways.items }
-        requires inbox { (id : TableId) × (slice_get (map inbox_id inboxes.now) actor ≡ Some id) × IsFirst (length (map inbox_id inboxes.now)) id inbox }
+        requires inbox { (id : TableId) × (slice_get (map inbox_id inboxes.now) actor ≡ Some id)
+            × IsFirst (length (map inbox_id inboxes.now)) id inbox }
         ensures { IfOk result (λ key. key ≡ new_key (map inbox_id inboxes.now) actor) }
     {
         let counts = Vec::from_elem(alloc, 0u64, ways.len())?;
@@ -131,7 +137,8 @@ fn push_way<R: Wait>(
     ensures inbox { (way.new.table_id ≡ way.old.table_id) × (way.new.me.1 ≡ []) }
     ensures owns { MatchResult result
         (λ _. (known way.new).owns ≡ (letter.pusher, pushed_of way.old ++ letter.parcel ∷ []) ∷ [])
-        (λ back. (back ≡ letter) × ((known way.new).owns ≡ (known way.old).owns) × WasFull (ruled_capacity inbox.now) letter.pusher (pushed_of way.old)) }
+        (λ back. (back ≡ letter) × ((known way.new).owns ≡ (known way.old).owns)
+        × WasFull (ruled_capacity inbox.now) letter.pusher (pushed_of way.old)) }
 {
     inbox.push_as::<Pushing, R>(rt, way, letter)
 }

@@ -58,7 +58,8 @@ impl<T> Model for LaneOut<T> {
 
     ghost view = { λ e. record { lane = e.pass.table_id; taken = (known e.pass).taken; told = (known e.pass).told } };
 
-    ghost invariant = { λ e. (e.pass.me.1 ≡ []) × ((known e.pass).puts ≡ false) × ((known e.pass).takes ≡ true) × (e.rest.items ≡ []) × (vec_len e.rest ≡ 0) × (e.pass.table_id.slots ≤ vec_capacity e.rest) };
+    ghost invariant = { λ e. (e.pass.me.1 ≡ []) × ((known e.pass).puts ≡ false) × ((known e.pass).takes ≡ true)
+        × (e.rest.items ≡ []) × (vec_len e.rest ≡ 0) × (e.pass.table_id.slots ≤ vec_capacity e.rest) };
 }
 
 /// A note of what was put into a lane so far. It has no bytes, and any thread may carry it to the taker.
@@ -79,8 +80,8 @@ impl<T> Model for Note<T> {
     ghost invariant = { λ e. (e.pass.me.1 ≡ []) × ((known e.pass).puts ≡ false) × ((known e.pass).takes ≡ false) };
 }
 
-/// An empty lane with room for so many items, and its two ends. All memory that the lane and its close will ever need is
-/// taken here.
+/// An empty lane with room for so many items, and its two ends. All memory that the lane and its close will ever need
+/// is taken here.
 pub fn make_lane<T: Drop>(
     alloc: Global,
     capacity: u32,
@@ -122,7 +123,8 @@ impl<T> LaneIn<T> {
 }
 
 impl<T> LaneOut<T> {
-    /// Takes the item at the front, if the lane has one. All that the taker was told was put has been taken where it hasn't.
+    /// Takes the item at the front, if the lane has one. All that the taker was told was put has been taken where it
+    /// hasn't.
     pub fn take<R: Wait>(&mut self, rt: &R, lane: &Lane<T>) -> Option<T>
         requires { self.old.lane ≡ lane.now }
         ensures lane { self.new.lane ≡ self.old.lane }

@@ -115,7 +115,8 @@ impl<T> Outcome<T, Hand<T>> for Drains {
     ghost use Rattle.std.specs.Prelude.{◌≡◌, ◌++◌, ◌∷◌, [], List};
     ghost use Rattle.mq_mail.specs.LaneRule.{hand};
 
-    ghost then = { λ v x w. (w ≡ hand v.puts v.takes v.put (v.taken ++ x ∷ []) v.told) × ((rest : List T) × (v.put ≡ v.taken ++ (x ∷ rest))) };
+    ghost then = { λ v x w. (w ≡ hand v.puts v.takes v.put (v.taken ++ x ∷ []) v.told)
+        × ((rest : List T) × (v.put ≡ v.taken ++ (x ∷ rest))) };
 }
 
 impl<T> Lesson<T, Hand<T>> for Drains {

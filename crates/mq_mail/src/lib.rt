@@ -1,4 +1,5 @@
-//! Lanes and inboxes between threads: what one thread hands in, another gets, whole, once and in order.
+//! Queues of fixed capacity between threads: a lane from one thread to another, and inboxes to which many push and
+//! from which one pops. What a thread hands in, another gets, whole, once and in order.
 #![tactic(auto)]
 
 mod close;

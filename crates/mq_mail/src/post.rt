@@ -1,8 +1,5 @@
-//! The inboxes of all actors, and their close.
-ghost use Rattle.std.specs.Prelude.{◌≡◌, ◌<◌, length, IfOk};
-ghost use Rattle.mq_mail.specs.Posts.{PostOf};
-
-use crate::inbox_rule::{Inbox, InboxPass};
+//! The inboxes of all actors, and what their close tells of each.
+use crate::inbox_rule::Inbox;
 use std::marker::Model;
 
 /// How many parcels were pushed into an inbox, were popped of it, and were left at the close.
@@ -30,5 +27,6 @@ impl Model for Post {
 
     ghost view = { λ p. record { inboxes = map inbox_id p.inboxes.items; capacity = p.capacity } };
 
-    ghost invariant = { λ p. HaveRoom p.capacity p.inboxes.items × (p.tallies.items ≡ []) × (vec_len p.tallies ≡ 0) × (length p.inboxes.items ≤ vec_capacity p.tallies) };
+    ghost invariant = { λ p. HaveRoom p.capacity p.inboxes.items × (p.tallies.items ≡ []) × (vec_len p.tallies ≡ 0)
+        × (length p.inboxes.items ≤ vec_capacity p.tallies) };
 }

@@ -11,8 +11,8 @@ use mq_wire::{NoMemory, Seq};
 use std::alloc::Global;
 use std::collections::VecDeque;
 
-/// Empty inboxes for so many actors, each with room for so many parcels, and the keys of the actors, by their numbers. All
-/// memory that they will ever need is taken here.
+/// Empty inboxes for so many actors, each with room for so many parcels, and the keys of the actors, by their numbers.
+/// All memory that they and their close will ever need is taken here.
 pub fn matrix(alloc: Global, actors: u32, capacity: u32) -> Result<(Post, Seq<MailKey>), NoMemory>
     requires { 0 < capacity }
     ensures post { IfOk result (λ made. (length made.0.inboxes ≡ actors) × (made.0.capacity ≡ capacity)) }
@@ -61,7 +61,8 @@ fn make_ways(
 ) -> Result<Vec<InboxPass>, NoMemory>
     requires { AreFirsts actor (map inbox_id inboxes.now) firsts.old.items }
     ensures firsts { OnOk result (AreFirsts (suc actor) (map inbox_id inboxes.now) firsts.new.items) }
-    ensures ways { IfOk result (λ ways. AreWaysTo actor (length (map inbox_id inboxes.now)) (map inbox_id inboxes.now) ways.items) }
+    ensures ways { IfOk result
+        (λ ways. AreWaysTo actor (length (map inbox_id inboxes.now)) (map inbox_id inboxes.now) ways.items) }
 {
     let mut ways = Vec::with_capacity(alloc, inboxes.len())?;
     for i in 0..inboxes.len() {
@@ -80,7 +81,8 @@ fn make_rows(
 ) -> Result<VecDeque<Vec<InboxPass>>, NoMemory>
     requires { AreFirsts 0 (map inbox_id inboxes.now) firsts.old.items }
     ensures firsts { OnOk result (AreFirsts actors (map inbox_id inboxes.now) firsts.new.items) }
-    ensures rows { IfOk result (λ rows. AreRows 0 (map inbox_id inboxes.now) rows.items × (length rows.items ≡ actors)) }
+    ensures rows { IfOk result
+        (λ rows. AreRows 0 (map inbox_id inboxes.now) rows.items × (length rows.items ≡ actors)) }
 {
     let mut rows = VecDeque::with_capacity(alloc, actors as usize)?;
     for actor in 0..actors {
