@@ -10,7 +10,7 @@ use Rattle.mq_talk.specs.declared.place.Parcel.{Parcel}
 use Rattle.mq_mail.specs.declared.inbox_rule.Letter.{Letter}
 use Rattle.mq_mail.specs.declared.inbox_rule.Part.{Part}
 use Rattle.mq_mail.specs.declared.post.Tally.{Tally}
-use Rattle.mq_mail.specs.Closing.{owns_to, IsJoined, AreJoined, AddsPopper, IsGathered, AreGathered}
+use Rattle.mq_mail.specs.Closing.{owns_to, TookWay, TookWays, AddsPopper, IsGathered, AreGathered}
 use Rattle.mq_mail.specs.InboxRule.{AreAll}
 use Rattle.mq_mail.specs.Keys.{InboxPass, id_of, pushed_of, count_of, AreWays, IsKey}
 use Rattle.mq_mail.specs.Letters.{letters, of, pushed_by}
@@ -51,7 +51,7 @@ at_last (z ∷ zs) (suc j) x y e = ⊎_elim (λ (t : slice_get zs j ≡ Some y).
 -- the passes up to one have taken in their ways, and the ways to the others are left
 pub record AreHalfJoined (old ways : List InboxPass) (i : ℕ) (now rest : List InboxPass) : Type 0 where
   pub ids : map id_of now ≡ map id_of old
-  pub done : (j : ℕ) (p : InboxPass) → j < i → slice_get now j ≡ Some p → IsJoined old ways j p
+  pub done : (j : ℕ) (p : InboxPass) → j < i → slice_get now j ≡ Some p → TookWay old ways j p
   pub later : (j : ℕ) → i ≤ j → slice_get now j ≡ slice_get old j
   pub left : (j : ℕ) → slice_get rest j ≡ slice_get ways (j + i)
   pub size : length rest + i ≡ length old
@@ -75,11 +75,11 @@ pub joins_more : (old ways now left left' : List InboxPass) (i : ℕ) (a w p : I
     → p.table_id ≡ a.table_id → p.me.1 ≡ [] → view p ≡ record (view a) { owns = (view a).owns ++ (view w).owns } → AreHalfJoined old ways (i + 1) (set now i p) left'
 joins_more old ways now left left' i a w p h at e id rest knows =
     let was : slice_get old i ≡ Some a = sym (h.later i (omega arith)) ∙ at in
-    let here : IsJoined old ways i p = record { was = a; way = w; was_there = was; way_there = next_way old ways now left left' i w h e; rest = rest; knows = knows } in
+    let here : TookWay old ways i p = record { was = a; way = w; was_there = was; way_there = next_way old ways now left left' i w h e; rest = rest; knows = knows } in
     record {
       ids = ids_same now i a p at id ∙ h.ids;
       done = λ j q lt there. ⊎_elim
-          (λ (t : (j ≡ i) × (p ≡ q)). let P : ℕ × InboxPass → Type 0 = λ y. IsJoined old ways y.0 y.1 in subst P (λ k. (sym t.0 k, t.1 k)) here)
+          (λ (t : (j ≡ i) × (p ≡ q)). let P : ℕ × InboxPass → Type 0 = λ y. TookWay old ways y.0 y.1 in subst P (λ k. (sym t.0 k, t.1 k)) here)
           (λ (t : (j ≢ i) × (slice_get now j ≡ Some q)). h.done j q (omega (arith, lt, t.0)) t.1)
           (at_put now i j p q there);
       later = λ j le. put_else now i j p (λ same. omega (arith, le, same)) ∙ h.later j (omega (arith, le));
@@ -89,7 +89,7 @@ joins_more old ways now left left' i a w p h at e id rest knows =
       size = omega (arith, h.size, ap (λ (l : List InboxPass). length l) e);
     }
 
-pub joins_all : (old ways now left : List InboxPass) (i : ℕ) → AreHalfJoined old ways i now left → length old ≤ i → AreJoined old ways now
+pub joins_all : (old ways now left : List InboxPass) (i : ℕ) → AreHalfJoined old ways i now left → length old ≤ i → TookWays old ways now
 joins_all old ways now left i h far = record {
   ids = h.ids;
   each = λ j p at.
@@ -123,7 +123,7 @@ first_gathered ids key ways counts same are pushed numbers = record {
 
 -- the ways of one more key
 pub more_pushers : (ids : List TableId) (pushers poppers : List KeyOf) (key : KeyOf) (old ways new : List InboxPass) (popped : List ℕ) → AreGathered ids pushers poppers old popped
-    → AreJoined old ways new → AreWays key.actor ways → map pushed_of ways ≡ key.pushed → AreGathered ids (pushers ++ key ∷ []) poppers new popped
+    → TookWays old ways new → AreWays key.actor ways → map pushed_of ways ≡ key.pushed → AreGathered ids (pushers ++ key ∷ []) poppers new popped
 more_pushers ids pushers poppers key old ways new popped h joined are same = record {
   ids = joined.ids ∙ h.ids;
   each = λ i p at.
@@ -290,12 +290,12 @@ began ids key actor ways new counts popped inbox count h same post lowest adds i
     (first_gathered ids (key_of actor ways inbox) ways counts e h.ways refl h.counts) adds (sym z) h.pops refl (h.made ∙ sym (length-map ways id_of)) h.count) post lowest)
 
 pub took : (ids : PostId) (keys : List KeyOf) (key : KeyOf) (actor : ℕ) (ways joined old mid new : List InboxPass) (counts popped popped' : List ℕ) (inbox : InboxPass) (count : ℕ)
-    → IsKey actor ways counts inbox count → key_of actor ways inbox ≡ key → length keys ≡ key.actor → joined ≡ ways → AreJoined old joined mid → AddsPopper actor inbox mid new
+    → IsKey actor ways counts inbox count → key_of actor ways inbox ≡ key → length keys ≡ key.actor → joined ≡ ways → TookWays old joined mid → AddsPopper actor inbox mid new
     → popped' ≡ set popped actor count → AreGathered ids keys keys old popped → AreGathered ids (keys ++ key ∷ []) (keys ++ key ∷ []) new popped'
 took ids keys key actor ways joined old mid new counts popped popped' inbox count h same place moved joins adds is gathered =
     let P : KeyOf → Type 0 = λ k. length keys ≡ k.actor → AreGathered ids (keys ++ k ∷ []) (keys ++ k ∷ []) new (set popped actor count) in
     let Q : List ℕ → Type 0 = λ l. AreGathered ids (keys ++ key ∷ []) (keys ++ key ∷ []) new l in
-    let R : List InboxPass → Type 0 = λ l. AreJoined old l mid in
+    let R : List InboxPass → Type 0 = λ l. TookWays old l mid in
     subst Q (sym is) (subst P same (λ e. more_poppers ids (keys ++ key_of actor ways inbox ∷ []) keys (key_of actor ways inbox) mid new popped inbox count
     (more_pushers ids keys keys (key_of actor ways inbox) old ways mid popped gathered (subst R moved joins) h.ways refl)
     adds e h.pops refl (h.made ∙ sym (length-map ways id_of)) h.count) place)

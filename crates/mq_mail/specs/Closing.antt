@@ -3,6 +3,7 @@ use Rattle.std.specs.Prelude.{◌≡◌, ℕ, true, List, [], ◌∷◌, ◌++�
 use Rattle.atomic_table.specs.Seated.{TableId}
 use Rattle.crossbeam_queue.specs.Passes.{view}
 use Rattle.mq_talk.specs.declared.place.Parcel.{Parcel}
+use Rattle.mq_mail.specs.declared.close.Gathered.{Gathered}
 use Rattle.mq_mail.specs.Keys.{InboxPass, id_of}
 use Rattle.mq_mail.specs.Posts.{KeyOf, pushed_to}
 
@@ -12,7 +13,7 @@ owns_to [] inbox = []
 owns_to (key ∷ keys) inbox = (key.actor, pushed_to key.pushed inbox) ∷ owns_to keys inbox
 
 -- the pass of an inbox that took in a way to it
-pub record IsJoined (old ways : List InboxPass) (inbox : ℕ) (p : InboxPass) : Type 0 where
+pub record TookWay (old ways : List InboxPass) (inbox : ℕ) (p : InboxPass) : Type 0 where
   pub was : InboxPass
   pub way : InboxPass
   pub was_there : slice_get old inbox ≡ Some was
@@ -21,9 +22,9 @@ pub record IsJoined (old ways : List InboxPass) (inbox : ℕ) (p : InboxPass) : 
   pub knows : view p ≡ record (view was) { owns = (view was).owns ++ (view way).owns }
 
 -- each of these passes took in the way to the same inbox
-pub record AreJoined (old ways new : List InboxPass) : Type 0 where
+pub record TookWays (old ways new : List InboxPass) : Type 0 where
   pub ids : map id_of new ≡ map id_of old
-  pub each : (i : ℕ) (p : InboxPass) → slice_get new i ≡ Some p → IsJoined old ways i p
+  pub each : (i : ℕ) (p : InboxPass) → slice_get new i ≡ Some p → TookWay old ways i p
 
 -- the pass of an actor's inbox took in the one that pops
 pub record AddsPopper (actor : ℕ) (popper : InboxPass) (old new : List InboxPass) : Type 0 where
@@ -53,3 +54,7 @@ pub record AreGathered (post : List TableId) (pushers poppers : List KeyOf) (pas
   pub each : (i : ℕ) (p : InboxPass) → slice_get passes i ≡ Some p → IsGathered pushers poppers i p
   pub size : length popped ≡ length post
   pub counts : (i : ℕ) (key : KeyOf) → slice_get poppers i ≡ Some key → slice_get popped i ≡ Some (length key.popped)
+
+-- what took in these keys
+abbrev pub TookIn : List TableId → List KeyOf → Gathered → Type 0
+TookIn post keys g = AreGathered post keys keys g.passes.items g.popped.items

@@ -3,7 +3,7 @@ ghost use Rattle.std.specs.Prelude.{◌≡◌, ◌≤◌, ◌+◌, true, ◌∷�
 ghost use Rattle.std.specs.Prelude.{slice_get, slice_set, vec_len, vec_capacity};
 ghost use Rattle.crossbeam_queue.specs.Fifo.{Held};
 ghost use Rattle.crossbeam_queue.specs.Passes.{view as known, IsPassOf};
-ghost use Rattle.mq_mail.specs.Closing.{AreFree, AreJoined, AddsPopper, AreGathered};
+ghost use Rattle.mq_mail.specs.Closing.{AreFree, TookWays, AddsPopper, TookIn};
 ghost use Rattle.mq_mail.specs.InboxRule.{AreAll};
 ghost use Rattle.mq_mail.specs.Keys.{id_of};
 ghost use Rattle.mq_mail.specs.PostParts.{inbox_id};
@@ -70,7 +70,7 @@ fn tally_all<R: Wait>(
 fn begin(inboxes: &[Inbox], first: MailKey) -> Gathered
     requires post { first.post ≡ map inbox_id inboxes.now }
     requires actor { first.actor ≡ 0 }
-    ensures { AreGathered (map inbox_id inboxes.now) (first ∷ []) (first ∷ []) result.passes.items result.popped.items }
+    ensures { TookIn (map inbox_id inboxes.now) (first ∷ []) result }
 {
     let MailKey {
         actor,
@@ -94,9 +94,8 @@ fn take_in(inboxes: &[Inbox], gathered: &mut Gathered, key: MailKey)
     requires free { AreFree gathered.old.passes.items }
     requires size { length gathered.old.popped.items ≡ length inboxes.now }
     ensures { (keys : List KeyOf) → length keys ≡ key.actor
-        → AreGathered (map inbox_id inboxes.now) keys keys gathered.old.passes.items gathered.old.popped.items
-        → AreGathered (map inbox_id inboxes.now) (keys ++ key ∷ []) (keys ++ key ∷ [])
-        gathered.new.passes.items gathered.new.popped.items }
+        → TookIn (map inbox_id inboxes.now) keys gathered.old
+        → TookIn (map inbox_id inboxes.now) (keys ++ key ∷ []) gathered.new }
 {
     let MailKey {
         actor,
@@ -114,7 +113,7 @@ fn add_ways(inboxes: &[Inbox], passes: &mut Vec<InboxPass>, mut ways: VecDeque<I
     requires ids { map id_of passes.old.items ≡ map inbox_id inboxes.now }
     requires free { AreFree passes.old.items }
     requires ways { (map id_of ways.items ≡ map inbox_id inboxes.now) × AreFree ways.items }
-    ensures { AreJoined passes.old.items ways.items passes.new.items }
+    ensures { TookWays passes.old.items ways.items passes.new.items }
 {
     for i in 0..inboxes.len() {
         let way = first_of(&mut ways);
@@ -145,12 +144,11 @@ fn tally_each<R: Wait>(
     mut tallies: Vec<Tally>,
 ) -> Vec<Tally>
     requires gathered { (keys : List KeyOf) × AreAllKeys (map inbox_id inboxes.now) keys
-        × AreGathered (map inbox_id inboxes.now) keys keys gathered.passes.items gathered.popped.items }
+        × TookIn (map inbox_id inboxes.now) keys gathered }
     requires empty { (tallies.items ≡ []) × (vec_len tallies ≡ 0) }
     requires memory { length inboxes.now ≤ vec_capacity tallies }
     ensures { (keys : List KeyOf) → AreAllKeys (map inbox_id inboxes.now) keys
-        → AreGathered (map inbox_id inboxes.now) keys keys gathered.passes.items gathered.popped.items
-        → AreTallied keys result.items }
+        → TookIn (map inbox_id inboxes.now) keys gathered → AreTallied keys result.items }
 {
     for i in 0..inboxes.len() {
         let tally = tally_of(rt, &inboxes[i], &mut gathered.passes[i], gathered.popped[i]);
@@ -168,8 +166,8 @@ fn tally_of<R: Wait>(rt: &R, inbox: &Inbox, pass: &mut InboxPass, popped: u64) -
     ensures known { known pass.new ≡ known pass.old }
     ensures popped { result.popped ≡ popped }
     ensures pushed { result.pushed ≡ popped + result.left }
-    ensures left { Held result.left
-        (λ left. AreAll (known pass.old).owns (known pass.old).made ((known pass.old).popped ++ left)) }
+    ensures left { Held result.left (λ left.
+        AreAll (known pass.old).owns (known pass.old).made ((known pass.old).popped ++ left)) }
 {
     let waiting = inbox.len_as::<Whole, R>(rt, pass);
     let popped = below_most(rt, popped);

@@ -58,8 +58,9 @@ impl<T> Model for LaneOut<T> {
 
     ghost view = { λ e. record { lane = e.pass.table_id; taken = (known e.pass).taken; told = (known e.pass).told } };
 
-    ghost invariant = { λ e. (e.pass.me.1 ≡ []) × ((known e.pass).puts ≡ false) × ((known e.pass).takes ≡ true)
-        × (e.rest.items ≡ []) × (vec_len e.rest ≡ 0) × (e.pass.table_id.slots ≤ vec_capacity e.rest) };
+    ghost invariant = { λ e. (e.pass.me.1 ≡ []) × ((known e.pass).puts ≡ false)
+        × ((known e.pass).takes ≡ true) × (e.rest.items ≡ []) × (vec_len e.rest ≡ 0)
+        × (e.pass.table_id.slots ≤ vec_capacity e.rest) };
 }
 
 /// A note of what was put into a lane so far. It has no bytes, and any thread may carry it to the taker.

@@ -27,6 +27,6 @@ impl Model for Post {
 
     ghost view = { λ p. record { inboxes = map inbox_id p.inboxes.items; capacity = p.capacity } };
 
-    ghost invariant = { λ p. HaveRoom p.capacity p.inboxes.items × (p.tallies.items ≡ []) × (vec_len p.tallies ≡ 0)
-        × (length p.inboxes.items ≤ vec_capacity p.tallies) };
+    ghost invariant = { λ p. HaveRoom p.capacity p.inboxes.items × (p.tallies.items ≡ [])
+        × (vec_len p.tallies ≡ 0) × (length p.inboxes.items ≤ vec_capacity p.tallies) };
 }

@@ -61,8 +61,8 @@ fn make_ways(
 ) -> Result<Vec<InboxPass>, NoMemory>
     requires { AreFirsts actor (map inbox_id inboxes.now) firsts.old.items }
     ensures firsts { OnOk result (AreFirsts (suc actor) (map inbox_id inboxes.now) firsts.new.items) }
-    ensures ways { IfOk result
-        (λ ways. AreWaysTo actor (length (map inbox_id inboxes.now)) (map inbox_id inboxes.now) ways.items) }
+    ensures ways { IfOk result (λ ways.
+        AreWaysTo actor (length (map inbox_id inboxes.now)) (map inbox_id inboxes.now) ways.items) }
 {
     let mut ways = Vec::with_capacity(alloc, inboxes.len())?;
     for i in 0..inboxes.len() {
