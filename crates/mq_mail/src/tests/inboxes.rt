@@ -83,6 +83,21 @@ fn parts_of(parcel: &Parcel) -> (u32, u64, usize) {
     (actor, parcel.n, parcel.packet.as_slice().len())
 }
 
+/// Pops a parcel's parts through a `Mail`.
+fn pop_by_mail<R: Wait>(rt: &R, post: &Post, key: MailKey) -> (MailKey, Option<(u32, u64, usize)>)
+    requires same { key.post ≡ post.now.inboxes }
+    requires room { post.now.capacity ≡ 256 }
+    requires own { key.actor < length key.post }
+    ensures { (result.0.post ≡ key.post) × (result.0.actor ≡ key.actor) }
+{
+    let mut mail = post.mail(rt, key);
+    let parts = match mail.pop() {
+        None => None,
+        Some(parcel) => Some(parts_of(&parcel)),
+    };
+    (mail.back(), parts)
+}
+
 /// Pops a parcel's parts.
 fn pop_parts<R: Wait>(rt: &R, post: &Post, key: &mut MailKey) -> Option<(u32, u64, usize)>
     requires { key.old.post ≡ post.now.inboxes }
@@ -109,12 +124,13 @@ pub fn is_taken<R: Wait>(rt: &R, post: &Post, key: &mut MailKey, to: u32, parcel
 
 #[test]
 fn the_257th_parcel_comes_back(rt: HostRuntime) -> Result<(), Fail> {
-    let (post, first, mut second) = two(rt.alloc(), 256)?;
+    let (post, first, second) = two(rt.alloc(), 256)?;
     let (first, taken) = fill(&rt, rt.alloc(), &post, first, 1, 256)?;
     assert_eq!(rt; taken, 256);
     let (first, taken) = fill(&rt, rt.alloc(), &post, first, 1, 1)?;
     assert_eq!(rt; taken, 0);
-    assert_eq!(rt; pop_parts(&rt, &post, &mut second), Some((0, 0, 40)));
+    let (second, popped) = pop_by_mail(&rt, &post, second);
+    assert_eq!(rt; popped, Some((0, 0, 40)));
     let tallies = close_two(&rt, rt.alloc(), post, first, second)?;
     let none = Tally {
         pushed: 0,
