@@ -42,11 +42,11 @@ impl<L> Held<L> {
 
     /// Asks the book what it wants to ask: that its tunnel opens, or closes.
     pub fn ask<O: Office>(&mut self, call: Call, office: &mut O) -> Result<Heard, NoMemory>
-        requires { MayCall (O.seen office.old).config (O.seen office.old).entries (O.actor office.old) call }
+        requires { MayCall (O.seen office.old).config (O.seen office.old).entries (O.seen office.old).actor call }
         ensures gives { (s : machine.Conn) → IsConn self.old.conn s → IsPlain call → want_of s ≡ Ask call
-            → AskGives (O.actor office.old) (O.seen office.old) call (O.seen office.new) (IsConn self.new.conn) s result }
+            → AskGives (O.seen office.old).actor (O.seen office.old) call (O.seen office.new) (IsConn self.new.conn) s result }
         ensures rest { self.new ≡ record self.old { conn = self.new.conn } }
-        ensures actor { O.actor office.new ≡ O.actor office.old }
+        ensures actor { (O.seen office.new).actor ≡ (O.seen office.old).actor }
     {
         match office.call(call) {
             Err(refused) => {

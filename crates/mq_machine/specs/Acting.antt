@@ -215,12 +215,19 @@ pub record StepDone (old new : Sight) (s : Worker) (note : Note) (t : Worker) : 
   pub next : SeatNext now sh seat answer note became after
   pub is : t ≡ with_prepared new.outside answer became
 
--- The step gave no note: every seat was passed over, and the book is the same.
+-- what is told of links and ports stays
+pub record TellsSame (old new : Outside) (w : Worker) : Type 0 where
+  pub links : All (λ (h : Held). new.link h.conn.number ≡ old.link h.conn.number) w.conns
+  pub ports : All (λ (h : Held). All (λ (p : Port). new.port p.tunnel ≡ old.port p.tunnel) h.ports) w.conns
+  pub offers : All (λ (f : Offer). new.link f.number ≡ old.link f.number) w.offered
+
+-- The step gave no note: every seat was passed over, the book is the same, and so is all that is told.
 pub record StepQuiet (old new : Sight) (s : Worker) (t : Worker) : Type 0 where
   pub box : List Parcel
   pub was : WasInbox old.boxes s.id box
   pub waited : All (SeatWaited old.outside new.outside s box) (seats_of s)
   pub seen : new.seen.entries ≡ old.seen.entries
+  pub outside : TellsSame old.outside new.outside s
   pub boxes : List (List Parcel)
   pub told : IsTold old.boxes boxes
   pub tells : IsTold new.boxes boxes

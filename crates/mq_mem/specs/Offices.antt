@@ -12,7 +12,7 @@ pub record Office : Type 0 where
 
 -- it has seen the whole history
 abbrev pub seen_of : Office → Seen
-seen_of o = record { config = o.book.config; entries = o.book.history; is_whole = true }
+seen_of o = record { actor = o.actor; config = o.book.config; entries = o.book.history; is_whole = true }
 
 abbrev pub is_close : Call → Bool
 is_close (Close tunnel) = true

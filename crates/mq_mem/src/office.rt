@@ -65,8 +65,6 @@ impl PlainOffice {
 }
 
 impl Office for PlainOffice {
-    ghost actor = { λ o. o.actor };
-
     ghost seen = { λ o. seen_of o };
 
     /// A call that is refused memory changes nothing, and a close is never refused it.

@@ -86,8 +86,6 @@ impl RefusingOffice {
 }
 
 impl Office for RefusingOffice {
-    ghost actor = { λ o. o.office.actor };
-
     ghost seen = { λ o. seen_of o.office };
 
     /// A call that is refused memory changes nothing, and a close is never refused it.

@@ -1,9 +1,12 @@
 -- What an actor's way to the book answers. Other actors write too, so the history goes on between its calls.
-use Rattle.std.specs.Prelude.{◌≡◌, ⊤, ℕ, Bool, true, [], ◌++◌, length, Result, Ok, Err}
+use Rattle.std.specs.Prelude.{◌≡◌, ◌≢◌, ⊤, ℕ, Bool, true, [], ◌++◌, length, slice_get, Some, Result, Ok, Err}
+use Rattle.std.specs.List.{All}
 use Rattle.mq_wire.specs.declared.NoMemory.{NoMemory}
 use Rattle.mq_addr.specs.declared.range.Flow.{Flow}
 use Rattle.mq_talk.specs.declared.book.Call.{Call}
+use Rattle.mq_talk.specs.declared.book.Call.TheVariants.{Close}
 use Rattle.mq_talk.specs.declared.book.Config.{Config}
+use Rattle.mq_talk.specs.declared.book.Entry.{Entry}
 use Rattle.mq_talk.specs.declared.book.Reply.{Reply}
 use Rattle.mq_talk.specs.declared.place.Judged.{Judged}
 use Rattle.mq_talk.specs.declared.place.Origin.{Origin}
@@ -13,16 +16,24 @@ use Rattle.mq_talk.specs.Config.{IsConfig}
 use Rattle.mq_talk.specs.Answers.{IsAnswer, IsLegal, IsMine, recorded}
 use Rattle.mq_talk.specs.Judging.{IsJudged}
 
--- what an office has seen of the one history, and whether that is the whole
+-- whose office it is, what it has seen of the one history, and whether that is the whole
 pub record Seen : Type 0 where
+  pub actor : ℕ
   pub config : Config
   pub entries : History
   pub is_whole : Bool
 
--- a history in which an actor acts that has seen so much: it goes on from there, and is that where it sees the whole
+-- an entry that another actor wrote: it closes no tunnel that this actor opened
+pub record IsOfOther (seen : Seen) (e : Entry) : Type 0 where
+  pub by : e.actor ≢ seen.actor
+  pub keeps : (tunnel : ℕ) (opener : Entry) → e.call ≡ Close tunnel → slice_get seen.entries tunnel ≡ Some opener → opener.actor ≢ seen.actor
+
+-- A history in which an actor acts that has seen so much: others wrote what goes on from there, and there is nothing more where
+-- it sees the whole.
 pub record Sees (seen : Seen) (book : History) : Type 0 where
   pub more : History
   pub goes_on : book ≡ seen.entries ++ more
+  pub others : All (IsOfOther seen) more
   pub whole : seen.is_whole ≡ true → more ≡ []
 
 -- it stays the same office

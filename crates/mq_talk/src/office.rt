@@ -11,24 +11,22 @@ use mq_wire::NoMemory;
 
 /// An actor's way to the book, which other actors may write to between its calls.
 pub trait Office {
-    /// Whose it is.
-    ghost actor: { Self → ℕ };
-    /// What it has seen of the history.
+    /// Whose it is, and what it has seen of the history.
     ghost seen: { Self → Seen };
 
     /// Asks the book. It answers by all entries before this one, and what was asked and answered is the last entry then,
     /// unless the history has no place. A close always has its place, and takes no memory.
     fn call(&mut self, call: Call) -> Result<Reply, NoMemory>
-        requires { MayCall (seen self.old).config (seen self.old).entries (actor self.old) call }
-        ensures gives { CallGives (actor self.old) (seen self.old) call result (seen self.new) }
+        requires { MayCall (seen self.old).config (seen self.old).entries (seen self.old).actor call }
+        ensures gives { CallGives (seen self.old).actor (seen self.old) call result (seen self.new) }
         ensures close { (tunnel : ℕ) → call ≡ Close tunnel → IsOk result }
         ensures sound { IsSound (seen self.old) → IsSound (seen self.new) }
-        ensures actor { actor self.new ≡ actor self.old };
+        ensures actor { (seen self.new).actor ≡ (seen self.old).actor };
 
     /// Whether a packet with this flow may go on, and where (RFC 9484, section 4.7). Takes no memory.
     fn judge(&mut self, origin: Origin, flow: &Flow) -> Judged
-        requires { MayJudge (seen self.old) (actor self.old) origin }
+        requires { MayJudge (seen self.old) (seen self.old).actor origin }
         ensures gives { JudgeGives (seen self.old) origin flow.now result (seen self.new) }
         ensures sound { IsSound (seen self.old) → IsSound (seen self.new) }
-        ensures actor { actor self.new ≡ actor self.old };
+        ensures actor { (seen self.new).actor ≡ (seen self.old).actor };
 }

@@ -4,7 +4,7 @@ use Rattle.mq_held.proofs.Fronts.{hears}
 pub returns-in-Ok-clause-gives : goal.returns-in-Ok-clause-gives
 returns-in-Ok-clause-gives g c = λ s stands plain want.
     hears
-    (g.O.Office.actor c.args.office.now)
+    (g.O.Office.seen c.args.office.now).actor
     (g.O.Office.seen c.args.office.now)
     c.args.call
     (g.O.Office.seen c.call.new.self)
