@@ -168,7 +168,7 @@ close_done most table c seats o n actor seen seen_after boxes orders s tunnel sa
       became = Some (closed_left o s t);
       calm = λ not_send. refl;
       can = ap (λ (w : Want). can_do h.ports w) want;
-      shares = record { config = refl; book = ok.sees; wrote = subst R closed ok.seen; boxes_are = refl; orders_are = refl };
+      shares = record { config = refl; book = ok.sees; wrote = subst R closed ok.seen; same = ok.same; boxes_are = refl; boxes_after = refl; orders_are = refl };
       faults = none_fails o n idle s.ports idle_works;
       binds = tt;
       next = record {

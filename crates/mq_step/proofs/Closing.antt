@@ -59,7 +59,7 @@ closed_is most table c g actor seen seen_after boxes orders s tunnel said t conn
       conn = t;
       sh = sh;
       after = after;
-      shares = record { config = refl; book = ok.sees; wrote = subst R closed ok.seen; boxes_are = refl; orders_are = refl };
+      shares = record { config = refl; book = ok.sees; wrote = subst R closed ok.seen; same = ok.same; boxes_are = refl; boxes_after = refl; orders_are = refl };
       answers = subst A (sym want) (subst B (sym mine) (record { said = reply.Closed; is = tt; reply_is = refl; after_is = refl }));
       does = does;
       stands_for = λ link. closed_stands most table c g s tunnel said t link conn want number seats bound does new;

@@ -40,7 +40,7 @@ no_send s = by_case (wanted s) where
   by_case (inl (tunnel, is)) = ap (λ (w : Want). is_send w) is
   by_case (inr is) = ap (λ (w : Want). is_send w) is
 
-can_then : (s : Conn) (ports : List Port) → can_do ports (want_of (failed s)) ≡ true
+pub can_then : (s : Conn) (ports : List Port) → can_do ports (want_of (failed s)) ≡ true
 can_then s ports = by_case (wanted s) where
   by_case : ((tunnel : ℕ) × (want_of (failed s) ≡ Ask (call.Close tunnel))) ⊎ (want_of (failed s) ≡ Over end.Link) → can_do ports (want_of (failed s)) ≡ true
   by_case (inl (tunnel, is)) = ap (λ (w : Want). can_do ports w) is

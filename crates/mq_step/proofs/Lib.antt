@@ -26,3 +26,4 @@ pub mod Passing
 pub mod Moving
 pub mod Incoming
 pub mod Stepping
+pub mod Still

@@ -119,7 +119,7 @@ open_done o n actor seen seen_after boxes orders s conn id names number tunnel a
       became = Some (behind h (Ask asked) answer t);
       calm = λ not_send. refl;
       can = ap (λ (w : Want). can_do h.ports w) want;
-      shares = record { config = refl; book = ok.sees; wrote = ok.seen; boxes_are = refl; orders_are = refl };
+      shares = record { config = refl; book = ok.sees; wrote = ok.seen; same = ok.same; boxes_are = refl; boxes_after = refl; orders_are = refl };
       faults = none_fails o n idle s.ports idle_works;
       binds = tt;
       next = record {
@@ -232,7 +232,7 @@ comes_full {L} {Q} most table after h g o n actor seen seen_after boxes orders s
       left_is = left o s t;
       done_is = want_done o n seen seen_after boxes orders s (Ask asked) (Replied full) said.note t sh sh opens.want (full_needs n conn id names number entries live addr) does
           (subst B (sym opens.mine) (record { said = full; is = ok.reply_is; reply_is = refl; after_is = refl }))
-          (record { config = refl; book = ok.sees; wrote = ok.seen; boxes_are = refl; orders_are = refl }) tt;
+          (record { config = refl; book = ok.sees; wrote = ok.seen; same = ok.same; boxes_are = refl; boxes_after = refl; orders_are = refl }) tt;
       stands_for = stands most after g (left o s t) opens.conn (k.number ∙ opens.number) (no_are most after o g.ports.items s.ports none.0 empty) (served_any t.ending t.tunnels (map (filled_port o idle) s.ports) served) k.opens opens.bound;
       told_is = no_told o n s.ports none.0;
     }

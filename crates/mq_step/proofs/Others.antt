@@ -1,10 +1,13 @@
 -- The ports of other connections stay as they are.
-use Rattle.std.proofs.Common.{◌≡◌, ◌≢◌, ◌⊎◌, inl, inr, ℕ, zero, suc, ◌<◌, List, [], ◌∷◌, length, remove, All, slice_get, slice_set, Some, None, refl, sym, ap, subst, ◌∙◌, arith}
+use Rattle.std.proofs.Common.{◌≡◌, ◌≢◌, ◌⊎◌, inl, inr, ℕ, zero, suc, ◌<◌, List, [], ◌∷◌, length, remove, All, slice_get, slice_set}
+use Rattle.std.proofs.Common.{Option, Some, None, refl, sym, ap, subst, ◌∙◌, arith}
 use Rattle.std.proofs.lemmas.Bool.{cases_eq}
 use Rattle.std.proofs.lemmas.List.Elements.{All-cons, All-head, All-tail}
 use Rattle.slab.specs.Slab.{Slab, get, Updates}
+use Rattle.mq_held.specs.declared.held.Held.{Held as HeldBy}
 use Rattle.mq_held.specs.declared.held.PortSeat.{PortSeat}
 use Rattle.mq_held.specs.Seats.{IsSeatOf, HasNoSeat}
+use Rattle.mq_step.specs.Holds.{IsOther, KeepsOthers}
 
 -- ---- the first seat of a tunnel, or none
 
@@ -86,3 +89,25 @@ keys_set [] key zero new not all = all
 keys_set [] key (suc place) new not all = all
 keys_set (x ∷ seats) key zero new not all = All-cons (HasKey key) new seats not (All-tail (HasKey key) x seats all)
 keys_set (x ∷ seats) key (suc place) new not all = All-cons (HasKey key) x (slice_set seats place new) (All-head (HasKey key) x seats all) (keys_set seats key place new not (All-tail (HasKey key) x seats all))
+
+-- ---- one call after another
+
+same_other : (seats seats_after : List PortSeat) (bound bound_after : Option ℕ) (key : ℕ) → seats_after ≡ seats → bound_after ≡ bound
+    → IsOther seats bound key → IsOther seats_after bound_after key
+same_other seats seats_after bound bound_after key same still other =
+    let P : List PortSeat → Type 0 = λ xs. All (HasKey key) xs in
+    record { seats_are = subst P (sym same) other.seats_are; bound_is = λ is. other.bound_is (sym still ∙ is) }
+
+-- the call before kept the seats, what is bound and the table
+pub keeps_from : {L Q : Type 0} (old mid new : HeldBy L) (table after : Slab Q)
+    → mid.ports.items ≡ old.ports.items → mid.bound ≡ old.bound → KeepsOthers mid new table after → KeepsOthers old new table after
+keeps_from {L} {Q} old mid new table after same still keeps =
+    λ key port at other. keeps key port at (same_other old.ports.items mid.ports.items old.bound mid.bound key same still other)
+
+-- both calls kept the ports of others
+pub keeps_both : {L Q : Type 0} (old mid new : HeldBy L) (table between after : Slab Q)
+    → KeepsOthers old mid table between → KeepsOthers mid new between after → KeepsOthers old new table after
+keeps_both {L} {Q} old mid new table between after first second =
+    λ key port at other.
+    let kept = first key port at other in
+    second key port kept.0 kept.1

@@ -122,7 +122,7 @@ module _ {L Q : Type 0} (most : Q → ℕ) (holds : Q → Option PortHolds) (cou
       → Gives setup (receive_alone seat.tunnel) ReadsWait o n seen seen_after stand s r → Gives setup receives_of ReadsWait o n seen seen_after stand s r
   all_gives x setup n seen seen_after stand (Ok Quiet) gives =
       let A : List Try → Type 0 = λ ts. All (Asked o n s) ts in (
-        record { none = first_same x idle ∙ gives.0.none; asked = subst A (sym (tries_are x)) gives.0.asked; grows = gives.0.grows; seen_is = gives.0.seen_is },
+        record { none = first_same x idle ∙ gives.0.none; asked = subst A (sym (tries_are x)) gives.0.asked; grows = gives.0.grows; told = gives.0.told; seen_is = gives.0.seen_is },
         gives.1,
       )
   all_gives x setup n seen seen_after stand (Ok (Did said)) gives = λ boxes orders.
@@ -150,16 +150,21 @@ err_gives setup o n seen seen_after stand s refused (Err why) is gives = gives
 -- ---- without a seat
 
 pub none_waited : {L Q : Type 0} (most : Q → ℕ) (link : L → Option Link) (link_counts : L → LinkCounts) (table : Slab Q) (h : HeldBy L) (o n : Outside) (s : Held) (seen : Seen) → IsHeld most table h s
-    → h.ports.items ≡ [] → SeesLink link link_counts h o → SeesLink link link_counts h n → Waited receives_of o n seen seen s
-none_waited most link link_counts table h o n s seen held none so sn =
+    → h.ports.items ≡ [] → SeesLink link link_counts h o → SeesLink link link_counts h n → n.bind_faults ≡ o.bind_faults
+    → Waited receives_of o n seen seen s
+none_waited most link link_counts table h o n s seen held none so sn faults =
     let A : List PortSeat → Type 0 = λ xs. ArePorts most table xs s.ports in
     let ports = no_port most table s.ports (subst A none held.ports) in
     let G : Port → Type 0 = λ p. PortGrows (o.port_counts p.tunnel) (n.port_counts p.tunnel) in
     let LG : List Port → Type 0 = λ ps. All G ps in
+    let E : Port → Type 0 = λ p. n.port p.tunnel ≡ o.port p.tunnel in
+    let LE : List Port → Type 0 = λ ps. All E ps in
     let T : List Port → Type 0 = λ ps. All (Asked o n s) (map (λ (p : Port). Receive p.tunnel) ps) in
+    let stay = link_stays link link_counts h h o n refl refl so sn in
     record {
       none = ap (λ (ps : List Port). find (can_try (filled o idle s)) (map (λ (p : Port). Receive p.tunnel) (map (filled_port o idle) ps))) ports;
       asked = subst T (sym ports) (All-nil (Asked o n s));
-      grows = record { link = link_grows o n h.number s.conn.number (link_stays link link_counts h h o n refl refl so sn) held.number; ports = subst LG (sym ports) (All-nil G) };
+      grows = record { link = link_grows o n h.number s.conn.number stay held.number; ports = subst LG (sym ports) (All-nil G) };
+      told = record { link = ap n.link held.number ∙ stay.link ∙ ap o.link (sym held.number); ports = subst LE (sym ports) (All-nil E); faults = faults };
       seen_is = refl;
     }

@@ -159,13 +159,16 @@ module _ {L Q : Type 0} (most : Q → ℕ) (holds : Q → Option PortHolds) (pas
   -- ---- it waits
 
   pub received_waits : (x : Live most holds counts table h o s seat) (b : Behind most holds counts after h g o n seat x.is.port) (seen : Seen)
-      → ReceiveWaits (receive_calls holds past counts x.is.port b.now) → Waited (receive_alone seat.tunnel) o n seen seen s
-  received_waits x b seen w =
+      → ReceiveWaits (receive_calls holds past counts x.is.port b.now) → n.bind_faults ≡ o.bind_faults → Waited (receive_alone seat.tunnel) o n seen seen s
+  received_waits x b seen w bind_faults =
       let counts_are : n.port_counts seat.tunnel ≡ record (o.port_counts seat.tunnel) { receive_waits = risen (o.port_counts seat.tunnel).receive_waits } =
       b.sees.1 ∙ w.counts ∙ ap (λ (c : PortCounts). record c { receive_waits = risen c.receive_waits }) (sym x.sees.1) in
       let G : Port → Type 0 = λ p. PortGrows (o.port_counts p.tunnel) (n.port_counts p.tunnel) in
       let I : ℕ → Type 0 = λ i. PortGrows (o.port_counts i) (n.port_counts i) in
       let LG : List Port → Type 0 = λ ps. All G ps in
+      let E : Port → Type 0 = λ p. n.port p.tunnel ≡ o.port p.tunnel in
+      let J : ℕ → Type 0 = λ i. n.port i ≡ o.port i in
+      let LE : List Port → Type 0 = λ ps. All E ps in
       let grows : I seat.tunnel = record {
         send_waits = same_grows (o.port_counts seat.tunnel).send_waits (n.port_counts seat.tunnel).send_waits (ap (λ (c : PortCounts). c.send_waits) counts_are);
         receive_waits = let e = ap (λ (c : PortCounts). c.receive_waits) counts_are in let le = risen_grows (o.port_counts seat.tunnel).receive_waits in omega (arith, e, le);
@@ -180,6 +183,11 @@ module _ {L Q : Type 0} (most : Q → ℕ) (holds : Q → Option PortHolds) (pas
         grows = record {
           link = link_grows o n h.number s.conn.number b.link x.held.number;
           ports = subst LG (sym x.ports_are) (All-cons G x.p [] (subst I (sym x.of_port) grows) (All-nil G));
+        };
+        told = record {
+          link = ap n.link x.held.number ∙ b.link.link ∙ ap o.link (sym x.held.number);
+          ports = subst LE (sym x.ports_are) (All-cons E x.p [] (subst J (sym x.of_port) (b.sees.0 ∙ w.after ∙ sym x.sees.0)) (All-nil E));
+          faults = bind_faults;
         };
         seen_is = refl;
       }

@@ -9,7 +9,7 @@ use Rattle.mq_talk.specs.declared.book.Reply.TheVariants as reply
 use Rattle.mq_talk.specs.declared.book.Entry.{Entry}
 use Rattle.mq_talk.specs.declared.goal.Goal.{Goal}
 use Rattle.mq_talk.specs.declared.place.Parcel.{Parcel}
-use Rattle.mq_talk.specs.Offices.{Seen, Sees, CallOk}
+use Rattle.mq_talk.specs.Offices.{Seen, Sees, CallOk, IsSame}
 use Rattle.mq_machine.specs.State.{Tunnel, Held, Port, Orders, Shared}
 use Rattle.mq_machine.specs.Want.{Want, Ask, Said, Replied, want_of}
 use Rattle.mq_machine.specs.Steps.{starved}
@@ -57,9 +57,9 @@ sunk_stands most table after h g o actor s conn id names goal tunnels fails is =
 
 -- the book wrote nothing
 sinks_before : {L Q : Type 0} (most : Q → ℕ) (table after : Slab Q) (h g : HeldBy L) (o n : Outside) (actor : ℕ) (seen seen_after : Seen) (boxes : List (List Parcel)) (orders : Orders) (s : Held)
-    (conn id names : ℕ) (goal : Goal) → Fails most table h g actor s (call.Open conn id names goal) → Sees seen seen_after.entries → IsConn g.conn (starved s.conn)
+    (conn id names : ℕ) (goal : Goal) → Fails most table h g actor s (call.Open conn id names goal) → Sees seen seen_after.entries → IsSame seen seen_after → IsConn g.conn (starved s.conn)
     → Sinks most after g o n seen seen_after boxes orders s
-sinks_before most table after h g o n actor seen seen_after boxes orders s conn id names goal fails sees is =
+sinks_before most table after h g o n actor seen seen_after boxes orders s conn id names goal fails sees same is =
     let none = none_before most table h s conn id names goal fails.held fails.want in
     let a = open_alone h.conn s.conn conn id names goal fails.held.conn fails.want in
     let sh : Shared = shared_by seen seen_after.entries boxes orders in
@@ -74,7 +74,7 @@ sinks_before most table after h g o n actor seen seen_after boxes orders s conn 
         tunnels = s.conn.tunnels;
         can = ap (λ (w : Want). can_do (ported o idle s).ports w) fails.want;
         alive = a.1;
-        shares = record { config = refl; book = sees; wrote = refl; boxes_are = refl; orders_are = refl };
+        shares = record { config = refl; book = sees; wrote = refl; same = same; boxes_are = refl; boxes_after = refl; orders_are = refl };
         heard = (refl, refl, refl);
         then = refl;
       };
@@ -107,7 +107,7 @@ sinks_behind most table after h g o n actor seen seen_after boxes orders s conn 
         tunnels = tunnels;
         can = ap (λ (w : Want). can_do (ported o idle s).ports w) fails.want;
         alive = a.1;
-        shares = record { config = refl; book = ok.sees; wrote = refl; boxes_are = refl; orders_are = refl };
+        shares = record { config = refl; book = ok.sees; wrote = refl; same = ok.same; boxes_are = refl; boxes_after = refl; orders_are = refl };
         heard = record {
           tries = refl;
           takes = ap (λ (w : Want). takes_memory w) fails.want;
@@ -143,7 +143,7 @@ sinks most table after h g o n actor seen seen_after boxes orders s (call.Assign
 sinks most table after h g o n actor seen seen_after boxes orders s (call.Advertise tunnel list) refused not fails gives =
     let P : Want → Type 0 = λ w. IsUdpWant w in absurd (subst P fails.want (udp_want h.conn s.conn fails.held.conn))
 sinks most table after h g o n actor seen seen_after boxes orders s (call.Open conn id names goal) refused not fails (not_close, inl before) =
-    sinks_before most table after h g o n actor seen seen_after boxes orders s conn id names goal fails before.0.0 before.1
+    sinks_before most table after h g o n actor seen seen_after boxes orders s conn id names goal fails before.0.0 before.0.1 before.1
 sinks most table after h g o n actor seen seen_after boxes orders s (call.Open conn id names goal) refused not fails (not_close, inr behind) =
     sinks_behind most table after h g o n actor seen seen_after boxes orders s conn id names goal behind.said behind.replied.book fails behind.replied behind.open_is behind.stands_for
     (asks_open seen boxes orders actor conn id names goal behind.said seen_after behind.replied)

@@ -128,6 +128,7 @@ module _ (o n : Outside) (lc : ℕ → LinkCounts) (pc : ℕ → PortCounts) whe
           none = first_false (filled o idle s) t (tries (filled o idle s)) (cannot idle vain_idle) ∙ w.none;
           asked = All-cons (Asked o n s) t (tries s) (asks w.grows) (back w.asked);
           grows = grows_back s between w.grows;
+          told = record { link = w.told.link; ports = w.told.ports; faults = w.told.faults };
           seen_is = w.seen_is;
         },
         gives.1,

@@ -2,12 +2,13 @@
 use Rattle.std.proofs.Common.{◌≡◌, List, [], Option, Some, None, refl, sym, ap, ◌∙◌}
 use Rattle.std.specs.Prelude.{⊤, option_map}
 use Rattle.std.proofs.lemmas.List.{append-nil}
+use Rattle.std.proofs.lemmas.List.Elements.{All-nil}
 use Rattle.mq_talk.specs.declared.note.Note.{Note}
 use Rattle.mq_talk.specs.declared.note.Note.TheVariants as note
 use Rattle.mq_talk.specs.declared.note.End.{End}
 use Rattle.mq_talk.specs.declared.place.Parcel.{Parcel}
 use Rattle.mq_talk.specs.declared.book.Entry.{Entry}
-use Rattle.mq_talk.specs.Offices.{Seen, Sees}
+use Rattle.mq_talk.specs.Offices.{Seen, Sees, IsOfOther}
 use Rattle.mq_machine.specs.State.{Conn, Held, Orders, Shared}
 use Rattle.mq_machine.specs.Want.{Want, Nothing, Say, Bind, Ask, Judge, Push, Send, Over, Answer, want_of}
 use Rattle.mq_machine.specs.Done.{done}
@@ -54,8 +55,16 @@ abbrev pub shared_by : Seen → List Entry → List (List Parcel) → Orders →
 shared_by seen book boxes orders = record { config = seen.config; book = book; boxes = boxes; orders = orders }
 
 pub sees_same : (seen : Seen) → Sees seen seen.entries
-sees_same seen = record { more = []; goes_on = sym (append-nil seen.entries); whole = λ is. refl }
+sees_same seen = record { more = []; goes_on = sym (append-nil seen.entries); others = All-nil (IsOfOther seen); whole = λ is. refl }
 
-pub shares_same : (seen seen_after : Seen) (boxes : List (List Parcel)) (orders : Orders) → seen_after.entries ≡ seen.entries
+pub shares_same : (seen seen_after : Seen) (boxes : List (List Parcel)) (orders : Orders) → seen_after ≡ seen
     → Shares seen seen_after boxes orders (shared_by seen seen.entries boxes orders) (shared_by seen seen.entries boxes orders)
-shares_same seen seen_after boxes orders same = record { config = refl; book = sees_same seen; wrote = same; boxes_are = refl; orders_are = refl }
+shares_same seen seen_after boxes orders same = record {
+  config = refl;
+  book = sees_same seen;
+  wrote = ap (λ (x : Seen). x.entries) same;
+  same = record { config = ap (λ (x : Seen). x.config) same; whole = ap (λ (x : Seen). x.is_whole) same };
+  boxes_are = refl;
+  boxes_after = refl;
+  orders_are = refl;
+}

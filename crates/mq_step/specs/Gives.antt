@@ -16,7 +16,7 @@ use Rattle.mq_step.specs.declared.stepped.Stepped.{Stepped}
 use Rattle.mq_step.specs.declared.stepped.Stepped.TheVariants.{Quiet, Did, Ended}
 use Rattle.mq_step.specs.Wanted.{Shares, SendsWait, with_prepared}
 use Rattle.mq_step.specs.Sights.{Found, idle}
-use Rattle.mq_step.specs.Whole.{filled, IsAsTold, FaultsFit, Grows}
+use Rattle.mq_step.specs.Whole.{filled, IsAsTold, FaultsFit, Grows, StaysTold}
 
 -- ---- tries
 
@@ -80,7 +80,8 @@ pub record Waited (tries : Tries) (old new : Outside) (seen seen_after : Seen) (
   pub none : first_of tries (filled old idle s) ≡ None
   pub asked : All (Asked old new s) (tries s)
   pub grows : Grows old new s
-  pub seen_is : seen_after.entries ≡ seen.entries
+  pub told : StaysTold old new s
+  pub seen_is : seen_after ≡ seen
 
 -- One of the tries was begun, and memory was refused when it had come so far.
 pub record Starved (tries : Tries) (vain : InVain) (old new : Outside) (seen seen_after : Seen) (boxes : List (List Parcel)) (orders : Orders) (s t : Held) : Type 0 where

@@ -4,7 +4,7 @@ use Rattle.mq_wire.specs.declared.NoMemory.{NoMemory}
 use Rattle.mq_talk.specs.declared.book.Reply.TheVariants as reply
 use Rattle.mq_talk.specs.declared.note.Note.{Note}
 use Rattle.mq_talk.specs.declared.place.Parcel.{Parcel}
-use Rattle.mq_talk.specs.Offices.{Seen, Sees as SeesBook}
+use Rattle.mq_talk.specs.Offices.{Seen, IsSame, Sees as SeesBook}
 use Rattle.mq_machine.specs.State.{Tunnel, Port, Held, Orders, Shared}
 use Rattle.mq_machine.specs.Want.{Want, Nothing, Say, Bind, Ask, Judge, Push, Send, Over, Answer, Replied, want_of}
 use Rattle.mq_machine.specs.Shared.{at_port}
@@ -19,12 +19,14 @@ use Rattle.mq_step.specs.Sights.{Found, filled_port, idle, PortsFit, PortGrows}
 -- ---- what is shared
 
 -- What is shared before and behind a step of this connection: the book goes on from what the office had seen, and it has seen
--- what the step left.
+-- what the step left. No inbox is used.
 pub record Shares (old new : Seen) (boxes : List (List Parcel)) (orders : Orders) (sh after : Shared) : Type 0 where
   pub config : sh.config ≡ old.config
   pub book : SeesBook old sh.book
   pub wrote : new.entries ≡ after.book
+  pub same : IsSame old new
   pub boxes_are : sh.boxes ≡ boxes
+  pub boxes_after : after.boxes ≡ boxes
   pub orders_are : sh.orders ≡ orders
 
 -- the port of a tunnel that opened holds what the outside tells of it

@@ -46,3 +46,9 @@ pub record FaultsFit (old new : Outside) (h : Held) : Type 0 where
 pub record Grows (old new : Outside) (h : Held) : Type 0 where
   pub link : LinkGrows (old.link_counts h.conn.number) (new.link_counts h.conn.number)
   pub ports : All (λ (p : Port). PortGrows (old.port_counts p.tunnel) (new.port_counts p.tunnel)) h.ports
+
+-- what is told of the connection's link and ports stays, and no port was handed back that failed
+pub record StaysTold (old new : Outside) (h : Held) : Type 0 where
+  pub link : new.link h.conn.number ≡ old.link h.conn.number
+  pub ports : All (λ (p : Port). new.port p.tunnel ≡ old.port p.tunnel) h.ports
+  pub faults : new.bind_faults ≡ old.bind_faults

@@ -39,7 +39,7 @@ fn open<L, P: Ports, O: Office>(
     table: &mut PortTable<P>,
     office: &mut O,
 ) -> Result<Stepped, NoMemory>
-    requires known { (s : machine.Held) × IsHeld P.P.most table.old.table held.old s × IsKnown (O.seen office.old) (O.actor office.old) s × (want_of s.conn ≡ Ask call) }
+    requires known { (s : machine.Held) × IsHeld P.P.most table.old.table held.old s × IsKnown (O.seen office.old) (O.seen office.old).actor s × (want_of s.conn ≡ Ask call) }
     requires opens { (tunnel : ℕ) → call ≢ Close tunnel }
     ensures gives { (o n : Outside) → SeesTable P.P.holds P.P.counts (P.faults table.old.ports) table.old.table held.old.ports.items o
         → SeesTable P.P.holds P.P.counts (P.faults table.new.ports) table.new.table held.new.ports.items n
@@ -47,7 +47,8 @@ fn open<L, P: Ports, O: Office>(
         → ActGives o n (O.seen office.old) (O.seen office.new) (IsHeld P.P.most table.new.table held.new) s result }
     ensures rest { held.new ≡ record held.old { conn = held.new.conn; ports = held.new.ports; bound = held.new.bound } }
     ensures stays { IfOk result (λ stepped. stepped ≡ Stepped.Quiet → held.new.ports.items ≡ held.old.ports.items) }
-    ensures actor { O.actor office.new ≡ O.actor office.old }
+    ensures calm { IfOk result (λ stepped. stepped ≡ Stepped.Quiet → (O.seen office.new ≡ O.seen office.old) × (P.faults table.new.ports ≡ P.faults table.old.ports)) }
+    ensures actor { (O.seen office.new).actor ≡ (O.seen office.old).actor }
     ensures others { KeepsOthers held.old held.new table.old.table table.new.table }
     ensures balanced { IsBalanced P.P.place (P.past table.old.ports) table.old.table.slots → IsBalanced P.P.place (P.past table.new.ports) table.new.table.slots }
 {
@@ -70,7 +71,7 @@ fn close<L, P: Ports, O: Office>(
     table: &mut PortTable<P>,
     office: &mut O,
 ) -> Result<Stepped, NoMemory>
-    requires known { (s : machine.Held) × IsHeld P.P.most table.old.table held.old s × IsKnown (O.seen office.old) (O.actor office.old) s × (want_of s.conn ≡ Ask (Close tunnel)) }
+    requires known { (s : machine.Held) × IsHeld P.P.most table.old.table held.old s × IsKnown (O.seen office.old) (O.seen office.old).actor s × (want_of s.conn ≡ Ask (Close tunnel)) }
     ensures gives { (o n : Outside) → SeesTable P.P.holds P.P.counts (P.faults table.old.ports) table.old.table held.old.ports.items o
         → SeesTable P.P.holds P.P.counts (P.faults table.new.ports) table.new.table held.new.ports.items n
         → (s : machine.Held) → IsHeld P.P.most table.old.table held.old s → want_of s.conn ≡ Ask (Close tunnel)
@@ -80,7 +81,8 @@ fn close<L, P: Ports, O: Office>(
         × HandsBack P.P.counts table.old.table held.old.ports.items (P.faults table.old.ports) (P.faults table.new.ports) }
     ensures rest { held.new ≡ record held.old { conn = held.new.conn; ports = held.new.ports } }
     ensures stays { IfOk result (λ stepped. stepped ≡ Stepped.Quiet → held.new.ports.items ≡ held.old.ports.items) }
-    ensures actor { O.actor office.new ≡ O.actor office.old }
+    ensures calm { IfOk result (λ stepped. stepped ≡ Stepped.Quiet → (O.seen office.new ≡ O.seen office.old) × (P.faults table.new.ports ≡ P.faults table.old.ports)) }
+    ensures actor { (O.seen office.new).actor ≡ (O.seen office.old).actor }
     ensures others { KeepsOthers held.old held.new table.old.table table.new.table }
     ensures balanced { IsBalanced P.P.place (P.past table.old.ports) table.old.table.slots → IsBalanced P.P.place (P.past table.new.ports) table.new.table.slots }
 {
@@ -96,7 +98,7 @@ pub fn ask<L, P: Ports, O: Office>(
     table: &mut PortTable<P>,
     office: &mut O,
 ) -> Result<Stepped, NoMemory>
-    requires known { (s : machine.Held) × IsHeld P.P.most table.old.table held.old s × IsKnown (O.seen office.old) (O.actor office.old) s × (want_of s.conn ≡ Ask call) }
+    requires known { (s : machine.Held) × IsHeld P.P.most table.old.table held.old s × IsKnown (O.seen office.old) (O.seen office.old).actor s × (want_of s.conn ≡ Ask call) }
     ensures gives { (o n : Outside) → SeesTable P.P.holds P.P.counts (P.faults table.old.ports) table.old.table held.old.ports.items o
         → SeesTable P.P.holds P.P.counts (P.faults table.new.ports) table.new.table held.new.ports.items n
         → (s : machine.Held) → IsHeld P.P.most table.old.table held.old s → want_of s.conn ≡ Ask call
@@ -106,7 +108,8 @@ pub fn ask<L, P: Ports, O: Office>(
         × HandsBack P.P.counts table.old.table held.old.ports.items (P.faults table.old.ports) (P.faults table.new.ports) }
     ensures rest { held.new ≡ record held.old { conn = held.new.conn; ports = held.new.ports; bound = held.new.bound } }
     ensures stays { IfOk result (λ stepped. stepped ≡ Stepped.Quiet → held.new.ports.items ≡ held.old.ports.items) }
-    ensures actor { O.actor office.new ≡ O.actor office.old }
+    ensures calm { IfOk result (λ stepped. stepped ≡ Stepped.Quiet → (O.seen office.new ≡ O.seen office.old) × (P.faults table.new.ports ≡ P.faults table.old.ports)) }
+    ensures actor { (O.seen office.new).actor ≡ (O.seen office.old).actor }
     ensures others { KeepsOthers held.old held.new table.old.table table.new.table }
     ensures balanced { IsBalanced P.P.place (P.past table.old.ports) table.old.table.slots → IsBalanced P.P.place (P.past table.new.ports) table.new.table.slots }
 {

@@ -1,5 +1,5 @@
 //! A connection receives on the ports of its tunnels.
-ghost use Rattle.std.specs.Prelude.{◌≡◌, ◌∷◌, ℕ, true, slice_get, [], Some};
+ghost use Rattle.std.specs.Prelude.{◌≡◌, ◌∷◌, ℕ, true, slice_get, [], Some, IfOk};
 ghost use Rattle.mq_machine.specs.declared.setup.Setup.{Setup};
 ghost use Rattle.mq_machine.specs.Acting.{Outside};
 ghost use Rattle.mq_machine.specs.State as machine;
@@ -34,7 +34,7 @@ fn receive_at<L: WriteReady, P: Ports, O: Office>(
 ) -> Result<Stepped, NoMemory>
 where
     P::P: ReceiveReady,
-    requires known { (s : machine.Held) × IsHeld P.P.most table.old.table held.old s × IsKnown (O.seen office.old) (O.actor office.old) s × (waits (want_of s.conn) ≡ true) }
+    requires known { (s : machine.Held) × IsHeld P.P.most table.old.table held.old s × IsKnown (O.seen office.old) (O.seen office.old).actor s × (waits (want_of s.conn) ≡ true) }
     requires rooms { HasRooms rooms.old }
     ensures gives { (o n : Outside) → Sees L.holds L.counts P.P.holds P.P.counts (P.faults table.old.ports) table.old.table held.old o
         → Sees L.holds L.counts P.P.holds P.P.counts (P.faults table.new.ports) table.new.table held.new n
@@ -43,7 +43,10 @@ where
         → Gives setup (receive_alone seat.tunnel) ReadsWait o n (O.seen office.old) (O.seen office.new) (IsHeld P.P.most table.new.table held.new) s result }
     ensures rest { held.new ≡ record held.old { conn = held.new.conn; ports = held.new.ports; bound = held.new.bound } }
     ensures rooms { HasRooms rooms.new }
-    ensures actor { O.actor office.new ≡ O.actor office.old }
+    ensures stays { IfOk result (λ stepped. stepped ≡ Stepped.Quiet → held.new.ports.items ≡ held.old.ports.items) }
+    ensures still { IfOk result (λ stepped. stepped ≡ Stepped.Quiet → (s : machine.Held) → IsHeld P.P.most table.old.table held.old s → waits (want_of s.conn) ≡ true → IsHeld P.P.most table.new.table held.new s) }
+    ensures calm { IfOk result (λ stepped. stepped ≡ Stepped.Quiet → (O.seen office.new ≡ O.seen office.old) × (P.faults table.new.ports ≡ P.faults table.old.ports)) }
+    ensures actor { (O.seen office.new).actor ≡ (O.seen office.old).actor }
     ensures others { KeepsOthers held.old held.new table.old.table table.new.table }
     ensures balanced { IsBalanced P.P.place (P.past table.old.ports) table.old.table.slots → IsBalanced P.P.place (P.past table.new.ports) table.new.table.slots }
 {
@@ -70,7 +73,7 @@ pub fn receive<L: WriteReady, P: Ports, O: Office>(
 ) -> Result<Stepped, NoMemory>
 where
     P::P: ReceiveReady,
-    requires known { (s : machine.Held) × IsHeld P.P.most table.old.table held.old s × IsKnown (O.seen office.old) (O.actor office.old) s × (waits (want_of s.conn) ≡ true) }
+    requires known { (s : machine.Held) × IsHeld P.P.most table.old.table held.old s × IsKnown (O.seen office.old) (O.seen office.old).actor s × (waits (want_of s.conn) ≡ true) }
     requires rooms { HasRooms rooms.old }
     ensures gives { (o n : Outside) → Sees L.holds L.counts P.P.holds P.P.counts (P.faults table.old.ports) table.old.table held.old o
         → Sees L.holds L.counts P.P.holds P.P.counts (P.faults table.new.ports) table.new.table held.new n
@@ -78,7 +81,10 @@ where
         → Gives setup receives_of ReadsWait o n (O.seen office.old) (O.seen office.new) (IsHeld P.P.most table.new.table held.new) s result }
     ensures rest { held.new ≡ record held.old { conn = held.new.conn; ports = held.new.ports; bound = held.new.bound } }
     ensures rooms { HasRooms rooms.new }
-    ensures actor { O.actor office.new ≡ O.actor office.old }
+    ensures stays { IfOk result (λ stepped. stepped ≡ Stepped.Quiet → held.new.ports.items ≡ held.old.ports.items) }
+    ensures still { IfOk result (λ stepped. stepped ≡ Stepped.Quiet → (s : machine.Held) → IsHeld P.P.most table.old.table held.old s → waits (want_of s.conn) ≡ true → IsHeld P.P.most table.new.table held.new s) }
+    ensures calm { IfOk result (λ stepped. stepped ≡ Stepped.Quiet → (O.seen office.new ≡ O.seen office.old) × (P.faults table.new.ports ≡ P.faults table.old.ports)) }
+    ensures actor { (O.seen office.new).actor ≡ (O.seen office.old).actor }
     ensures others { KeepsOthers held.old held.new table.old.table table.new.table }
     ensures balanced { IsBalanced P.P.place (P.past table.old.ports) table.old.table.slots → IsBalanced P.P.place (P.past table.new.ports) table.new.table.slots }
 {

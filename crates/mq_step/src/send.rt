@@ -21,6 +21,7 @@ pub fn send<L, P: Ports>(held: &mut Held<L>, tunnel: u32, table: &mut PortTable<
         → (seen : Seen) (s : machine.Held) → IsHeld P.P.most table.old.table held.old s → (k : ℕ) (payload : List ℕ) → want_of s.conn ≡ Send tunnel k payload
         → ActGives o n seen seen (IsHeld P.P.most table.new.table held.new) s (Ok result) }
     ensures rest { held.new ≡ record held.old { conn = held.new.conn } }
+    ensures ports { table.new.ports ≡ table.old.ports }
     ensures others { KeepsOthers held.old held.new table.old.table table.new.table }
     ensures balanced { IsBalanced P.P.place (P.past table.old.ports) table.old.table.slots → IsBalanced P.P.place (P.past table.new.ports) table.new.table.slots }
 {

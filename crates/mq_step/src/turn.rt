@@ -1,5 +1,5 @@
 //! One step of a connection.
-ghost use Rattle.std.specs.Prelude.{◌≡◌, true};
+ghost use Rattle.std.specs.Prelude.{◌≡◌, true, IfOk};
 ghost use Rattle.mq_addr.specs.declared.kind.Kind.TheVariants as kind;
 ghost use Rattle.mq_machine.specs.Acting.{Outside};
 ghost use Rattle.mq_machine.specs.State as machine;
@@ -36,7 +36,7 @@ fn try_read<L: WriteReady, P: Ports, O: Office>(
 ) -> Result<Stepped, NoMemory>
 where
     P::P: ReceiveReady,
-    requires known { (s : machine.Held) × IsHeld P.P.most table.old.table held.old s × IsKnown (O.seen office.old) (O.actor office.old) s × (waits (want_of s.conn) ≡ true) }
+    requires known { (s : machine.Held) × IsHeld P.P.most table.old.table held.old s × IsKnown (O.seen office.old) (O.seen office.old).actor s × (waits (want_of s.conn) ≡ true) }
     requires rooms { HasRooms rooms.old }
     requires udp { setup.now.udp.kind ≡ kind.Udp }
     ensures gives { (o n : Outside) → Sees L.holds L.counts P.P.holds P.P.counts (P.faults table.old.ports) table.old.table held.old o
@@ -45,7 +45,10 @@ where
         → Gives setup.now from_read WritesWait o n (O.seen office.old) (O.seen office.new) (IsHeld P.P.most table.new.table held.new) s result }
     ensures rest { held.new ≡ record held.old { conn = held.new.conn; ports = held.new.ports; bound = held.new.bound; link = held.new.link } }
     ensures rooms { HasRooms rooms.new }
-    ensures actor { O.actor office.new ≡ O.actor office.old }
+    ensures stays { IfOk result (λ stepped. stepped ≡ Stepped.Quiet → held.new.ports.items ≡ held.old.ports.items) }
+    ensures still { IfOk result (λ stepped. stepped ≡ Stepped.Quiet → (s : machine.Held) → IsHeld P.P.most table.old.table held.old s → waits (want_of s.conn) ≡ true → IsHeld P.P.most table.new.table held.new s) }
+    ensures calm { IfOk result (λ stepped. stepped ≡ Stepped.Quiet → (O.seen office.new ≡ O.seen office.old) × (P.faults table.new.ports ≡ P.faults table.old.ports)) }
+    ensures actor { (O.seen office.new).actor ≡ (O.seen office.old).actor }
     ensures others { KeepsOthers held.old held.new table.old.table table.new.table }
     ensures balanced { IsBalanced P.P.place (P.past table.old.ports) table.old.table.slots → IsBalanced P.P.place (P.past table.new.ports) table.new.table.slots }
 {
@@ -67,7 +70,7 @@ fn try_write<L: WriteReady, P: Ports, O: Office>(
 ) -> Result<Stepped, NoMemory>
 where
     P::P: ReceiveReady,
-    requires known { (s : machine.Held) × IsHeld P.P.most table.old.table held.old s × IsKnown (O.seen office.old) (O.actor office.old) s × (waits (want_of s.conn) ≡ true) }
+    requires known { (s : machine.Held) × IsHeld P.P.most table.old.table held.old s × IsKnown (O.seen office.old) (O.seen office.old).actor s × (waits (want_of s.conn) ≡ true) }
     requires rooms { HasRooms rooms.old }
     requires udp { setup.now.udp.kind ≡ kind.Udp }
     ensures gives { (o n : Outside) → Sees L.holds L.counts P.P.holds P.P.counts (P.faults table.old.ports) table.old.table held.old o
@@ -76,7 +79,10 @@ where
         → Gives setup.now from_write SendsWait o n (O.seen office.old) (O.seen office.new) (IsHeld P.P.most table.new.table held.new) s result }
     ensures rest { held.new ≡ record held.old { conn = held.new.conn; ports = held.new.ports; bound = held.new.bound; link = held.new.link } }
     ensures rooms { HasRooms rooms.new }
-    ensures actor { O.actor office.new ≡ O.actor office.old }
+    ensures stays { IfOk result (λ stepped. stepped ≡ Stepped.Quiet → held.new.ports.items ≡ held.old.ports.items) }
+    ensures still { IfOk result (λ stepped. stepped ≡ Stepped.Quiet → (s : machine.Held) → IsHeld P.P.most table.old.table held.old s → waits (want_of s.conn) ≡ true → IsHeld P.P.most table.new.table held.new s) }
+    ensures calm { IfOk result (λ stepped. stepped ≡ Stepped.Quiet → (O.seen office.new ≡ O.seen office.old) × (P.faults table.new.ports ≡ P.faults table.old.ports)) }
+    ensures actor { (O.seen office.new).actor ≡ (O.seen office.old).actor }
     ensures others { KeepsOthers held.old held.new table.old.table table.new.table }
     ensures balanced { IsBalanced P.P.place (P.past table.old.ports) table.old.table.slots → IsBalanced P.P.place (P.past table.new.ports) table.new.table.slots }
 {
@@ -98,7 +104,7 @@ fn try_frame<L: WriteReady, P: Ports, O: Office>(
 ) -> Result<Stepped, NoMemory>
 where
     P::P: ReceiveReady,
-    requires known { (s : machine.Held) × IsHeld P.P.most table.old.table held.old s × IsKnown (O.seen office.old) (O.actor office.old) s × (waits (want_of s.conn) ≡ true) }
+    requires known { (s : machine.Held) × IsHeld P.P.most table.old.table held.old s × IsKnown (O.seen office.old) (O.seen office.old).actor s × (waits (want_of s.conn) ≡ true) }
     requires rooms { HasRooms rooms.old }
     requires udp { setup.now.udp.kind ≡ kind.Udp }
     ensures gives { (o n : Outside) → Sees L.holds L.counts P.P.holds P.P.counts (P.faults table.old.ports) table.old.table held.old o
@@ -107,7 +113,10 @@ where
         → Gives setup.now from_frame SendsWait o n (O.seen office.old) (O.seen office.new) (IsHeld P.P.most table.new.table held.new) s result }
     ensures rest { held.new ≡ record held.old { conn = held.new.conn; ports = held.new.ports; bound = held.new.bound; link = held.new.link } }
     ensures rooms { HasRooms rooms.new }
-    ensures actor { O.actor office.new ≡ O.actor office.old }
+    ensures stays { IfOk result (λ stepped. stepped ≡ Stepped.Quiet → held.new.ports.items ≡ held.old.ports.items) }
+    ensures still { IfOk result (λ stepped. stepped ≡ Stepped.Quiet → (s : machine.Held) → IsHeld P.P.most table.old.table held.old s → waits (want_of s.conn) ≡ true → IsHeld P.P.most table.new.table held.new s) }
+    ensures calm { IfOk result (λ stepped. stepped ≡ Stepped.Quiet → (O.seen office.new ≡ O.seen office.old) × (P.faults table.new.ports ≡ P.faults table.old.ports)) }
+    ensures actor { (O.seen office.new).actor ≡ (O.seen office.old).actor }
     ensures others { KeepsOthers held.old held.new table.old.table table.new.table }
     ensures balanced { IsBalanced P.P.place (P.past table.old.ports) table.old.table.slots → IsBalanced P.P.place (P.past table.new.ports) table.new.table.slots }
 {
@@ -130,7 +139,7 @@ pub fn step<L: WriteReady, P: Ports, O: Office>(
 ) -> Result<Stepped, NoMemory>
 where
     P::P: ReceiveReady,
-    requires known { (s : machine.Held) × IsHeld P.P.most table.old.table held.old s × IsKnown (O.seen office.old) (O.actor office.old) s }
+    requires known { (s : machine.Held) × IsHeld P.P.most table.old.table held.old s × IsKnown (O.seen office.old) (O.seen office.old).actor s }
     requires rooms { HasRooms rooms.old }
     requires udp { setup.now.udp.kind ≡ kind.Udp }
     ensures gives { (o n : Outside) → Sees L.holds L.counts P.P.holds P.P.counts (P.faults table.old.ports) table.old.table held.old o
@@ -139,7 +148,10 @@ where
         → Gives setup.now tries_of Anything o n (O.seen office.old) (O.seen office.new) (IsHeld P.P.most table.new.table held.new) s result }
     ensures rest { held.new ≡ record held.old { conn = held.new.conn; ports = held.new.ports; bound = held.new.bound; link = held.new.link } }
     ensures rooms { HasRooms rooms.new }
-    ensures actor { O.actor office.new ≡ O.actor office.old }
+    ensures stays { IfOk result (λ stepped. stepped ≡ Stepped.Quiet → held.new.ports.items ≡ held.old.ports.items) }
+    ensures still { IfOk result (λ stepped. stepped ≡ Stepped.Quiet → (s : machine.Held) → IsHeld P.P.most table.old.table held.old s → IsHeld P.P.most table.new.table held.new s) }
+    ensures calm { IfOk result (λ stepped. stepped ≡ Stepped.Quiet → (O.seen office.new ≡ O.seen office.old) × (P.faults table.new.ports ≡ P.faults table.old.ports)) }
+    ensures actor { (O.seen office.new).actor ≡ (O.seen office.old).actor }
     ensures others { KeepsOthers held.old held.new table.old.table table.new.table }
     ensures balanced { IsBalanced P.P.place (P.past table.old.ports) table.old.table.slots → IsBalanced P.P.place (P.past table.new.ports) table.new.table.slots }
 {

@@ -29,7 +29,7 @@ fn answer<L, P: Ports, O: Office>(
     table: &mut PortTable<P>,
     office: &mut O,
 ) -> Result<Stepped, NoMemory>
-    requires known { (s : machine.Held) × IsHeld P.P.most table.old.table held.old s × IsKnown (O.seen office.old) (O.actor office.old) s × IsWant want (want_of s.conn) }
+    requires known { (s : machine.Held) × IsHeld P.P.most table.old.table held.old s × IsKnown (O.seen office.old) (O.seen office.old).actor s × IsWant want (want_of s.conn) }
     ensures gives { (o n : Outside) → SeesTable P.P.holds P.P.counts (P.faults table.old.ports) table.old.table held.old.ports.items o
         → SeesTable P.P.holds P.P.counts (P.faults table.new.ports) table.new.table held.new.ports.items n
         → (s : machine.Held) → IsHeld P.P.most table.old.table held.old s → IsWant want (want_of s.conn)
@@ -39,7 +39,8 @@ fn answer<L, P: Ports, O: Office>(
         × HandsBack P.P.counts table.old.table held.old.ports.items (P.faults table.old.ports) (P.faults table.new.ports) }
     ensures rest { held.new ≡ record held.old { conn = held.new.conn; ports = held.new.ports; bound = held.new.bound } }
     ensures stays { IfOk result (λ stepped. stepped ≡ Stepped.Quiet → held.new.ports.items ≡ held.old.ports.items) }
-    ensures actor { O.actor office.new ≡ O.actor office.old }
+    ensures calm { IfOk result (λ stepped. stepped ≡ Stepped.Quiet → (O.seen office.new ≡ O.seen office.old) × (P.faults table.new.ports ≡ P.faults table.old.ports)) }
+    ensures actor { (O.seen office.new).actor ≡ (O.seen office.old).actor }
     ensures others { KeepsOthers held.old held.new table.old.table table.new.table }
     ensures balanced { IsBalanced P.P.place (P.past table.old.ports) table.old.table.slots → IsBalanced P.P.place (P.past table.new.ports) table.new.table.slots }
 {
@@ -71,7 +72,7 @@ pub fn act<L, P: Ports, O: Office>(
     table: &mut PortTable<P>,
     office: &mut O,
 ) -> Result<Stepped, NoMemory>
-    requires known { (s : machine.Held) × IsHeld P.P.most table.old.table held.old s × IsKnown (O.seen office.old) (O.actor office.old) s }
+    requires known { (s : machine.Held) × IsHeld P.P.most table.old.table held.old s × IsKnown (O.seen office.old) (O.seen office.old).actor s }
     ensures gives { (o n : Outside) → SeesTable P.P.holds P.P.counts (P.faults table.old.ports) table.old.table held.old.ports.items o
         → SeesTable P.P.holds P.P.counts (P.faults table.new.ports) table.new.table held.new.ports.items n
         → (s : machine.Held) → IsHeld P.P.most table.old.table held.old s
@@ -81,7 +82,8 @@ pub fn act<L, P: Ports, O: Office>(
         × HandsBack P.P.counts table.old.table held.old.ports.items (P.faults table.old.ports) (P.faults table.new.ports) }
     ensures rest { held.new ≡ record held.old { conn = held.new.conn; ports = held.new.ports; bound = held.new.bound } }
     ensures stays { IfOk result (λ stepped. stepped ≡ Stepped.Quiet → held.new.ports.items ≡ held.old.ports.items) }
-    ensures actor { O.actor office.new ≡ O.actor office.old }
+    ensures calm { IfOk result (λ stepped. stepped ≡ Stepped.Quiet → (O.seen office.new ≡ O.seen office.old) × (P.faults table.new.ports ≡ P.faults table.old.ports)) }
+    ensures actor { (O.seen office.new).actor ≡ (O.seen office.old).actor }
     ensures others { KeepsOthers held.old held.new table.old.table table.new.table }
     ensures balanced { IsBalanced P.P.place (P.past table.old.ports) table.old.table.slots → IsBalanced P.P.place (P.past table.new.ports) table.new.table.slots }
 {

@@ -17,7 +17,7 @@ use Rattle.mq_step.proofs.ask.close.Goals as goal
 pub ask-requires : goal.ask-requires
 ask-requires g c =
     let k = c.requires.known in
-    may_call c.args.held.now.conn (g.O.Office.seen c.args.office.now) (g.O.Office.actor c.args.office.now) k.0 (Close c.args.tunnel) k.1.conn k.2 k.3
+    may_call c.args.held.now.conn (g.O.Office.seen c.args.office.now) (g.O.Office.seen c.args.office.now).actor k.0 (Close c.args.tunnel) k.1.conn k.2 k.3
 
 pub returns-clause-gives : goal.returns-clause-gives
 returns-clause-gives g c = λ o n so sn s held want boxes orders.
@@ -26,7 +26,7 @@ returns-clause-gives g c = λ o n so sn s held want boxes orders.
     let new = c.retire.new.self in
     let seen = g.O.Office.seen c.args.office.now in
     let seen_after = g.O.Office.seen c.ask.new.office in
-    let actor = g.O.Office.actor c.args.office.now in
+    let actor = (g.O.Office.seen c.args.office.now).actor in
     let e = c.in_ok-heard.ensures.gives s.conn held.conn tt want in
     let closes : Closes actor seen seen_after s c.args.tunnel c.in_ok-heard.heard.note e.0 = record { reply_is = e.1.said; replied = e.1.replied; does = e.1.does } in
     let mine : s.conn.actor ≡ actor = same_actor old.conn s.conn k.0.conn held.conn k.1.conn ∙ k.2.actor_is in
@@ -70,7 +70,7 @@ returns-clause-closes g c = λ s held want.
     let table = c.args.table.now.table in
     let seen = g.O.Office.seen c.args.office.now in
     let seen_after = g.O.Office.seen c.ask.new.office in
-    let actor = g.O.Office.actor c.args.office.now in
+    let actor = (g.O.Office.seen c.args.office.now).actor in
     let e = c.in_ok-heard.ensures.gives s.conn held.conn tt want in
     let closes : Closes actor seen seen_after s c.args.tunnel c.in_ok-heard.heard.note e.0 = record { reply_is = e.1.said; replied = e.1.replied; does = e.1.does } in
     let mine : s.conn.actor ≡ actor = same_actor old.conn s.conn k.0.conn held.conn k.1.conn ∙ k.2.actor_is in

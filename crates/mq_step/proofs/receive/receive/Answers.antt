@@ -1,4 +1,4 @@
-use Rattle.std.proofs.Common.{rules, ◌≡◌, ◌⊎◌, inl, inr, ◌<◌, ◌≤◌, true, length, slice_get, Some, Ok, Err, refl, sym, subst, arith}
+use Rattle.std.proofs.Common.{rules, ◌≡◌, ◌⊎◌, inl, inr, ◌<◌, ◌≤◌, true, length, slice_get, Some, Ok, Err, refl, sym, subst, ◌∙◌, arith}
 use Rattle.std.specs.Vec.{vec_len}
 use Rattle.std.proofs.lemmas.Bool.{cases_lt}
 use Rattle.mq_machine.specs.declared.setup.Setup.{Setup}
@@ -13,6 +13,7 @@ use Rattle.mq_step.specs.Holds.{IsHeld, IsKnown, AreCounted, KeepsOthers}
 use Rattle.mq_step.specs.Whole.{Sees}
 use Rattle.mq_step.specs.Gives.{Gives, Waited, ReadsWait, receives_of, receive_alone}
 use Rattle.mq_step.proofs.Passing.{subst_three, at_most_one, none_there, seat_gives, err_gives, none_waited}
+use Rattle.mq_step.proofs.Still.{Still}
 use Rattle.mq_step.proofs.receive.receive.Goals as goal
 
 pub loop-place-init : goal.loop-place-init
@@ -20,6 +21,9 @@ loop-place-init g c = record {
   rooms = c.requires.rooms;
   start = λ is. (refl, refl, refl);
   rest = refl;
+  stays = refl;
+  still = λ s held wait. held;
+  calm = (refl, refl);
   actor = refl;
   others = λ key port at other. (at, other);
   balanced = λ is. is;
@@ -39,7 +43,7 @@ receive_at-requires-clause-known g c =
     let zero : c.loop-place.place ≡ 0 = omega (arith, few_are, len, end, lt) in
     let start = c.loop-place.invariant.start zero in
     subst_three old c.loop-place.held c.args.table.now c.loop-place.table c.args.office.now c.loop-place.office (sym start.0) (sym start.1) (sym start.2)
-    (λ h t f. (x : machine.Held) × IsHeld most t.table h x × IsKnown (g.O.Office.seen f) (g.O.Office.actor f) x × (waits (want_of x.conn) ≡ true)) known
+    (λ h t f. (x : machine.Held) × IsHeld most t.table h x × IsKnown (g.O.Office.seen f) (g.O.Office.seen f).actor x × (waits (want_of x.conn) ≡ true)) known
 
 pub receive_at-requires-clause-rooms : goal.receive_at-requires-clause-rooms
 receive_at-requires-clause-rooms g c = c.loop-place.invariant.rooms
@@ -105,7 +109,7 @@ returns-in_err-stepped-clause-actor g c =
     let after = c.receive_at.new.table in
     let office = c.receive_at.new.office in
     subst_three c.loop-place.held old c.loop-place.table c.args.table.now c.loop-place.office c.args.office.now start.0 start.1 start.2
-    (λ h t f. g.O.Office.actor office ≡ g.O.Office.actor f) c.in_err-stepped.ensures.actor
+    (λ h t f. (g.O.Office.seen office).actor ≡ (g.O.Office.seen f).actor) c.in_err-stepped.ensures.actor
 
 pub returns-in_err-stepped-clause-others : goal.returns-in_err-stepped-clause-others
 returns-in_err-stepped-clause-others g c =
@@ -173,8 +177,11 @@ returns-in_default g c =
       rest = subst_three c.loop-place.held old c.loop-place.table c.args.table.now c.loop-place.office c.args.office.now start.0 start.1 start.2
           (λ h t f. new ≡ record h { conn = new.conn; ports = new.ports; bound = new.bound }) c.in_ok-stepped.ensures.rest;
       rooms = c.in_ok-stepped.ensures.rooms;
+      stays = λ is. absurd (c.in_default.not-Quiet is);
+      still = λ is. absurd (c.in_default.not-Quiet is);
+      calm = λ is. absurd (c.in_default.not-Quiet is);
       actor = subst_three c.loop-place.held old c.loop-place.table c.args.table.now c.loop-place.office c.args.office.now start.0 start.1 start.2
-          (λ h t f. g.O.Office.actor office ≡ g.O.Office.actor f) c.in_ok-stepped.ensures.actor;
+          (λ h t f. (g.O.Office.seen office).actor ≡ (g.O.Office.seen f).actor) c.in_ok-stepped.ensures.actor;
       others = subst_three c.loop-place.held old c.loop-place.table c.args.table.now c.loop-place.office c.args.office.now start.0 start.1 start.2
           (λ h t f. KeepsOthers h new t.table after.table) c.in_ok-stepped.ensures.others;
       balanced = subst_three c.loop-place.held old c.loop-place.table c.args.table.now c.loop-place.office c.args.office.now start.0 start.1 start.2
@@ -207,8 +214,15 @@ loop-place-preserved g c =
       start = λ is. absurd (omega (arith, is));
       rest = subst_three c.loop-place.held old c.loop-place.table c.args.table.now c.loop-place.office c.args.office.now start.0 start.1 start.2
           (λ h t f. new ≡ record h { conn = new.conn; ports = new.ports; bound = new.bound }) c.in_ok-stepped.ensures.rest;
+      stays = subst_three c.loop-place.held old c.loop-place.table c.args.table.now c.loop-place.office c.args.office.now start.0 start.1 start.2
+          (λ h t f. new.ports.items ≡ h.ports.items) (c.in_ok-stepped.ensures.stays c.in-Quiet.is);
+      still = subst_three c.loop-place.held old c.loop-place.table c.args.table.now c.loop-place.office c.args.office.now start.0 start.1 start.2
+          (λ h t f. Still most t.table after.table h new) (c.in_ok-stepped.ensures.still c.in-Quiet.is);
+      calm = subst_three c.loop-place.held old c.loop-place.table c.args.table.now c.loop-place.office c.args.office.now start.0 start.1 start.2
+          (λ h t f. (g.O.Office.seen office ≡ g.O.Office.seen f) × (g.P.Ports.faults after.ports ≡ g.P.Ports.faults t.ports))
+          (c.in_ok-stepped.ensures.calm c.in-Quiet.is);
       actor = subst_three c.loop-place.held old c.loop-place.table c.args.table.now c.loop-place.office c.args.office.now start.0 start.1 start.2
-          (λ h t f. g.O.Office.actor office ≡ g.O.Office.actor f) c.in_ok-stepped.ensures.actor;
+          (λ h t f. (g.O.Office.seen office).actor ≡ (g.O.Office.seen f).actor) c.in_ok-stepped.ensures.actor;
       others = subst_three c.loop-place.held old c.loop-place.table c.args.table.now c.loop-place.office c.args.office.now start.0 start.1 start.2
           (λ h t f. KeepsOthers h new t.table after.table) c.in_ok-stepped.ensures.others;
       balanced = subst_three c.loop-place.held old c.loop-place.table c.args.table.now c.loop-place.office c.args.office.now start.0 start.1 start.2
@@ -240,13 +254,22 @@ returns-clause-gives g c = λ o n so sn s held few wait setup. by_case o n so sn
       subst_three old c.loop-place.held c.args.table.now c.loop-place.table c.args.office.now c.loop-place.office (sym start.0) (sym start.1) (sym start.2)
       (λ h t f. Sees g.L.Link.holds g.L.Link.counts g.P.P.Port.holds g.P.P.Port.counts (g.P.Ports.faults t.ports) t.table h n
       → Waited receives_of o n (g.O.Office.seen c.args.office.now) (g.O.Office.seen f) s × IsHeld most t.table h s)
-      (λ still. (none_waited most g.L.Link.holds g.L.Link.counts table old o n s (g.O.Office.seen c.args.office.now) held none so.of_link still.of_link, held)) sn
+      (λ still. (none_waited most g.L.Link.holds g.L.Link.counts table old o n s (g.O.Office.seen c.args.office.now) held none so.of_link still.of_link (still.of_table.faults_are ∙ sym so.of_table.faults_are), held)) sn
 
 pub returns-clause-rest : goal.returns-clause-rest
 returns-clause-rest g c = c.loop-place.invariant.rest
 
 pub returns-clause-rooms : goal.returns-clause-rooms
 returns-clause-rooms g c = c.loop-place.invariant.rooms
+
+pub returns-clause-stays : goal.returns-clause-stays
+returns-clause-stays g c = λ is. c.loop-place.invariant.stays
+
+pub returns-clause-still : goal.returns-clause-still
+returns-clause-still g c = λ is. c.loop-place.invariant.still
+
+pub returns-clause-calm : goal.returns-clause-calm
+returns-clause-calm g c = λ is. c.loop-place.invariant.calm
 
 pub returns-clause-actor : goal.returns-clause-actor
 returns-clause-actor g c = c.loop-place.invariant.actor

@@ -9,6 +9,7 @@ use Rattle.mq_step.specs.Rooms.{HasRooms}
 use Rattle.mq_step.specs.Holds.{IsHeld, AreCounted, KeepsOthers}
 use Rattle.mq_step.specs.Whole.{Sees}
 use Rattle.mq_step.specs.Gives.{Waited, receives_of}
+use Rattle.mq_step.proofs.Still.{Still}
 use Rattle.mq_step.proofs.receive.receive.Given as goal
 
 -- before the first place nothing has changed; behind it each receive was in vain
@@ -17,7 +18,10 @@ invariant-loop-place g l = record {
   rooms : HasRooms l.rooms;
   start : l.place ≡ 0 → (l.held ≡ l.fn.held) × (l.table ≡ l.fn.table) × (l.office ≡ l.fn.office);
   rest : l.held ≡ record l.fn.held { conn = l.held.conn; ports = l.held.ports; bound = l.held.bound };
-  actor : g.O.Office.actor l.office ≡ g.O.Office.actor l.fn.office;
+  stays : l.held.ports.items ≡ l.fn.held.ports.items;
+  still : Still g.P.P.Port.most l.fn.table.table l.table.table l.fn.held l.held;
+  calm : (g.O.Office.seen l.office ≡ g.O.Office.seen l.fn.office) × (g.P.Ports.faults l.table.ports ≡ g.P.Ports.faults l.fn.table.ports);
+  actor : (g.O.Office.seen l.office).actor ≡ (g.O.Office.seen l.fn.office).actor;
   others : KeepsOthers l.fn.held l.held l.fn.table.table l.table.table;
   balanced : IsBalanced g.P.P.Port.place (g.P.Ports.past l.fn.table.ports) l.fn.table.table.slots → IsBalanced g.P.P.Port.place (g.P.Ports.past l.table.ports) l.table.table.slots;
   waited : 0 < l.place → (o n : Outside)

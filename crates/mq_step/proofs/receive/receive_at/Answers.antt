@@ -17,6 +17,7 @@ use Rattle.mq_step.proofs.Sending.{same_port}
 use Rattle.mq_step.proofs.Receiving.{Live, live, link_stays, copied_at, same_seat, tunnel_is}
 use Rattle.mq_step.proofs.Received.{Behind, behind_of, behind_call, only_set, came, received_waits, waits_stand, received_starves, starved_stands, starved_told, sunk_then, received_left, received_done, received_stands, received_told}
 use Rattle.mq_step.proofs.PortFailing.{failing, failed_left, failing_known, blind, blind_sees, wants_close, failing_stands, failed_done, failed_told, closes_give, starved_gives}
+use Rattle.mq_step.proofs.Still.{Still, closes_still}
 use Rattle.mq_step.proofs.receive.receive_at.Goals as goal
 
 pub returns-in-Waits-clause-gives : goal.returns-in-Waits-clause-gives
@@ -47,9 +48,36 @@ returns-in-Waits-clause-gives g c = λ o n so sn s held few wait setup seat at.
     let seen = g.O.Office.seen c.args.office.now in
     let P : PortSeat → Type 0 = λ y. Waited (receive_alone y.tunnel) o n seen seen s × IsHeld most after mid s in
     subst P (same_seat old.ports.items c.args.place mine seat here at) (
-      received_waits most holds past counts table after old mid o n s mine x b seen r.2.0,
+      received_waits most holds past counts table after old mid o n s mine x b seen r.2.0 (sn.of_table.faults_are ∙ ap g.P.Ports.faults e.ports ∙ sym so.of_table.faults_are),
       waits_stand most holds past counts table after old mid o n s mine x b (ap (λ h. h.ports.items) rest) r.2.1,
     )
+
+pub returns-in-Waits-clause-still : goal.returns-in-Waits-clause-still
+returns-in-Waits-clause-still g c = λ quiet s held wait.
+    let old = c.args.held.now in
+    let table = c.args.table.now.table in
+    let mid = c.receive.new.self in
+    let after = c.receive.new.table.table in
+    let most = g.P.P.Port.most in
+    let holds : g.row.P-P.Denot → Option PortHolds = λ port. None in
+    let past = g.P.P.Port.past in
+    let counts : g.row.P-P.Denot → PortCounts = λ port. no_port_counts in
+    let mine = c.in-Some.seat in
+    let here : slice_get old.ports.items c.args.place ≡ Some mine =
+    ap (λ (xs : List PortSeat). slice_get xs c.args.place) (sym c.deref.ensures.value)
+    ∙ copied_at c.get.result mine c.deref.result.now c.args.place c.in-Some.ensures c.get.ensures.lookup.1 c.get.ensures.lookup.3 in
+    let e = c.in_ok-receive.ensures in
+    let rest = e.rest in
+    let x : Live most holds counts table old blind s mine =
+    live most holds counts table old blind s mine c.args.place held wait (blind_sees table old.ports.items) here in
+    let G : Went → Type 0 = λ w. (now : g.row.P-P.Denot) × (get after mine.key ≡ Some now)
+    × ReceiveGives (receive_calls g.P.P.Port.holds past g.P.P.Port.counts x.is.port now) (IsConn mid.conn) s.conn x.t mine.received (Ok w) in
+    let r = subst G c.in-Waits.is (e.gives s.conn held.conn x.t (tunnel_is most holds counts table old blind s mine x) x.id x.is.port x.is.at) in
+    let kept = e.kept x.is.port x.is.at in
+    let same : kept.0 ≡ r.0 = same_port after mine.key kept.0 r.0 kept.1 r.1 in
+    let limit : most r.0 ≡ most x.is.port = ap most (sym same) ∙ kept.2 in
+    let b = behind_call most holds counts after old mid blind mine x.is.port r.0 r.1 limit (ap (λ h. h.number) rest) (ap (λ h. h.bound) rest) in
+    waits_stand most holds past counts table after old mid blind _ s mine x b (ap (λ h. h.ports.items) rest) r.2.1
 
 pub returns-in_err-receive-clause-gives : goal.returns-in_err-receive-clause-gives
 returns-in_err-receive-clause-gives g c = λ o n so sn s held few wait setup seat at.
@@ -199,9 +227,26 @@ act-requires g c =
       known = (
         failing s x.t,
         failing_stands most holds past counts table after old mid blind s mine x _ b (ap (λ h. h.ports.items) rest) (r.2.1 k.3),
-        failing_known (g.O.Office.seen c.args.office.now) (g.O.Office.actor c.args.office.now) s x.t k.2,
+        failing_known (g.O.Office.seen c.args.office.now) (g.O.Office.seen c.args.office.now).actor s x.t k.2,
       );
     }
+
+pub returns-in-Failed-clause-others : goal.returns-in-Failed-clause-others
+returns-in-Failed-clause-others g c = λ key port at other.
+    let old = c.args.held.now in
+    let table = c.args.table.now.table in
+    let mid = c.receive.new.self in
+    let after = c.receive.new.table.table in
+    let mine = c.in-Some.seat in
+    let here : slice_get old.ports.items c.args.place ≡ Some mine =
+    ap (λ (xs : List PortSeat). slice_get xs c.args.place) (sym c.deref.ensures.value)
+    ∙ copied_at c.get.result mine c.deref.result.now c.args.place c.in-Some.ensures c.get.ensures.lookup.1 c.get.ensures.lookup.3 in
+    let e = c.in_ok-receive.ensures in
+    let rest = e.rest in
+    let items : mid.ports.items ≡ old.ports.items = ap (λ h. h.ports.items) rest in
+    let bound : mid.bound ≡ old.bound = ap (λ h. h.bound) rest in
+    let r = call_others table after old.ports.items mid.ports.items c.args.place key mine port here e.others items at other.seats_are in
+    c.act.ensures.others key port r.0 (record { seats_are = r.1; bound_is = λ is. other.bound_is (sym bound ∙ is) })
 
 pub returns-in-Failed-clause-gives : goal.returns-in-Failed-clause-gives
 returns-in-Failed-clause-gives g c = λ o n so sn s held few wait setup seat at.
@@ -260,3 +305,37 @@ returns-in-Failed-clause-gives g c = λ o n so sn s held few wait setup seat at.
         failed_told most holds past counts table after old mid o s mine x n closed.conn stays ((closed.stands_for (failed_left o s closed.conn).link).number ∙ number),
       ),
     )))
+
+pub returns-in-Failed-clause-still : goal.returns-in-Failed-clause-still
+returns-in-Failed-clause-still g c =
+    let k = c.requires.known in
+    let s = k.0 in
+    let held = k.1 in
+    let old = c.args.held.now in
+    let table = c.args.table.now.table in
+    let mid = c.receive.new.self in
+    let after = c.receive.new.table.table in
+    let most = g.P.P.Port.most in
+    let holds : g.row.P-P.Denot → Option PortHolds = λ port. None in
+    let past = g.P.P.Port.past in
+    let counts : g.row.P-P.Denot → PortCounts = λ port. no_port_counts in
+    let mine = c.in-Some.seat in
+    let here : slice_get old.ports.items c.args.place ≡ Some mine =
+    ap (λ (xs : List PortSeat). slice_get xs c.args.place) (sym c.deref.ensures.value)
+    ∙ copied_at c.get.result mine c.deref.result.now c.args.place c.in-Some.ensures c.get.ensures.lookup.1 c.get.ensures.lookup.3 in
+    let e = c.in_ok-receive.ensures in
+    let rest = e.rest in
+    let x : Live most holds counts table old blind s mine =
+    live most holds counts table old blind s mine c.args.place held k.3 (blind_sees table old.ports.items) here in
+    let G : Went → Type 0 = λ w. (now : g.row.P-P.Denot) × (get after mine.key ≡ Some now)
+    × ReceiveGives (receive_calls g.P.P.Port.holds past g.P.P.Port.counts x.is.port now) (IsConn mid.conn) s.conn x.t mine.received (Ok w) in
+    let r = subst G c.in-Failed.is (e.gives s.conn held.conn x.t (tunnel_is most holds counts table old blind s mine x) x.id x.is.port x.is.at) in
+    let kept = e.kept x.is.port x.is.at in
+    let same : kept.0 ≡ r.0 = same_port after mine.key kept.0 r.0 kept.1 r.1 in
+    let limit : most r.0 ≡ most x.is.port = ap most (sym same) ∙ kept.2 in
+    let b = behind_call most holds counts after old mid blind mine x.is.port r.0 r.1 limit (ap (λ h. h.number) rest) (ap (λ h. h.bound) rest) in
+    let closing = failing s x.t in
+    let stand = failing_stands most holds past counts table after old mid blind s mine x _ b (ap (λ h. h.ports.items) rest) (r.2.1 k.3) in
+    let closes = c.act.ensures.closes closing stand mine.tunnel (wants_close most holds past counts table after old mid blind s mine x) in
+    closes_still (g.O.Office.seen c.args.office.now) (g.O.Office.seen c.act.new.office) (IsHeld most c.act.new.table.table c.act.new.held) closing c.act.result
+    (Still most table c.act.new.table.table old c.act.new.held) closes.0

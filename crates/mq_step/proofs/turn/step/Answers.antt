@@ -7,10 +7,12 @@ use Rattle.mq_step.specs.declared.stepped.Stepped.TheVariants.{Quiet}
 use Rattle.mq_step.specs.Holds.{IsHeld}
 use Rattle.mq_step.specs.Wanted.{ActGives}
 use Rattle.mq_step.specs.Gives.{Anything}
+use Rattle.mq_step.proofs.Others.{keeps_both}
 use Rattle.mq_step.proofs.Trying.{mid}
 use Rattle.mq_step.proofs.Moving.{gives_err}
 use Rattle.mq_step.proofs.Passing.{at_most_one}
 use Rattle.mq_step.proofs.Stepping.{silent, sight_of, sight_sees, want_waits, want_sight, quiet_gives, act_gives, linked, linked_held, known_then}
+use Rattle.mq_step.proofs.Still.{Acts, quiet_stands, still_then}
 use Rattle.mq_step.proofs.turn.step.Goals as goal
 
 pub try_frame-requires-clause-known : goal.try_frame-requires-clause-known
@@ -29,7 +31,7 @@ try_frame-requires-clause-known g c =
     (sight_sees g.P.P.Port.holds g.P.P.Port.counts (g.P.Ports.faults c.act.new.table.ports) c.act.new.table.table new.ports.items silent (subst N (sym stays) few)) k.0 k.1) in (
       k.0,
       gives.1,
-      known_then (g.O.Office.seen c.args.office.now) (g.O.Office.seen c.act.new.office) (g.O.Office.actor c.args.office.now) (g.O.Office.actor c.act.new.office) k.0 k.2 gives.0.seen_is c.act.ensures.actor,
+      known_then (g.O.Office.seen c.args.office.now) (g.O.Office.seen c.act.new.office) (g.O.Office.seen c.args.office.now).actor (g.O.Office.seen c.act.new.office).actor k.0 k.2 gives.0.seen_is c.act.ensures.actor,
       want_waits o m k.0 (g.O.Office.seen c.args.office.now) (g.O.Office.seen c.act.new.office) gives.0,
     )
 
@@ -51,6 +53,32 @@ returns-in-Quiet-clause-gives g c = λ o n so sn s held counted.
     old new o m seen seen_mid s so (ap (λ h. h.number) rest) (ap (λ h. h.link) rest) gives.1 gives.0 sm in
     quiet_gives g.P.P.Port.most c.args.table.now.table old c.args.setup.now o m n seen seen_mid (g.O.Office.seen c.try_frame.new.office) (IsHeld g.P.P.Port.most c.try_frame.new.table.table c.try_frame.new.held) s c.try_frame.result held gives.0
     (c.try_frame.ensures.gives (mid o o.link_counts m.port_counts) n sees sn s gives.1 counted (want_waits o m s seen seen_mid gives.0))
+
+pub returns-in-Quiet-clause-others : goal.returns-in-Quiet-clause-others
+returns-in-Quiet-clause-others g c =
+    keeps_both c.args.held.now c.act.new.held c.try_frame.new.held c.args.table.now.table c.act.new.table.table c.try_frame.new.table.table c.act.ensures.others
+    c.try_frame.ensures.others
+
+pub returns-in-Quiet-clause-still : goal.returns-in-Quiet-clause-still
+returns-in-Quiet-clause-still g c =
+    let old = c.args.held.now in
+    let new = c.act.new.held in
+    let most = g.P.P.Port.most in
+    let holds = g.P.P.Port.holds in
+    let counts = g.P.P.Port.counts in
+    let seen = g.O.Office.seen c.args.office.now in
+    let seen_mid = g.O.Office.seen c.act.new.office in
+    let table = c.args.table.now in
+    let between = c.act.new.table in
+    let faults = g.P.Ports.faults table.ports in
+    let faults_mid = g.P.Ports.faults between.ports in
+    let e = c.in_ok-stepped.ensures in
+    still_then most table.table between.table c.try_frame.new.table.table old new c.try_frame.new.held c.try_frame.result
+    (λ s held.
+    let A : Stepped → Type 0 = λ r. Acts most holds counts faults faults_mid table.table between.table old new seen seen_mid s (Ok r) in
+    quiet_stands most holds counts faults faults_mid table.table between.table old new seen seen_mid s held (e.stays c.in-Quiet.is)
+    (subst A c.in-Quiet.is (λ o n so sn. e.gives o n so sn s held)))
+    c.try_frame.ensures.still
 
 pub returns-in_err-stepped-clause-gives : goal.returns-in_err-stepped-clause-gives
 returns-in_err-stepped-clause-gives g c = λ o n so sn s held counted.
@@ -74,6 +102,9 @@ returns-in_default g c = record {
       (c.in_ok-stepped.ensures.gives o n so.of_table sn.of_table (linked o s) (linked_held g.P.P.Port.most c.args.table.now.table old o s held));
   rest = search rules;
   rooms = search rules;
+  stays = λ is. absurd (c.in_default.not-Quiet is);
+  still = λ is. absurd (c.in_default.not-Quiet is);
+  calm = λ is. absurd (c.in_default.not-Quiet is);
   actor = search rules;
   others = search rules;
   balanced = search rules;

@@ -1,12 +1,15 @@
 use Rattle.std.proofs.Common.{Option, Ok, ap, subst}
 use Rattle.mq_talk.specs.declared.note.Note.{Note}
+use Rattle.mq_machine.specs.State as machine
 use Rattle.mq_conn.specs.Conns.{IsConn}
 use Rattle.mq_held.specs.Frames.{FrameGives}
 use Rattle.mq_step.specs.Holds.{IsHeld}
 use Rattle.mq_step.specs.Wanted.{SendsWait}
 use Rattle.mq_step.specs.Gives.{from_frame}
+use Rattle.mq_step.proofs.Others.{keeps_from}
 use Rattle.mq_step.proofs.Moving.{Moves, moved_held, gives_err}
 use Rattle.mq_step.proofs.Stepping.{link_rest, same_sight, frame_starves, framed_gives, frame_waits}
+use Rattle.mq_step.proofs.Still.{Still, still_from}
 use Rattle.mq_step.proofs.turn.try_frame.Goals as goal
 
 pub returns-in_err-note-clause-gives : goal.returns-in_err-note-clause-gives
@@ -41,3 +44,22 @@ returns-in-None-clause-gives g c = λ o n so sn s held counted wait.
     frame_waits c.args.setup.now o n (g.O.Office.seen c.args.office.now) (g.O.Office.seen c.try_write.new.office) (IsHeld g.P.P.Port.most c.try_write.new.table.table c.try_write.new.held) s c.try_write.result none.0
     (c.try_write.ensures.gives o n (same_sight g.L.Link.holds g.L.Link.counts g.P.P.Port.holds g.P.P.Port.counts (g.P.Ports.faults c.args.table.now.ports) c.args.table.now.table old new o so e.rest) sn s
     (moved_held g.P.P.Port.most c.args.table.now.table old new s held wait (link_rest old new e.rest) none.1) counted wait)
+
+pub returns-in-None-clause-others : goal.returns-in-None-clause-others
+returns-in-None-clause-others g c =
+    let rest = c.in_ok-note.ensures.rest in
+    keeps_from c.args.held.now c.frame.new.self c.try_write.new.held c.args.table.now.table c.try_write.new.table.table
+    (ap (λ h. h.ports.items) rest) (ap (λ h. h.bound) rest) c.try_write.ensures.others
+
+pub returns-in-None-clause-still : goal.returns-in-None-clause-still
+returns-in-None-clause-still g c =
+    let old = c.args.held.now in
+    let new = c.frame.new.self in
+    let most = g.P.P.Port.most in
+    let table = c.args.table.now.table in
+    let e = c.in_ok-note.ensures in
+    let F : machine.Held → Option Note → Type 0 = λ s r. FrameGives (IsConn new.conn) s.conn (Ok r) in
+    let moves : Still most table table old new = λ s held wait.
+    let none = subst (F s) c.in-None.is (e.gives s.conn held.conn) in
+    moved_held most table old new s held wait (link_rest old new e.rest) none.1 in
+    still_from most table c.try_write.new.table.table old new c.try_write.new.held c.try_write.result moves c.try_write.ensures.still

@@ -1,14 +1,17 @@
-use Rattle.std.proofs.Common.{Ok, subst}
+use Rattle.std.proofs.Common.{Ok, ap, subst}
 use Rattle.mq_conn.specs.Conns.{IsConn}
 use Rattle.mq_held.specs.declared.went.Went.{Went}
 use Rattle.mq_held.specs.Links.{calls_of, WriteGives}
 use Rattle.mq_step.specs.Holds.{IsHeld}
 use Rattle.mq_step.specs.Gives.{from_write}
 use Rattle.mq_step.specs.Wanted.{SendsWait}
+use Rattle.mq_step.proofs.Others.{keeps_from}
 use Rattle.mq_step.proofs.Trying.{mid}
 use Rattle.mq_step.proofs.Linking.{write_holds}
 use Rattle.mq_step.proofs.Failing.{fallen}
-use Rattle.mq_step.proofs.Moving.{Moves, moved_held, moved_known, moved_sight, moved_table, gives_err, write_starves, wrote_gives, write_fails_gives, write_waits_gives}
+use Rattle.mq_step.proofs.Moving.{Moves, fallen_held, moved_held, moved_known, moved_sight, moved_table}
+use Rattle.mq_step.proofs.Moving.{gives_err, write_starves, wrote_gives, write_fails_gives, write_waits_gives}
+use Rattle.mq_step.proofs.Still.{Still, still_from, fallen_still}
 use Rattle.mq_step.proofs.turn.try_write.Goals as goal
 
 pub returns-in_err-note-clause-gives : goal.returns-in_err-note-clause-gives
@@ -26,7 +29,7 @@ act-requires g c =
     let k = c.requires.known in
     let W : Went → Type 0 = λ w. WriteGives (calls_of g.L.Link.holds g.L.Link.past g.L.Link.counts c.args.held.now.link c.write.new.self.link) (IsConn c.write.new.self.conn) k.0.conn (Ok w) in
     let gives = subst W c.in-Failed.is (c.in_ok-note.ensures.gives k.0.conn k.1.conn k.1.number) in
-    record { known = moved_known g.P.P.Port.most c.args.table.now.table c.args.held.now c.write.new.self k.0 (g.O.Office.seen c.args.office.now) (g.O.Office.actor c.args.office.now) k.1 k.2 k.3 c.in_ok-note.ensures.rest gives.1 }
+    record { known = moved_known g.P.P.Port.most c.args.table.now.table c.args.held.now c.write.new.self k.0 (g.O.Office.seen c.args.office.now) (g.O.Office.seen c.args.office.now).actor k.1 k.2 k.3 c.in_ok-note.ensures.rest gives.1 }
 
 pub returns-in-Did-clause-gives : goal.returns-in-Did-clause-gives
 returns-in-Did-clause-gives g c = λ o n so sn s held counted wait.
@@ -62,3 +65,46 @@ returns-in-Waits-clause-gives g c = λ o n so sn s held counted wait.
     (IsHeld g.P.P.Port.most c.try_read.new.table.table c.try_read.new.held) c.try_read.result held.number so.of_link gives.0
     (c.try_read.ensures.gives m n (moved_sight g.L.Link.holds g.L.Link.past g.L.Link.counts g.P.P.Port.holds g.P.P.Port.counts (g.P.Ports.faults c.args.table.now.ports) c.args.table.now.table old new o so e.rest (write_holds calls s.conn gives.0)) sn s
     (moved_held g.P.P.Port.most c.args.table.now.table old new s held wait e.rest gives.1) counted wait)
+
+pub returns-in-Failed-clause-others : goal.returns-in-Failed-clause-others
+returns-in-Failed-clause-others g c =
+    let rest = c.in_ok-note.ensures.rest in
+    keeps_from c.args.held.now c.write.new.self c.act.new.held c.args.table.now.table c.act.new.table.table
+    (ap (λ h. h.ports.items) rest) (ap (λ h. h.bound) rest) c.act.ensures.others
+
+pub returns-in-Waits-clause-others : goal.returns-in-Waits-clause-others
+returns-in-Waits-clause-others g c =
+    let rest = c.in_ok-note.ensures.rest in
+    keeps_from c.args.held.now c.write.new.self c.try_read.new.held c.args.table.now.table c.try_read.new.table.table
+    (ap (λ h. h.ports.items) rest) (ap (λ h. h.bound) rest) c.try_read.ensures.others
+
+pub returns-in-Failed-clause-still : goal.returns-in-Failed-clause-still
+returns-in-Failed-clause-still g c =
+    let k = c.requires.known in
+    let s = k.0 in
+    let old = c.args.held.now in
+    let new = c.write.new.self in
+    let fin = c.act.new.held in
+    let most = g.P.P.Port.most in
+    let table = c.args.table.now in
+    let after = c.act.new.table in
+    let e = c.in_ok-note.ensures in
+    let W : Went → Type 0 = λ w. WriteGives (calls_of g.L.Link.holds g.L.Link.past g.L.Link.counts old.link new.link) (IsConn new.conn) s.conn (Ok w) in
+    let gives = subst W c.in-Failed.is (e.gives s.conn k.1.conn k.1.number) in
+    let fell = fallen_held most table.table old new s s.link k.1 k.3 e.rest gives.1 in
+    fallen_still most g.P.P.Port.holds g.P.P.Port.counts (g.P.Ports.faults table.ports) (g.P.Ports.faults after.ports) table.table after.table new fin
+    (g.O.Office.seen c.args.office.now) (g.O.Office.seen c.act.new.office) s c.act.result (Still most table.table after.table old fin) fell c.act.ensures.stays
+    (λ o n so sn. c.act.ensures.gives o n so sn (fallen s s.link) fell)
+
+pub returns-in-Waits-clause-still : goal.returns-in-Waits-clause-still
+returns-in-Waits-clause-still g c =
+    let old = c.args.held.now in
+    let new = c.write.new.self in
+    let most = g.P.P.Port.most in
+    let table = c.args.table.now.table in
+    let e = c.in_ok-note.ensures in
+    let moves : Still most table table old new = λ s held wait.
+    let W : Went → Type 0 = λ w. WriteGives (calls_of g.L.Link.holds g.L.Link.past g.L.Link.counts old.link new.link) (IsConn new.conn) s.conn (Ok w) in
+    let gives = subst W c.in-Waits.is (e.gives s.conn held.conn held.number) in
+    moved_held most table old new s held wait e.rest gives.1 in
+    still_from most table c.try_read.new.table.table old new c.try_read.new.held c.try_read.result moves c.try_read.ensures.still
