@@ -1,0 +1,524 @@
+-- Steps in which no connection acts: a link is accepted, a packet comes through the inbox, an accept is refused memory, or every
+-- seat is passed over.
+use Rattle.std.proofs.Common.{◌≡◌, ◌⊎◌, inl, inr, ℕ, zero, suc, ◌+◌, ◌<◌, ◌≤◌, List, [], ◌∷◌, ◌++◌, map, length, slice_get, slice_set, Option, Some}
+use Rattle.std.proofs.Common.{All, append-nil, refl, sym, ap, subst, ◌∙◌, arith, true, false}
+use Rattle.std.proofs.lemmas.Bool.{cases_lt, lt-ltb}
+use Rattle.std.proofs.lemmas.List.Elements.{All-push}
+use Rattle.mq_addr.specs.declared.kind.Kind.TheVariants as kind
+use Rattle.mq_talk.specs.declared.note.Note.{Note}
+use Rattle.mq_talk.specs.declared.note.Note.TheVariants as note
+use Rattle.mq_talk.specs.declared.place.Parcel.{Parcel}
+use Rattle.mq_talk.specs.Mails.{Boxes, IsTold, PopGives}
+use Rattle.mq_talk.specs.Offices.{Seen}
+use Rattle.mq_machine.specs.State.{Conn, new_conn, new_link, Port, Offer, Held, Worker, Shared}
+use Rattle.mq_machine.specs.Want.{Said}
+use Rattle.mq_machine.specs.Turn.{Seat, Offers, Inbox, most_live, can_act, turn_of, accepted, InboxNext}
+use Rattle.mq_machine.specs.Acting.{Outside, ConnsTold, OffersTold, PortsTold, HasTold, FaultsFit, Known, Meets}
+use Rattle.mq_machine.specs.Acting.{StepDone, StepQuiet, StepSilent}
+use Rattle.mq_conn.specs.Conns.{IsConn}
+use Rattle.mq_held.specs.declared.held.Held.{Held as HeldBy}
+use Rattle.mq_step.specs.Rooms.{HasRooms}
+use Rattle.mq_step.specs.Holds.{IsHeld}
+use Rattle.mq_step.specs.Sights.{idle, idle_port}
+use Rattle.mq_step.proofs.Receiving.{none_faults}
+use Rattle.mq_step.proofs.Standing.{new_stands}
+use Rattle.mq_step.proofs.Wanting.{sees_same}
+use Rattle.mq_actor.specs.declared.offer.Offer.{Offer as OfferBy}
+use Rattle.mq_actor.specs.declared.ring.Ring.{Ring}
+use Rattle.mq_actor.specs.Holds.{AreHeld, AreOffered, AreDistinct, HaveOwnPorts, IsWorker, numbers_of}
+use Rattle.mq_actor.specs.Passing.{Tried, TellsSame, PassedOver}
+use Rattle.mq_actor.specs.Seats.{OffersWait, Accepts, Takes}
+use Rattle.mq_actor.specs.Seen.{Words, Moment, SeesConn, SeesOffer, SeesRing}
+use Rattle.mq_actor.specs.Steps.{sight, AllCounted}
+use Rattle.mq_actor.proofs.Between.{get_append, get_last, at_held, held_length, held_pushed, held_refilled, offered_at, offered_none, sees_at, apart_of}
+use Rattle.mq_actor.proofs.Between.{numbers_passed, stands_passed, told_so_far, over_so_far, offers_so_far, vain_so_far}
+use Rattle.mq_actor.proofs.Cores.{AreApart, cores_of}
+use Rattle.mq_actor.proofs.Going.{udp_tunnels}
+use Rattle.mq_actor.proofs.InRing.{Precedes, at_all, all_at}
+use Rattle.mq_actor.proofs.Lists.{map_get}
+use Rattle.mq_actor.proofs.Others.{set_length, popped_none, AreForUdp, none_for_ip, cores_refilled, cores_pushed, told_refilled, told_pushed}
+use Rattle.mq_actor.proofs.Others.{was_box, boxes_told, relinked, ports_pushed, numbers_moved, offered_first, offered_refilled}
+use Rattle.mq_actor.proofs.Refilled.{refill, refilled, reoffered, refills, conns_told, offers_told, faults_refilled}
+use Rattle.mq_actor.proofs.SoFar.{Vain, SoFar, Covers}
+use Rattle.mq_actor.proofs.Tunnels.{known_same, known_accepted}
+use Rattle.mq_actor.proofs.Turning.{turn_is, before_waited, offers_can, all_waited}
+
+module _ {L Q : Type 0} (words : Words L Q) (r m s : Ring L) (old mid : Moment L Q) (boxes boxes_now : Option Boxes) (count : ℕ)
+    (tried : Tried) (offers_tried inbox_tried : Type 0) (so : SoFar words r m old mid boxes boxes_now count tried offers_tried inbox_tried)
+    (at_conns : mid.conns ≡ m.conns.items) (own : HaveOwnPorts m.conns.items) (rooms : HasRooms m.rooms) (o n : Outside) (sees : SeesRing words old.table old.faults r o)
+    (sees_now : SeesRing words mid.table mid.faults s n) (count_is : count ≡ old.seen.config.workers + 1) (x : Worker)
+    (is : IsWorker words.most old.table r x) (counted : AllCounted x) (known : Known (sight o old.seen boxes) x) where
+  -- the worker with what is told, where nothing was found
+  abbrev now : Worker
+  now = refill o 0 idle x
+
+  apart : AreApart x.conns
+  apart = apart_of words.most old.table r x is
+
+  -- ---- what is seen
+
+  abbrev SeenNow : Type 0
+  SeenNow = (i : ℕ) (g : HeldBy L) → slice_get mid.conns i ≡ Some g → SeesConn words mid.table g n
+
+  seen_with : (more : List (HeldBy L)) → s.conns.items ≡ m.conns.items ++ more → SeenNow
+  seen_with more are i g at =
+      let P : List (HeldBy L) → Type 0 = λ hs. slice_get hs i ≡ Some g in
+      sees_at words mid.table mid.faults s n i g sees_now (subst P (sym are) (get_append m.conns.items more i g (subst P at_conns at)))
+
+  seen_same : s.conns.items ≡ m.conns.items → SeenNow
+  seen_same are = seen_with [] (are ∙ sym (append-nil m.conns.items))
+
+  vain : (k : ℕ) (seat : Seat) → Covers r.next_seat tried offers_tried inbox_tried k seat → SeenNow → Vain o n x so.box k seat
+  vain k seat covers seen =
+      vain_so_far words r m old mid boxes boxes_now count tried offers_tried inbox_tried so o n sees x is counted k seat covers
+      (λ i g at was_tried. seen i g at)
+
+  tells_same : SeenNow → (i : ℕ) (h : Held) → slice_get x.conns i ≡ Some h → TellsSame o n h
+  tells_same seen i h at =
+      told_so_far words r m old mid boxes boxes_now count tried offers_tried inbox_tried so o n sees x is counted i h at (λ g at_g. seen i g at_g)
+
+  told_now : SeenNow → ConnsTold n now.conns
+  told_now seen = conns_told n now.conns (λ i h at. one i h (map_get (refilled o 0 idle) x.conns i h at)) where
+    one : (i : ℕ) (h : Held) → (y : Held) × (slice_get x.conns i ≡ Some y) × (h ≡ refilled o 0 idle y)
+        → IsTold (n.link h.conn.number) h.link × PortsTold n h.ports
+    one i h (y, at, e) =
+        let P : Held → Type 0 = λ z. IsTold (n.link z.conn.number) z.link × PortsTold n z.ports in
+        subst P (sym e) (told_refilled o n 0 y (tells_same seen i y at))
+
+  -- an offered link tells what it told
+  offer_same : s.offered ≡ r.offered → (i : ℕ) (f : Offer) → slice_get x.offered i ≡ Some f → n.link f.number ≡ o.link f.number
+  offer_same same i f at = one (offered_at r.offered.items x.offered i f is.offered at) where
+    one : (g : OfferBy L) × (slice_get r.offered.items i ≡ Some g) × (f.number ≡ g.number) → n.link f.number ≡ o.link f.number
+    one (g, at_g, e) =
+        let P : List (OfferBy L) → Type 0 = λ fs. slice_get fs i ≡ Some g in
+        let after : n.link g.number ≡ words.link g.link =
+        at_all (SeesOffer words n) s.offered.items sees_now.offers i g (subst P (ap (λ q. q.items) (sym same)) at_g) in
+        let before : o.link g.number ≡ words.link g.link = at_all (SeesOffer words o) r.offered.items sees.offers i g at_g in
+        ap n.link e ∙ after ∙ sym before ∙ ap o.link (sym e)
+
+  offers_same : s.offered ≡ r.offered → OffersTold n now.offered
+  offers_same same = offers_told o n x.offered (offer_same same)
+
+  faults : FaultsFit o n now
+  faults = faults_refilled o n 0 idle x (λ h has number. none_faults o n h idle_port refl refl)
+
+  -- ---- what is shared
+
+  abbrev shared : Boxes → Shared
+  shared b = record { config = old.seen.config; book = old.seen.entries; boxes = b; orders = record { bind = false } }
+
+  meets : (after : Option Boxes) (b c : Boxes) → IsTold boxes b → length b ≡ count → IsTold after c
+      → Meets (sight o old.seen boxes) (sight n mid.seen after) (shared b) (shared c)
+  meets after b c told size tells = record {
+    config = refl;
+    book = sees_same old.seen;
+    wrote = ap (λ (z : Seen). z.entries) so.passed.seen;
+    boxes = told;
+    count = size ∙ count_is;
+    boxes_after = tells;
+  }
+
+  sized : (after : Option Boxes) (c : Boxes) → IsTold after c → length c ≡ count
+      → (bs : Boxes) → after ≡ Some bs → length bs ≡ mid.seen.config.workers + 1
+  sized after c tells size bs some =
+      let workers : mid.seen.config.workers ≡ old.seen.config.workers = ap (λ (z : Seen). z.config.workers) so.passed.seen in
+      boxes_told after c count tells size bs some ∙ count_is ∙ ap (λ (k : ℕ). k + 1) (sym workers)
+
+  -- ---- the ring
+
+  held_now : AreHeld words.most mid.table m.conns.items now.conns
+  held_now =
+      let P : List (HeldBy L) → Type 0 = λ hs. AreHeld words.most old.table hs x.conns in
+      let R : List (HeldBy L) → Type 0 = λ hs. AreHeld words.most mid.table hs now.conns in
+      subst R at_conns
+      (held_refilled words.most mid.table o 0 idle mid.conns x.conns
+      (stands_passed words old mid tried x.conns so.passed (subst P (sym so.starts) is.conns)))
+
+  actors_now : All (λ (h : Held). h.conn.actor ≡ x.id) now.conns
+  actors_now = all_at (λ (h : Held). h.conn.actor ≡ x.id) now.conns (λ i h at. one i h (map_get (refilled o 0 idle) x.conns i h at)) where
+    one : (i : ℕ) (h : Held) → (y : Held) × (slice_get x.conns i ≡ Some y) × (h ≡ refilled o 0 idle y) → h.conn.actor ≡ x.id
+    one i h (y, at, e) = ap (λ (z : Held). z.conn.actor) e ∙ at_all (λ (z : Held). z.conn.actor ≡ x.id) x.conns is.actors i y at
+
+  numbers_now : (fs : List (OfferBy L)) → numbers_of m.conns.items fs ≡ numbers_of r.conns.items fs
+  numbers_now fs =
+      let ns : List (HeldBy L) → List ℕ = λ hs. map (λ (h : HeldBy L). h.number) hs in
+      let e : ns m.conns.items ≡ ns r.conns.items = ap ns (sym at_conns) ∙ numbers_passed words old mid tried so.passed ∙ ap ns so.starts in
+      ap (λ (ks : List ℕ). ks ++ map (λ (f : OfferBy L). f.number) fs) e
+
+  size_now : length x.conns ≡ length m.conns.items
+  size_now =
+      let ls : List (HeldBy L) → ℕ = λ hs. length hs in
+      sym (held_length words.most old.table r.conns.items x.conns is.conns) ∙ ap ls (sym so.starts) ∙ sym so.passed.size ∙ ap ls at_conns
+
+  id_now : m.id ≡ x.id
+  id_now = ap (λ (q : Ring L). q.id) so.ring ∙ sym is.id
+
+  setup_now : m.setup ≡ x.setup
+  setup_now = ap (λ (q : Ring L). q.setup) so.ring ∙ sym is.setup
+
+  udp_now : m.setup.udp.kind ≡ kind.Udp
+  udp_now = ap (λ (q : Ring L). q.setup.udp.kind) so.ring ∙ is.udp
+
+  -- the ring stands for it, where it has the connections and offered links of m
+  worker_now : (next : ℕ) → s.id ≡ m.id → s.setup ≡ m.setup → s.offered ≡ r.offered → s.conns.items ≡ m.conns.items → s.rooms ≡ m.rooms
+      → s.next_seat ≡ next → IsWorker words.most mid.table s (record now { next_seat = next })
+  worker_now next id setup offered conns rooms_are next_is =
+      let fs : List (OfferBy L) = r.offered.items in
+      let offers : s.offered.items ≡ fs = ap (λ q. q.items) offered in
+      let O : List (OfferBy L) → Type 0 = λ gs. AreOffered gs now.offered in
+      let C : List (HeldBy L) → Type 0 = λ hs. AreHeld words.most mid.table hs now.conns in
+      let numbers : numbers_of s.conns.items s.offered.items ≡ numbers_of r.conns.items fs =
+      ap (λ (hs : List (HeldBy L)). numbers_of hs s.offered.items) conns ∙ ap (λ (gs : List (OfferBy L)). numbers_of m.conns.items gs) offers
+      ∙ numbers_now fs in
+      record {
+        id = sym id_now ∙ sym id;
+        setup = sym setup_now ∙ sym setup;
+        offered = subst O (sym offers) (offered_refilled o fs x.offered is.offered);
+        conns = subst C (sym conns) held_now;
+        next = sym next_is;
+        actors = actors_now;
+        udp = ap (λ z. z.udp.kind) setup ∙ udp_now;
+        rooms = subst HasRooms (sym rooms_are) rooms;
+        ports = let P : List (HeldBy L) → Type 0 = λ hs. HaveOwnPorts hs in subst P (sym conns) own;
+        numbers = subst AreDistinct (sym numbers) is.numbers;
+      }
+
+  -- and the office knows it
+  known_now : (next : ℕ) (after : Option Boxes) (c : Boxes) → IsTold after c → length c ≡ count
+      → Known (sight n mid.seen after) (record now { next_seat = next })
+  known_now next after c tells size =
+      known_same (sight o old.seen boxes) (sight n mid.seen after) x (record now { next_seat = next }) known refl refl
+      (cores_refilled o 0 idle x.conns) so.passed.seen (sized after c tells size)
+
+  told_all : s.conns.items ≡ m.conns.items → s.offered ≡ r.offered → HasTold n now
+  told_all conns offered = (told_now (seen_same conns), offers_same offered)
+
+  -- ---- every seat was passed over
+
+  -- Every seat was tried in vain: only what links and ports hold may have changed.
+  pub idle_gives : s ≡ m → offers_tried → inbox_tried → ((i number : ℕ) → tried i number)
+      → (t : Worker) × IsWorker words.most mid.table s t × HasTold n t × Known (sight n mid.seen boxes_now) t
+      × StepQuiet (sight o old.seen boxes) (sight n mid.seen boxes_now) x t
+  idle_gives same offers inbox all = (
+    now,
+    worker_now x.next_seat (part (λ q. q.id)) (part (λ q. q.setup)) offered conns (part (λ q. q.rooms))
+        (part (λ q. q.next_seat) ∙ ap (λ (q : Ring L). q.next_seat) so.ring ∙ sym is.next),
+    told_all conns offered,
+    known_now x.next_seat boxes_now so.mail.boxes so.mail.tells so.mail.size,
+    record {
+      box = so.box;
+      was = was_box boxes so.mail.boxes r.id x.id so.box so.mail.told is.id so.mail.at;
+      waited = all_waited o n x so.box apart
+          (offers_so_far words r m old mid boxes boxes_now count tried offers_tried inbox_tried so o n sees x is counted (so.offers offers))
+          (so.inbox inbox) (λ i h at. (over i h at).waited);
+      seen = ap (λ (z : Seen). z.entries) so.passed.seen;
+      outside = record {
+        links = all_at LinkSame x.conns (λ i h at. (tells_same (seen_same conns) i h at).link);
+        ports = all_at PortsSame x.conns (λ i h at. (tells_same (seen_same conns) i h at).ports);
+        offers = all_at OfferSame x.offered (offer_same offered);
+      };
+      boxes = so.mail.boxes;
+      told = so.mail.told;
+      tells = so.mail.tells;
+      refills = (refills o 0 idle x).same;
+    },
+  ) where
+    LinkSame : Held → Type 0
+    LinkSame h = n.link h.conn.number ≡ o.link h.conn.number
+
+    PortsSame : Held → Type 0
+    PortsSame h = All (λ (p : Port). n.port p.tunnel ≡ o.port p.tunnel) h.ports
+
+    OfferSame : Offer → Type 0
+    OfferSame f = n.link f.number ≡ o.link f.number
+
+    part : {A : Type 0} (f : Ring L → A) → f s ≡ f m
+    part f = ap f same
+
+    conns : s.conns.items ≡ m.conns.items
+    conns = ap (λ (q : Ring L). q.conns.items) same
+
+    offered : s.offered ≡ r.offered
+    offered = ap (λ (q : Ring L). q.offered) same ∙ ap (λ (q : Ring L). q.offered) so.ring
+
+    over : (i : ℕ) (h : Held) → slice_get x.conns i ≡ Some h → PassedOver o n h
+    over i h at =
+        over_so_far words r m old mid boxes boxes_now count tried offers_tried inbox_tried so o n sees x is counted i h at
+        (all i h.conn.number) (λ j g at_g was_tried. seen_same conns j g at_g)
+
+  -- ---- an accept was refused memory
+
+  refused_turn : (seen : SeenNow) → Covers r.next_seat tried offers_tried inbox_tried 0 Offers → (OffersWait m → ⊥)
+      → turn_of now so.box ≡ Some Offers
+  refused_turn seen covers may =
+      turn_is o n x so.box 0 idle 0 Offers apart refl (λ i h at same. inr refl)
+      (offers_can o x so.box 0 idle some (by_size (cases_lt (length x.conns) most_live))) (vain 0 Offers covers seen) where
+        some : x.offered ≡ [] → ⊥
+        some none =
+            may (inl (ap (λ (q : Ring L). q.offered.items) so.ring ∙ offered_none r.offered.items x.offered is.offered none))
+
+        by_size : (length x.conns < most_live) ⊎ (most_live ≤ length x.conns) → length x.conns < most_live
+        by_size (inl less) = less
+        by_size (inr full) = let same = size_now in absurd (may (inr (omega (arith, full, same))))
+
+  -- A link could be accepted, and there was no memory for that: it stays offered.
+  pub refused_gives : Covers r.next_seat tried offers_tried inbox_tried 0 Offers → (OffersWait m → ⊥) → s.conns.items ≡ m.conns.items
+      → s ≡ record m { conns = s.conns }
+      → (t : Worker) × IsWorker words.most mid.table s t × HasTold n t × Known (sight n mid.seen boxes_now) t
+      × StepSilent (sight o old.seen boxes) (sight n mid.seen boxes_now) x t
+  refused_gives covers may conns rest = (
+    now,
+    worker_now x.next_seat (ap (λ (q : Ring L). q.id) rest) (ap (λ (q : Ring L). q.setup) rest) offered conns (ap (λ (q : Ring L). q.rooms) rest)
+        (ap (λ (q : Ring L). q.next_seat) rest ∙ ap (λ (q : Ring L). q.next_seat) so.ring ∙ sym is.next),
+    told_all conns offered,
+    known_now x.next_seat boxes_now so.mail.boxes so.mail.tells so.mail.size,
+    record {
+      now = now;
+      box = so.box;
+      answer = Said;
+      sh = shared so.mail.boxes;
+      after = shared so.mail.boxes;
+      reached = record { took = false; asked = false };
+      refills = refills o 0 idle x;
+      was = was_box boxes so.mail.boxes r.id x.id so.box so.mail.told is.id so.mail.at;
+      meets = meets boxes_now so.mail.boxes so.mail.boxes so.mail.told so.mail.size so.mail.tells;
+      starves = record { seat = Offers; turn = refused_turn (seen_same conns) covers may; starves = (refl, refl, refl, refl) };
+    },
+  ) where
+    offered : s.offered ≡ r.offered
+    offered = ap (λ (q : Ring L). q.offered) rest ∙ ap (λ (q : Ring L). q.offered) so.ring
+
+  -- ---- a packet came through the inbox
+
+  udp_now_all : All AreForUdp now.conns
+  udp_now_all = all_at AreForUdp now.conns (λ i h at. one i h (at_held words.most mid.table m.conns.items now.conns i h held_now at)) where
+    one : (i : ℕ) (h : Held) → (g : HeldBy L) × (slice_get m.conns.items i ≡ Some g) × IsHeld words.most mid.table g h → AreForUdp h
+    one i h (g, at, stands) = udp_tunnels g.conn h.conn stands.conn
+
+  not_before : (from : ℕ) → Precedes from 1 Inbox 1 Inbox → ⊥
+  not_before from (inl (le, less)) = omega (arith, le, less)
+  not_before from (inr (inl (late, later, less))) = omega (arith, less)
+  not_before from (inr (inr (early, earlier, less))) = omega (arith, less)
+
+  vain_inbox : (box : List Parcel) → SeenNow → Covers r.next_seat tried offers_tried inbox_tried 1 Inbox → Vain o n x box 1 Inbox
+  vain_inbox box seen covers =
+      let v = vain 1 Inbox covers seen in
+      record { offers = v.offers; inbox = λ before. absurd (not_before x.next_seat before); conns = v.conns }
+
+  -- The parcel in front of the inbox was taken, and dropped, since no tunnel here takes packets. The inbox wasn't tried before.
+  pub taken_gives : (said : Note) (boxes_after : Option Boxes) → boxes_now ≡ boxes → Covers r.next_seat tried offers_tried inbox_tried 1 Inbox
+      → Takes count boxes_now r.id m s said boxes_after
+      → (t : Worker) × IsWorker words.most mid.table s t × HasTold n t × Known (sight n mid.seen boxes_after) t
+      × StepDone (sight o old.seen boxes) (sight n mid.seen boxes_after) x said t
+  taken_gives said boxes_after same covers takes = (
+    became,
+    worker_now 2 (ap (λ (q : Ring L). q.id) takes.rest) (ap (λ (q : Ring L). q.setup) takes.rest) offered conns
+        (ap (λ (q : Ring L). q.rooms) takes.rest) (ap (λ (q : Ring L). q.next_seat) takes.rest),
+    told_all conns offered,
+    known_now 2 boxes_after p.after p.is size,
+    record {
+      now = now;
+      box = box;
+      seat = Inbox;
+      answer = Said;
+      sh = shared p.before;
+      after = shared p.after;
+      refills = refills o 0 idle x;
+      was = was_box boxes p.before r.id x.id box told is.id p.does.1;
+      meets = meets boxes_after p.before p.after told p.size p.is;
+      turn = turn_is o n x box 0 idle 1 Inbox apart refl (λ i h at found. inr refl) can_here vain_here;
+      waited = before_waited o n x box 0 idle 1 Inbox apart refl (λ i h at found. inr refl) can_here vain_here;
+      faults = faults;
+      binds = tt;
+      became = became;
+      next = (refl, takes_out);
+      is = refl;
+    },
+  ) where
+    p : PopGives count boxes_now r.id (Some takes.parcel) boxes_after
+    p = takes.pops
+
+    rest : List Parcel
+    rest = p.does.0
+
+    box : List Parcel
+    box = takes.parcel ∷ rest
+
+    became : Worker
+    became = record now { next_seat = 2 }
+
+    told : IsTold boxes p.before
+    told = let P : Option Boxes → Type 0 = λ bs. IsTold bs p.before in subst P same p.was
+
+    conns : s.conns.items ≡ m.conns.items
+    conns = ap (λ (q : Ring L). q.conns.items) takes.rest
+
+    offered : s.offered ≡ r.offered
+    offered = ap (λ (q : Ring L). q.offered) takes.rest ∙ ap (λ (q : Ring L). q.offered) so.ring
+
+    size : length p.after ≡ count
+    size = ap (λ (b : Boxes). length b) p.does.2 ∙ set_length p.before r.id rest ∙ p.size
+
+    can_here : can_act now box Inbox ≡ true
+    can_here = lt-ltb 0 (length box) (omega arith)
+
+    vain_here : Vain o n x box 1 Inbox
+    vain_here = vain_inbox box (seen_same conns) covers
+
+    takes_out : InboxNext now (shared p.before) said became (shared p.after)
+    takes_out =
+        let P : ℕ → Type 0 = λ k. slice_get p.before k ≡ Some (takes.parcel ∷ rest) in
+        record {
+          parcel = takes.parcel;
+          rest = rest;
+          box = subst P (sym is.id) p.does.1;
+          is = popped_none now takes.parcel (none_for_ip now takes.parcel.to udp_now_all) ∙ ap (λ (k : Note). (k, became)) (sym takes.said_is);
+          after_is = ap shared (p.does.2 ∙ ap (λ (k : ℕ). slice_set p.before k rest) (sym is.id));
+        }
+
+  -- ---- a link was accepted
+
+  -- the first offered link and the others, as the worker has them
+  record First (first : OfferBy L) (others : List (OfferBy L)) : Type 0 where
+    pub f : Offer
+    pub fs : List Offer
+    pub offered : x.offered ≡ f ∷ fs
+    pub number : f.number ≡ first.number
+    pub are : AreOffered others fs
+
+  first_of : (first : OfferBy L) (others : List (OfferBy L)) → m.offered.items ≡ first ∷ others → First first others
+  first_of first others offered =
+      let P : List (OfferBy L) → Type 0 = λ gs. AreOffered gs x.offered in
+      let are : AreOffered (first ∷ others) x.offered = subst P (ap (λ (q : Ring L). q.offered.items) (sym so.ring) ∙ offered) is.offered in
+      let found = offered_first first others x.offered are in
+      record { f = found.0; fs = found.1; offered = found.2; number = found.3; are = found.4 }
+
+  -- The link that was offered first is a connection now.
+  pub accepted_gives : (said : Note) → Covers r.next_seat tried offers_tried inbox_tried 0 Offers → Accepts m s said
+      → (t : Worker) × IsWorker words.most mid.table s t × HasTold n t × Known (sight n mid.seen boxes_now) t
+      × StepDone (sight o old.seen boxes) (sight n mid.seen boxes_now) x said t
+  accepted_gives said covers acc = (
+    became,
+    worker,
+    (told_pushed n now.conns new (told_now seen) offers_told_now.0 tt, offers_told_now.1),
+    known_accepted (sight o old.seen boxes) (sight n mid.seen boxes_now) x became f.number known refl refl cores so.passed.seen
+        (sized boxes_now so.mail.boxes so.mail.tells so.mail.size),
+    record {
+      now = now;
+      box = so.box;
+      seat = Offers;
+      answer = Said;
+      sh = shared so.mail.boxes;
+      after = shared so.mail.boxes;
+      refills = refills o 0 idle x;
+      was = was_box boxes so.mail.boxes r.id x.id so.box so.mail.told is.id so.mail.at;
+      meets = meets boxes_now so.mail.boxes so.mail.boxes so.mail.told so.mail.size so.mail.tells;
+      turn = turn_is o n x so.box 0 idle 0 Offers apart refl (λ i h at same. inr refl) can (vain 0 Offers covers seen);
+      waited = before_waited o n x so.box 0 idle 0 Offers apart refl (λ i h at same. inr refl) can (vain 0 Offers covers seen);
+      faults = faults;
+      binds = tt;
+      became = became;
+      next = (refl, accepts, refl);
+      is = refl;
+    },
+  ) where
+    first : OfferBy L
+    first = acc.first
+
+    others : List (OfferBy L)
+    others = acc.others
+
+    of : First first others
+    of = first_of first others acc.offered
+
+    f : Offer
+    f = of.f
+
+    new : Held
+    new = record { conn = new_conn f.number x.id; link = (reoffered o f).link; ports = [] }
+
+    became : Worker
+    became = record now { offered = map (reoffered o) of.fs; conns = now.conns ++ new ∷ []; next_seat = 1 }
+
+    seen : SeenNow
+    seen = seen_with (acc.held ∷ []) acc.conns
+
+    -- ---- the turn
+
+    can : can_act now so.box Offers ≡ true
+    can =
+        let live = acc.live in
+        let same = size_now in
+        offers_can o x so.box 0 idle (λ none. let e : ◌≡◌ {A = List Offer} [] (f ∷ of.fs) = sym none ∙ of.offered in absurd cc) (omega (arith, live, same))
+
+    says : note.Accepted f.number x.id ≡ said
+    says =
+        ap (λ (k : ℕ). note.Accepted k x.id) of.number ∙ ap (λ (k : ℕ). note.Accepted first.number k) (sym id_now) ∙ sym acc.said_is
+
+    accepts : accepted now now.offered ≡ Some (said, became)
+    accepts =
+        ap (λ (fs : List Offer). accepted now (map (reoffered o) fs)) of.offered ∙ ap (λ (k : Note). Some (k, became)) says
+
+    -- ---- what is told
+
+    links_same : (i : ℕ) (y : Offer) → slice_get (f ∷ of.fs) i ≡ Some y → n.link y.number ≡ o.link y.number
+    links_same zero y at =
+        let e : f ≡ y = cc in
+        let all : r.offered.items ≡ first ∷ others = ap (λ (q : Ring L). q.offered.items) (sym so.ring) ∙ acc.offered in
+        let G : List (OfferBy L) → Type 0 = λ gs. slice_get gs 0 ≡ Some first in
+        let H : List (HeldBy L) → Type 0 = λ hs. slice_get hs (length m.conns.items) ≡ Some acc.held in
+        let held = sees_at words mid.table mid.faults s n (length m.conns.items) acc.held sees_now
+        (subst H (sym acc.conns) (get_last m.conns.items acc.held)) in
+        let before : o.link first.number ≡ words.link first.link = at_all (SeesOffer words o) r.offered.items sees.offers 0 first (subst G (sym all) refl) in
+        let number : y.number ≡ first.number = ap (λ (z : Offer). z.number) (sym e) ∙ of.number in
+        ap n.link (number ∙ sym acc.number) ∙ held.of_link.link_is ∙ ap words.link acc.link ∙ sym before ∙ ap o.link (sym number)
+    links_same (suc i) y at = behind (offered_at others of.fs i y of.are at) where
+      behind : (g : OfferBy L) × (slice_get others i ≡ Some g) × (y.number ≡ g.number) → n.link y.number ≡ o.link y.number
+      behind (g, at_g, e) =
+          let all : r.offered.items ≡ first ∷ others = ap (λ (q : Ring L). q.offered.items) (sym so.ring) ∙ acc.offered in
+          let P : List (OfferBy L) → Type 0 = λ gs. slice_get gs (suc i) ≡ Some g in
+          let R : List (OfferBy L) → Type 0 = λ gs. slice_get gs i ≡ Some g in
+          let before : o.link g.number ≡ words.link g.link = at_all (SeesOffer words o) r.offered.items sees.offers (suc i) g (subst P (sym all) at_g) in
+          let after : n.link g.number ≡ words.link g.link = at_all (SeesOffer words n) s.offered.items sees_now.offers i g (subst R (sym acc.left) at_g) in
+          ap n.link e ∙ after ∙ sym before ∙ ap o.link (sym e)
+
+    offers_told_now : OffersTold n (map (reoffered o) (f ∷ of.fs))
+    offers_told_now = offers_told o n (f ∷ of.fs) links_same
+
+    -- ---- the ring and the office
+
+    cores : cores_of became.conns ≡ cores_of x.conns ++ new_conn f.number x.id ∷ []
+    cores =
+        cores_pushed now.conns new ∙ ap (λ (cs : List Conn). cs ++ new_conn f.number x.id ∷ []) (cores_refilled o 0 idle x.conns)
+
+    stands : IsHeld words.most mid.table acc.held new
+    stands =
+        let A : ℕ → Type 0 = λ k. IsConn acc.held.conn (new_conn k m.id) in
+        let B : ℕ → Type 0 = λ k. IsConn acc.held.conn (new_conn f.number k) in
+        relinked words.most mid.table acc.held (record { conn = new_conn f.number x.id; link = new_link; ports = [] }) (reoffered o f).link
+        (new_stands words.most mid.table acc.held f.number x.id (subst B id_now (subst A (sym of.number) acc.conn)) (acc.number ∙ sym of.number)
+        acc.ports acc.bound)
+
+    worker : IsWorker words.most mid.table s became
+    worker =
+        let O : List (OfferBy L) → Type 0 = λ gs. AreOffered gs (map (reoffered o) of.fs) in
+        let C : List (HeldBy L) → Type 0 = λ hs. AreHeld words.most mid.table hs became.conns in
+        let P : List (HeldBy L) → Type 0 = λ hs. HaveOwnPorts hs in
+        let offers : r.offered.items ≡ first ∷ others = ap (λ (q : Ring L). q.offered.items) (sym so.ring) ∙ acc.offered in
+        let numbers : numbers_of s.conns.items s.offered.items ≡ numbers_of r.conns.items r.offered.items =
+        ap (λ (hs : List (HeldBy L)). numbers_of hs s.offered.items) acc.conns
+        ∙ ap (λ (gs : List (OfferBy L)). numbers_of (m.conns.items ++ acc.held ∷ []) gs) acc.left
+        ∙ numbers_moved m.conns.items acc.held first others acc.number ∙ numbers_now (first ∷ others)
+        ∙ ap (λ (gs : List (OfferBy L)). numbers_of r.conns.items gs) (sym offers) in
+        record {
+          id = sym id_now ∙ ap (λ (q : Ring L). q.id) (sym acc.rest);
+          setup = sym setup_now ∙ ap (λ (q : Ring L). q.setup) (sym acc.rest);
+          offered = subst O (sym acc.left) (offered_refilled o others of.fs of.are);
+          conns = subst C (sym acc.conns) (held_pushed words.most mid.table m.conns.items now.conns acc.held new held_now stands);
+          next = ap (λ (q : Ring L). q.next_seat) (sym acc.rest);
+          actors = All-push (λ (h : Held). h.conn.actor ≡ x.id) now.conns new actors_now refl;
+          udp = ap (λ (q : Ring L). q.setup.udp.kind) acc.rest ∙ udp_now;
+          rooms = subst HasRooms (ap (λ (q : Ring L). q.rooms) (sym acc.rest)) rooms;
+          ports = subst P (sym acc.conns) (ports_pushed m.conns.items acc.held acc.ports acc.bound own);
+          numbers = subst AreDistinct (sym numbers) is.numbers;
+        }

@@ -1,0 +1,36 @@
+pub mod Fronts
+pub mod Books
+pub mod Cores
+pub mod Opened
+pub mod Tunnels
+pub mod Places
+pub mod InRing
+pub mod Lists
+pub mod Going
+mod Searches
+mod Shapes
+mod Beside
+mod Replies
+mod Behind
+mod Ending
+mod Starving
+pub mod Refilled
+pub mod SoFar
+pub mod OwnPorts
+pub mod Passings
+pub mod Pointwise
+pub mod Turning
+pub mod Between
+pub mod Neighbours
+pub mod Lefts
+pub mod Acted
+pub mod Outcomes
+pub mod Turns
+pub mod Passes
+pub mod Stages
+pub mod Kept
+pub mod Calm
+pub mod Others
+pub mod Coming
+pub mod Returning
+pub mod Offering

@@ -1,0 +1,290 @@
+-- What each way out of a worker's step gives.
+use Rattle.std.proofs.Common.{◌≡◌, inl, inr, ℕ, ◌+◌, ◌<◌, Bool, true, false, List, length, slice_get, All, Contains, Option, Some, None, Result, Ok, Err, refl, sym, ap, subst, ◌∙◌, arith}
+use Rattle.std.specs.Prelude.{⊤}
+use Rattle.std.specs.Result.{IsErr}
+use Rattle.std.proofs.lemmas.List.Elements.{All-contains_itself}
+use Rattle.mq_wire.specs.declared.NoMemory.{NoMemory}
+use Rattle.mq_talk.specs.declared.note.Note.{Note}
+use Rattle.mq_talk.specs.Mails.{Boxes, PopGives}
+use Rattle.mq_machine.specs.State.{Held, Tunnel, Worker}
+use Rattle.mq_machine.specs.Acting.{Outside, Known, IsOpen, Steps}
+use Rattle.mq_held.specs.declared.held.Held.{Held as HeldBy}
+use Rattle.mq_step.specs.Rooms.{HasRooms}
+use Rattle.mq_step.specs.Holds.{IsKnown}
+use Rattle.mq_actor.specs.declared.ring.Ring.{Ring}
+use Rattle.mq_actor.specs.Holds.{IsWorker, AreHeld, HaveOwnPorts}
+use Rattle.mq_actor.specs.Passing.{Passed, Stopped, PassGives, AreKnown, is_in_part, InPart}
+use Rattle.mq_actor.specs.Seats.{OffersWait, AcceptGives, Takes, InboxGives}
+use Rattle.mq_actor.specs.Seen.{Words, Moment, SeesRing}
+use Rattle.mq_actor.specs.Steps.{sight, AllCounted}
+use Rattle.mq_actor.proofs.Between.{apart_of}
+use Rattle.mq_actor.proofs.Calm.{idle_gives, refused_gives, taken_gives, accepted_gives}
+use Rattle.mq_actor.proofs.Coming.{Own, own_untried, own_upper, own_lower, so_far, first_passed, lower_passed, all_passed, offers_waited}
+use Rattle.mq_actor.proofs.InRing.{all_at, at_all}
+use Rattle.mq_actor.proofs.Lists.{found_at}
+use Rattle.mq_actor.proofs.Outcomes.{acted_gives}
+use Rattle.mq_actor.proofs.Passings.{known_passed}
+use Rattle.mq_actor.proofs.SoFar.{SoFar}
+use Rattle.mq_actor.proofs.Stages.{Untried, Upper, AllUpper, Lower, AllTried, InUpper, in_one, all_tried, covers_offers, covers_inbox, covers_upper, covers_offers_later, covers_inbox_later, covers_lower}
+
+-- the link of a connection that ended isn't taken: it is dropped
+abbrev pub begun : {L : Type 0} → Ring L → Ring L
+begun self = record self { ended = None }
+
+-- a moment in which these are the connections
+abbrev pub among : {L Q : Type 0} → List (HeldBy L) → Moment L Q → Moment L Q
+among hs m = record m { conns = hs }
+
+module _ {L Q : Type 0} (words : Words L Q) (self : Ring L) (old : Moment L Q) (starts : old.conns ≡ self.conns.items) (boxes : Option Boxes) (count : ℕ)
+    (office : old.seen.actor ≡ self.id) (inboxes : count ≡ old.seen.config.workers + 1) where
+  -- what is promised where the ring is left so
+  abbrev pub Promise : Ring L → Moment L Q → Option Boxes → Result (Option Note) NoMemory → Type 0
+  Promise s new boxes_after result = (o n : Outside) → SeesRing words old.table old.faults self o → SeesRing words new.table new.faults s n
+      → Steps (λ w. IsWorker words.most old.table self w × AllCounted w) (IsWorker words.most new.table s) (sight o old.seen boxes) (sight n new.seen boxes_after) result
+
+  -- whoever says that memory was refused
+  pub err_promise : (s : Ring L) (new : Moment L Q) (boxes_after : Option Boxes) (refused : NoMemory) (result : Result (Option Note) NoMemory) → IsErr result
+      → Promise s new boxes_after (Err refused) → Promise s new boxes_after result
+  err_promise s new boxes_after refused (Ok did) is gives = absurd cc
+  err_promise s new boxes_after refused (Err why) is gives = gives
+
+  worker_begun : (x : Worker) → IsWorker words.most old.table self x → IsWorker words.most old.table (begun self) x
+  worker_begun x is = record {
+    id = is.id;
+    setup = is.setup;
+    offered = is.offered;
+    conns = is.conns;
+    next = is.next;
+    actors = is.actors;
+    udp = is.udp;
+    rooms = is.rooms;
+    ports = is.ports;
+    numbers = is.numbers;
+  }
+
+  sees_begun : (o : Outside) → SeesRing words old.table old.faults self o → SeesRing words old.table old.faults (begun self) o
+  sees_begun o sees = record { conns = sees.conns; offers = sees.offers; ended = tt; faults_are = sees.faults_are }
+
+  own_place : (o : Outside) (x : Worker) → IsWorker words.most old.table self x → Known (sight o old.seen boxes) x → self.id < count
+  own_place o x is known = let lt = known.id in let e = is.id in let f = inboxes in omega (arith, lt, e, f)
+
+  fit : (o : Outside) (x : Worker) → Known (sight o old.seen boxes) x → (bs : Boxes) → boxes ≡ Some bs → length bs ≡ count
+  fit o x known bs e = known.boxes bs e ∙ sym inboxes
+
+  known_all : (o : Outside) (x : Worker) → IsWorker words.most old.table self x → Known (sight o old.seen boxes) x → All (λ (s : Held). IsKnown old.seen old.seen.actor s) x.conns
+  known_all o x is known = all_at (λ (s : Held). IsKnown old.seen old.seen.actor s) x.conns each where
+    each : (i : ℕ) (s : Held) → slice_get x.conns i ≡ Some s → IsKnown old.seen old.seen.actor s
+    each i s at =
+        let A : Held → Type 0 = λ h. h.conn.actor ≡ x.id in
+        let actor = at_all A x.conns is.actors i s at in
+        let lt = known.id in
+        let e = is.id in
+        let f = office in
+        record {
+          worker = omega (arith, lt, e, f);
+          actor_is = actor ∙ is.id ∙ sym office;
+          tunnels = all_at (λ (t : Tunnel). IsOpen old.seen.entries old.seen.actor t.id s.conn.number t.stream t.goal) s.conn.tunnels (λ j t at_t. open_at i s at j t at_t);
+        } where
+          open_at : (i : ℕ) (s : Held) → slice_get x.conns i ≡ Some s → (j : ℕ) (t : Tunnel) → slice_get s.conn.tunnels j ≡ Some t
+              → IsOpen old.seen.entries old.seen.actor t.id s.conn.number t.stream t.goal
+          open_at i s at j t at_t =
+              let W : ℕ → Type 0 = λ k. IsOpen old.seen.entries k t.id s.conn.number t.stream t.goal in
+              let C : Tunnel → Type 0 = λ u. Contains s.conn.tunnels u in
+              subst W (is.id ∙ sym office) ((known.tunnels t.id s.conn.number t.stream t.goal).0 (record {
+                held = s;
+                t = t;
+                at = found_at x.conns i s (apart_of words.most old.table self x is) at;
+                has = at_all C s.conn.tunnels (All-contains_itself s.conn.tunnels) j t at_t;
+                id = refl;
+                on = refl;
+                leads = refl;
+              }))
+
+  -- what the calls of a connection need
+  pub known_conns : (o : Outside) (x : Worker) → IsWorker words.most old.table self x → Known (sight o old.seen boxes) x → AreKnown words old
+  known_conns o x is known =
+      let A : List (HeldBy L) → Type 0 = λ hs. AreHeld words.most old.table hs x.conns in
+      (x.conns, subst A (sym starts) is.conns, known_all o x is known)
+
+  -- ---- the offered links, in the upper part
+
+  pub accept_refused : (s : Ring L) (refused : NoMemory) → AcceptGives true (begun self) s (Err refused) → Promise s old boxes (Err refused)
+  accept_refused s refused gives o n sees later x (is, counted) known =
+      let own = own_untried boxes count self.id (own_place o x is known) (fit o x known) in
+      let so = so_far words (begun self) old boxes count starts (begun self) old boxes Untried ⊥ ⊥ (first_passed words (begun self) old boxes count starts) refl (λ never. absurd never) own in
+      refused_gives words (begun self) (begun self) s old old boxes boxes count Untried ⊥ ⊥ so starts is.ports is.rooms o n (sees_begun o sees) later inboxes x (worker_begun x is) counted known
+      (covers_offers self.next_seat gives.0) gives.1 gives.2 gives.3
+
+  pub accept_did : (s : Ring L) (said : Note) → AcceptGives true (begun self) s (Ok (Some said)) → Promise s old boxes (Ok (Some said))
+  accept_did s said gives o n sees later x (is, counted) known =
+      let own = own_untried boxes count self.id (own_place o x is known) (fit o x known) in
+      let so = so_far words (begun self) old boxes count starts (begun self) old boxes Untried ⊥ ⊥ (first_passed words (begun self) old boxes count starts) refl (λ never. absurd never) own in
+      accepted_gives words (begun self) (begun self) s old old boxes boxes count Untried ⊥ ⊥ so starts is.ports is.rooms o n (sees_begun o sees) later inboxes x (worker_begun x is) counted known
+      said (covers_offers self.next_seat gives.0) gives.1
+
+  -- ---- the inbox there
+
+  pub pop_did : (one s : Ring L) (said : Note) (boxes_after : Option Boxes) (id : ℕ) → id ≡ self.id → AcceptGives true (begun self) one (Ok None)
+      → InboxGives count boxes id true one s (Some said) boxes_after → Promise s old boxes_after (Ok (Some said))
+  pop_did one s said after id mine first gives o n sees later x (is, counted) known =
+      let G : Ring L → Type 0 = λ z. InboxGives count boxes id true z s (Some said) after in
+      let I : ℕ → Type 0 = λ k. Takes count boxes k (begun self) s said after in
+      let gave = subst G first.0 gives in
+      let own = own_untried boxes count self.id (own_place o x is known) (fit o x known) in
+      let so = so_far words (begun self) old boxes count starts (begun self) old boxes Untried (InUpper self.next_seat 0) ⊥ (first_passed words (begun self) old boxes count starts) refl first.1 own in
+      taken_gives words (begun self) (begun self) s old old boxes boxes count Untried (InUpper self.next_seat 0) ⊥ so starts is.ports is.rooms o n (sees_begun o sees) later inboxes x (worker_begun x is)
+      counted known said after refl (covers_inbox self.next_seat gave.0) (subst I mine gave.1)
+
+  -- ---- behind both, in the upper part
+
+  module _ (one two : Ring L) (boxes_one : Option Boxes) (id : ℕ) (mine : id ≡ self.id) (first : AcceptGives true (begun self) one (Ok None))
+      (popped : InboxGives count boxes id true one two None boxes_one) where
+    two_is : two ≡ begun self
+    two_is = popped.0 ∙ first.0
+
+    pops : InUpper self.next_seat 1 → PopGives count boxes self.id None boxes_one
+    pops up =
+        let P : ℕ → Type 0 = λ k. PopGives count boxes k None boxes_one in
+        subst P mine (popped.1 (ap (λ (z : Ring L). is_in_part true z.next_seat 1) first.0 ∙ up))
+
+    same_boxes : is_in_part true self.next_seat 1 ≡ false → boxes_one ≡ boxes
+    same_boxes down = popped.2 (ap (λ (z : Ring L). is_in_part true z.next_seat 1) first.0 ∙ down)
+
+    -- a connection there acted, or was refused memory
+    pub upper_stopped : (s : Ring L) (new : Moment L Q) (result : Result (Option Note) NoMemory) → Stopped words true two s (among two.conns.items old) new result → HaveOwnPorts s.conns.items → HasRooms s.rooms
+        → Promise s new boxes_one result
+    upper_stopped s new result stopped ports rooms o n sees later x (is, counted) known =
+        let S : Ring L → Type 0 = λ z. Stopped words true z s (among z.conns.items old) new result in
+        let O : List (HeldBy L) → Type 0 = λ hs. Stopped words true (begun self) s (among hs old) new result in
+        let st = subst O (sym starts) (subst S two_is stopped) in
+        let own = own_upper boxes count self.id (own_place o x is known) (fit o x known) self.next_seat boxes_one pops same_boxes in
+        let so = so_far words (begun self) old boxes count starts (begun self) st.mid boxes_one (Upper self.next_seat st.place) (InUpper self.next_seat 0) (InUpper self.next_seat 1)
+        st.passed refl first.1 own in
+        acted_gives words true (begun self) (begun self) s old st.mid new boxes boxes_one count (Upper self.next_seat st.place) (InUpper self.next_seat 0) (InUpper self.next_seat 1) st.place result
+        so st.acted st.ports (λ tried. let lt = tried.0 in omega (arith, lt)) (covers_upper self.next_seat st.place st.acted.was.number st.acted.turn) ports rooms inboxes office o n
+        (sees_begun o sees) later x (worker_begun x is) counted known
+
+    -- ---- behind the upper part
+
+    module _ (three : Ring L) (mid : Moment L Q) (at_mid : mid.conns ≡ three.conns.items) (upper : PassGives words true two three (among two.conns.items old) mid (Ok None))
+        (own_ports : HaveOwnPorts three.conns.items) (has_rooms : HasRooms three.rooms) where
+      passed : Passed words old mid (AllUpper self.next_seat)
+      passed =
+          let P : Ring L → Type 0 = λ z. Passed words (among z.conns.items old) mid (λ i number. InPart true z.next_seat number) in
+          let O : List (HeldBy L) → Type 0 = λ hs. Passed words (among hs old) mid (AllUpper self.next_seat) in
+          subst O (sym starts) (subst P two_is upper.0)
+
+      three_is : three ≡ record (begun self) { conns = three.conns; rooms = three.rooms }
+      three_is = upper.1 ∙ ap (λ (z : Ring L). record z { conns = three.conns; rooms = three.rooms }) two_is
+
+      next_is : three.next_seat ≡ self.next_seat
+      next_is = ap (λ (z : Ring L). z.next_seat) three_is
+
+      as_long : length three.conns.items ≡ length self.conns.items
+      as_long = ap (λ (hs : List (HeldBy L)). length hs) (sym at_mid) ∙ passed.size ∙ ap (λ (hs : List (HeldBy L)). length hs) starts
+
+      down_is : (seat : ℕ) (b : Bool) → is_in_part false three.next_seat seat ≡ b → is_in_part false self.next_seat seat ≡ b
+      down_is seat b is = ap (λ (k : ℕ). is_in_part false k seat) (sym next_is) ∙ is
+
+      so_three : (o : Outside) (x : Worker) → IsWorker words.most old.table self x → Known (sight o old.seen boxes) x
+          → SoFar words (begun self) three old mid boxes boxes_one count (AllUpper self.next_seat) (InUpper self.next_seat 0) (InUpper self.next_seat 1)
+      so_three o x is known =
+          so_far words (begun self) old boxes count starts three mid boxes_one (AllUpper self.next_seat) (InUpper self.next_seat 0) (InUpper self.next_seat 1) passed three_is first.1
+          (own_upper boxes count self.id (own_place o x is known) (fit o x known) self.next_seat boxes_one pops same_boxes)
+
+      pub known_later : AreKnown words old → AreKnown words mid
+      known_later k = known_passed words old mid (AllUpper self.next_seat) passed k
+
+      pub accept_refused_later : (s : Ring L) (refused : NoMemory) → AcceptGives false three s (Err refused) → Promise s mid boxes_one (Err refused)
+      accept_refused_later s refused gives o n sees later x (is, counted) known =
+          refused_gives words (begun self) three s old mid boxes boxes_one count (AllUpper self.next_seat) (InUpper self.next_seat 0) (InUpper self.next_seat 1) (so_three o x is known) at_mid
+          own_ports has_rooms o n (sees_begun o sees) later inboxes x (worker_begun x is) counted known (covers_offers_later self.next_seat (down_is 0 true gives.0)) gives.1 gives.2 gives.3
+
+      pub accept_did_later : (s : Ring L) (said : Note) → AcceptGives false three s (Ok (Some said)) → Promise s mid boxes_one (Ok (Some said))
+      accept_did_later s said gives o n sees later x (is, counted) known =
+          accepted_gives words (begun self) three s old mid boxes boxes_one count (AllUpper self.next_seat) (InUpper self.next_seat 0) (InUpper self.next_seat 1) (so_three o x is known) at_mid
+          own_ports has_rooms o n (sees_begun o sees) later inboxes x (worker_begun x is) counted known said (covers_offers_later self.next_seat (down_is 0 true gives.0)) gives.1
+
+      -- ---- behind the offered links there
+
+      module _ (four : Ring L) (second : AcceptGives false three four (Ok None)) where
+        offers_wait : OffersWait (begun self)
+        offers_wait = offers_waited words (begun self) old boxes count starts three three_is as_long first.1
+            (λ down. second.1 (ap (λ (k : ℕ). is_in_part false k 0) next_is ∙ down))
+
+        so_four : (o : Outside) (x : Worker) → IsWorker words.most old.table self x → Known (sight o old.seen boxes) x
+            → SoFar words (begun self) three old mid boxes boxes_one count (AllUpper self.next_seat) ⊤ (InUpper self.next_seat 1)
+        so_four o x is known =
+            so_far words (begun self) old boxes count starts three mid boxes_one (AllUpper self.next_seat) ⊤ (InUpper self.next_seat 1) passed three_is (λ any. offers_wait)
+            (own_upper boxes count self.id (own_place o x is known) (fit o x known) self.next_seat boxes_one pops same_boxes)
+
+        pub pop_did_later : (s : Ring L) (said : Note) (boxes_after : Option Boxes) → InboxGives count boxes_one id false four s (Some said) boxes_after
+            → Promise s mid boxes_after (Ok (Some said))
+        pop_did_later s said after gives o n sees later x (is, counted) known =
+            let G : Ring L → Type 0 = λ z. InboxGives count boxes_one id false z s (Some said) after in
+            let I : ℕ → Type 0 = λ k. Takes count boxes_one k three s said after in
+            let gave = subst G second.0 gives in
+            let down = down_is 1 true gave.0 in
+            taken_gives words (begun self) three s old mid boxes boxes_one count (AllUpper self.next_seat) ⊤ (InUpper self.next_seat 1) (so_four o x is known) at_mid own_ports has_rooms o n
+            (sees_begun o sees) later inboxes x (worker_begun x is) counted known said after (not_upper down) (covers_inbox_later self.next_seat down) (subst I mine gave.1) where
+              not_upper : is_in_part false self.next_seat 1 ≡ true → boxes_one ≡ boxes
+              not_upper down = by_part (is_in_part true self.next_seat 1) refl where
+                by_part : (b : Bool) → is_in_part true self.next_seat 1 ≡ b → boxes_one ≡ boxes
+                by_part true up = absurd (in_one self.next_seat 1 up down)
+                by_part false not = same_boxes not
+
+        -- ---- behind both there
+
+        module _ (five : Ring L) (boxes_two : Option Boxes) (popped_later : InboxGives count boxes_one id false four five None boxes_two) where
+          five_is : five ≡ three
+          five_is = popped_later.0 ∙ second.0
+
+          pops_later : is_in_part false self.next_seat 1 ≡ true → PopGives count boxes_one self.id None boxes_two
+          pops_later down =
+              let P : ℕ → Type 0 = λ k. PopGives count boxes_one k None boxes_two in
+              subst P mine (popped_later.1 (ap (λ (z : Ring L). is_in_part false z.next_seat 1) second.0 ∙ ap (λ (k : ℕ). is_in_part false k 1) next_is ∙ down))
+
+          same_later : is_in_part false self.next_seat 1 ≡ false → boxes_two ≡ boxes_one
+          same_later up = popped_later.2 (ap (λ (z : Ring L). is_in_part false z.next_seat 1) second.0 ∙ ap (λ (k : ℕ). is_in_part false k 1) next_is ∙ up)
+
+          own_five : (o : Outside) (x : Worker) → IsWorker words.most old.table self x → Known (sight o old.seen boxes) x → Own boxes boxes_two count self.id ⊤
+          own_five o x is known =
+              own_lower boxes count self.id (own_place o x is known) (fit o x known) self.next_seat boxes_one boxes_two pops same_boxes pops_later same_later
+
+          pub lower_stopped : (s : Ring L) (new : Moment L Q) (result : Result (Option Note) NoMemory) → Stopped words false five s (among five.conns.items mid) new result → HaveOwnPorts s.conns.items
+              → HasRooms s.rooms → Promise s new boxes_two result
+          lower_stopped s new result stopped ports rooms o n sees later x (is, counted) known =
+              let S : Ring L → Type 0 = λ z. Stopped words false z s (among z.conns.items mid) new result in
+              let O : List (HeldBy L) → Type 0 = λ hs. Stopped words false three s (among hs mid) new result in
+              let st = subst O (sym at_mid) (subst S five_is stopped) in
+              let T : ℕ → Type 0 = λ k. Passed words mid st.mid (λ i number. (i < st.place) × InPart false k number) in
+              let lower = lower_passed words (begun self) old boxes count starts mid st.mid st.place passed (subst T next_is st.passed) in
+              let so = so_far words (begun self) old boxes count starts three st.mid boxes_two (Lower self.next_seat st.place) ⊤ ⊤ lower three_is (λ any. offers_wait) (own_five o x is known) in
+              let turn : InPart false self.next_seat st.acted.was.number = down_is (st.acted.was.number + 2) true st.acted.turn in
+              acted_gives words false (begun self) three s old st.mid new boxes boxes_two count (Lower self.next_seat st.place) ⊤ ⊤ st.place result so st.acted st.ports
+              (λ tried. untried st.place st.acted.was.number turn tried) (covers_lower self.next_seat st.place st.acted.was.number turn) ports rooms inboxes office o n
+              (sees_begun o sees) later x (worker_begun x is) counted known where
+                untried : (k number : ℕ) → InPart false self.next_seat number → Lower self.next_seat k k number → ⊥
+                untried k number down (inl up) = in_one self.next_seat (number + 2) up down
+                untried k number down (inr (lt, also)) = absurd (omega (arith, lt))
+
+          pub nothing_did : (s : Ring L) (new : Moment L Q) → new.conns ≡ s.conns.items → PassGives words false five s (among five.conns.items mid) new (Ok None) → HaveOwnPorts s.conns.items → HasRooms s.rooms
+              → Promise s new boxes_two (Ok None)
+          nothing_did s new at_new gives ports rooms o n sees later x (is, counted) known =
+              let P : Ring L → Type 0 = λ z. Passed words (among z.conns.items mid) new (λ i number. InPart false z.next_seat number) in
+              let O : List (HeldBy L) → Type 0 = λ hs. Passed words (among hs mid) new (λ i number. InPart false three.next_seat number) in
+              let T : ℕ → Type 0 = λ k. Passed words mid new (λ i number. InPart false k number) in
+              let lower = subst O (sym at_mid) (subst P five_is gives.0) in
+              let all = all_passed words (begun self) old boxes count starts mid new passed (subst T next_is lower) in
+              let ring : s ≡ record (begun self) { conns = s.conns; rooms = s.rooms } =
+              gives.1 ∙ ap (λ (z : Ring L). record z { conns = s.conns; rooms = s.rooms }) (five_is ∙ three_is) in
+              let so = so_far words (begun self) old boxes count starts s new boxes_two (AllTried self.next_seat) ⊤ ⊤ all ring (λ any. offers_wait) (own_five o x is known) in
+              idle_gives words (begun self) s s old new boxes boxes_two count (AllTried self.next_seat) ⊤ ⊤ so at_new ports rooms o n (sees_begun o sees) later inboxes x (worker_begun x is) counted known
+              refl tt tt (λ i number. all_tried self.next_seat i number)
+
+          -- whatever the lower part's connections gave
+          pub lower_gives : (s : Ring L) (new : Moment L Q) (result : Result (Option Note) NoMemory) → new.conns ≡ s.conns.items → PassGives words false five s (among five.conns.items mid) new result
+              → HaveOwnPorts s.conns.items → HasRooms s.rooms → Promise s new boxes_two result
+          lower_gives s new (Ok None) at_new gives ports rooms = nothing_did s new at_new gives ports rooms
+          lower_gives s new (Ok (Some said)) at_new gives ports rooms = lower_stopped s new (Ok (Some said)) gives ports rooms
+          lower_gives s new (Err refused) at_new gives ports rooms = lower_stopped s new (Err refused) gives ports rooms

@@ -1,0 +1,86 @@
+//! The turn of a connection.
+ghost use Rattle.std.specs.Prelude.{◌≡◌, ◌<◌};
+ghost use Rattle.std.specs.Vec.{vec_len};
+ghost use Rattle.mq_addr.specs.declared.kind.Kind.TheVariants as kind;
+ghost use Rattle.mq_ports.specs.Tables.{IsBalanced};
+ghost use Rattle.mq_step.specs.Rooms.{HasRooms};
+ghost use Rattle.mq_actor.specs.Holds.{HaveOwnPorts};
+ghost use Rattle.mq_actor.specs.Passing.{AreKnown, TurnsAt, TryGives};
+
+use crate::ring::{Ring, is_in, seat_of};
+use mq_held::{ReceiveReady, WriteReady};
+use mq_outside::Ports;
+use mq_ports::PortTable;
+use mq_step::{Stepped, step};
+use mq_talk::{Note, Office};
+use mq_wire::NoMemory;
+use std::alloc::Global;
+
+impl<L: WriteReady> Ring<L> {
+    /// The connection at a place does the first of its tries that can be done.
+    fn turn_at<P: Ports, O: Office>(
+        &mut self,
+        alloc: Global,
+        place: usize,
+        table: &mut PortTable<P>,
+        office: &mut O,
+    ) -> Result<Stepped, NoMemory>
+    where
+        P::P: ReceiveReady,
+        requires known { AreKnown (record { most = P.P.most; link = L.holds; link_counts = L.counts; port = P.P.holds; port_counts = P.P.counts }) (record { conns = self.old.conns.items; table = table.old.table; faults = P.faults table.old.ports; seen = O.seen office.old }) }
+        requires ports { HaveOwnPorts self.old.conns.items }
+        requires rooms { HasRooms self.old.rooms }
+        requires udp { self.old.setup.udp.kind ≡ kind.Udp }
+        requires place { place < vec_len self.old.conns }
+        ensures turns { TurnsAt (record { most = P.P.most; link = L.holds; link_counts = L.counts; port = P.P.holds; port_counts = P.P.counts }) self.old.setup place (record { conns = self.old.conns.items; table = table.old.table; faults = P.faults table.old.ports; seen = O.seen office.old }) (record { conns = self.new.conns.items; table = table.new.table; faults = P.faults table.new.ports; seen = O.seen office.new }) result }
+        ensures rest { self.new ≡ record self.old { conns = self.new.conns; rooms = self.new.rooms } }
+        ensures ports { HaveOwnPorts self.new.conns.items }
+        ensures rooms { HasRooms self.new.rooms }
+        ensures actor { (O.seen office.new).actor ≡ (O.seen office.old).actor }
+        ensures balanced { IsBalanced P.P.place (P.past table.old.ports) table.old.table.slots → IsBalanced P.P.place (P.past table.new.ports) table.new.table.slots }
+    {
+        let held = &mut self.conns[place];
+        step(alloc, held, &self.setup, &mut self.rooms, table, office)
+    }
+
+    /// The connection at a place has its turn, where its seat is in this part of the ring. Where it does something, the ring
+    /// begins with the seat behind its own from then on. One that is over leaves the ring.
+    pub(crate) fn try_at<P: Ports, O: Office>(
+        &mut self,
+        alloc: Global,
+        place: usize,
+        upper: bool,
+        table: &mut PortTable<P>,
+        office: &mut O,
+    ) -> Result<Option<Note>, NoMemory>
+    where
+        P::P: ReceiveReady,
+        requires known { AreKnown (record { most = P.P.most; link = L.holds; link_counts = L.counts; port = P.P.holds; port_counts = P.P.counts }) (record { conns = self.old.conns.items; table = table.old.table; faults = P.faults table.old.ports; seen = O.seen office.old }) }
+        requires ports { HaveOwnPorts self.old.conns.items }
+        requires rooms { HasRooms self.old.rooms }
+        requires udp { self.old.setup.udp.kind ≡ kind.Udp }
+        requires place { place < vec_len self.old.conns }
+        ensures gives { TryGives (record { most = P.P.most; link = L.holds; link_counts = L.counts; port = P.P.holds; port_counts = P.P.counts }) upper place self.old self.new (record { conns = self.old.conns.items; table = table.old.table; faults = P.faults table.old.ports; seen = O.seen office.old }) (record { conns = self.new.conns.items; table = table.new.table; faults = P.faults table.new.ports; seen = O.seen office.new }) result }
+        ensures ports { HaveOwnPorts self.new.conns.items }
+        ensures rooms { HasRooms self.new.rooms }
+        ensures actor { (O.seen office.new).actor ≡ (O.seen office.old).actor }
+        ensures balanced { IsBalanced P.P.place (P.past table.old.ports) table.old.table.slots → IsBalanced P.P.place (P.past table.new.ports) table.new.table.slots }
+    {
+        let seat = seat_of(self.conns[place].number);
+        if !is_in(seat, self.next_seat, upper) {
+            return Ok(None);
+        }
+        match self.turn_at(alloc, place, table, office)? {
+            Stepped::Quiet => Ok(None),
+            Stepped::Did(note) => {
+                self.next_seat = seat + 1;
+                Ok(Some(note))
+            }
+            Stepped::Ended(note) => {
+                self.next_seat = seat + 1;
+                self.ended = Some(self.conns.remove(place));
+                Ok(Some(note))
+            }
+        }
+    }
+}

@@ -1,0 +1,61 @@
+//! One step of a worker.
+ghost use Rattle.std.specs.Prelude.{◌≡◌, ◌+◌};
+ghost use Rattle.mq_machine.specs.State.{Worker};
+ghost use Rattle.mq_machine.specs.Acting.{Outside, Known, Steps};
+ghost use Rattle.mq_ports.specs.Tables.{IsBalanced};
+ghost use Rattle.mq_actor.specs.Holds.{IsWorker};
+ghost use Rattle.mq_actor.specs.Seen.{SeesRing};
+ghost use Rattle.mq_actor.specs.Steps.{sight, AllCounted};
+
+use crate::ring::Ring;
+use mq_held::{ReceiveReady, WriteReady};
+use mq_outside::Ports;
+use mq_ports::PortTable;
+use mq_talk::{Mail, Note, Office};
+use mq_wire::NoMemory;
+use std::alloc::Global;
+
+impl<L: WriteReady> Ring<L> {
+    /// The first seat that can act acts, in the ring that begins behind the seat that acted last. None where none can. Where
+    /// memory is refused, the connection whose turn it was is ending.
+    pub fn step<P: Ports, O: Office, M: Mail>(
+        &mut self,
+        alloc: Global,
+        table: &mut PortTable<P>,
+        office: &mut O,
+        mail: &mut M,
+    ) -> Result<Option<Note>, NoMemory>
+    where
+        P::P: ReceiveReady,
+        requires known { (o : Outside) × (w : Worker) × IsWorker P.P.most table.old.table self.old w × Known (sight o (O.seen office.old) (M.boxes mail.old)) w }
+        requires office { (O.seen office.old).actor ≡ self.old.id }
+        requires mail { M.actor mail.old ≡ self.old.id }
+        requires inboxes { M.count mail.old ≡ (O.seen office.old).config.workers + 1 }
+        ensures gives { (o n : Outside) → SeesRing (record { most = P.P.most; link = L.holds; link_counts = L.counts; port = P.P.holds; port_counts = P.P.counts }) table.old.table (P.faults table.old.ports) self.old o
+            → SeesRing (record { most = P.P.most; link = L.holds; link_counts = L.counts; port = P.P.holds; port_counts = P.P.counts }) table.new.table (P.faults table.new.ports) self.new n
+            → Steps (λ w. IsWorker P.P.most table.old.table self.old w × AllCounted w) (IsWorker P.P.most table.new.table self.new)
+            (sight o (O.seen office.old) (M.boxes mail.old)) (sight n (O.seen office.new) (M.boxes mail.new)) result }
+        ensures office { (O.seen office.new).actor ≡ (O.seen office.old).actor }
+        ensures mail { M.actor mail.new ≡ M.actor mail.old }
+        ensures inboxes { M.count mail.new ≡ M.count mail.old }
+        ensures balanced { IsBalanced P.P.place (P.past table.old.ports) table.old.table.slots → IsBalanced P.P.place (P.past table.new.ports) table.new.table.slots }
+    {
+        self.ended = None;
+        if let Some(note) = self.accept(alloc, true)? {
+            return Ok(Some(note));
+        }
+        if let Some(note) = self.pop(true, mail) {
+            return Ok(Some(note));
+        }
+        if let Some(note) = self.pass(alloc, true, table, office)? {
+            return Ok(Some(note));
+        }
+        if let Some(note) = self.accept(alloc, false)? {
+            return Ok(Some(note));
+        }
+        if let Some(note) = self.pop(false, mail) {
+            return Ok(Some(note));
+        }
+        self.pass(alloc, false, table, office)
+    }
+}
