@@ -28,7 +28,7 @@ use Rattle.mq_step.specs.Gives.{Turned, Starved, StandsAsTold, Anything}
 use Rattle.mq_machine.specs.Turn.{tries_of}
 use Rattle.mq_actor.specs.declared.offer.Offer.{Offer as OfferBy}
 use Rattle.mq_actor.specs.declared.ring.Ring.{Ring}
-use Rattle.mq_actor.specs.Goes.{Goes}
+use Rattle.mq_actor.specs.Goes.{Goes, shapes_of}
 use Rattle.mq_actor.specs.Holds.{IsWorker, HaveOwnPorts, AreOffered, AreDistinct, numbers_of}
 use Rattle.mq_actor.specs.Passing.{Tried}
 use Rattle.mq_actor.specs.Seen.{Words, Moment, SeesConn, SeesRing}
@@ -50,11 +50,13 @@ use Rattle.mq_actor.proofs.Turning.{FoundAt, turn_is, before_waited, conn_can, h
 
 -- ---- what is found again
 
-mapped_some : (F : Held → Held) (o : Option Held) (t : Held) → Some t ≡ option_map F o → (b : Held) × (o ≡ Some b) × (t ≡ F b)
+-- a connection that became something
+pub mapped_some : (F : Held → Held) (o : Option Held) (t : Held) → Some t ≡ option_map F o → (b : Held) × (o ≡ Some b) × (t ≡ F b)
 mapped_some F None t e = absurd cc
 mapped_some F (Some b) t e = (b, refl, cc)
 
-mapped_none : (F : Held → Held) (o : Option Held) → None ≡ option_map F o → o ≡ None
+-- or nothing
+pub mapped_none : (F : Held → Held) (o : Option Held) → None ≡ option_map F o → o ≡ None
 mapped_none F None e = refl
 mapped_none F (Some b) e = absurd cc
 
@@ -391,7 +393,8 @@ module _ {L Q : Type 0} (words : Words L Q) (r m : Ring L) (old mid new : Moment
       let F : Held → Held = with_prepared n d.answer in
       let N : Option Held → Type 0 = λ z. TryNext x.setup (filled o d.found acting.s) d.sh d.try d.answer said z d.after in
       let next = subst N (mapped_none F d.became d.then) d.next in
-      let goes = try_ends x.setup was.conn (filled o d.found acting.s) d.sh d.after d.try d.answer said acting.stands.conn d.is next in
+      let ends = try_ends x.setup was.conn (filled o d.found acting.s) d.sh d.after d.try d.answer said acting.stands.conn d.is next in
+      let goes : Goes acting.s.conn d.sh [] d.after = inl (record { tunnels_are = ap shapes_of (sym ends.0); book = ends.1 }) in
       let us : List Held = remove (map F (refill o number d.found x).conns) place in
       let pw = pointwise_removed (Fine words.most new.table n x.id) place mid.conns (map F (refill o number d.found x).conns)
       (others_but F d.found (prepared_harmless L words.most new.table n d.answer)) lt_place in

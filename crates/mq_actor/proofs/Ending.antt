@@ -1,5 +1,5 @@
 -- A step with which a connection ends: it has no tunnel then.
-use Rattle.std.proofs.Common.{◌≡◌, ℕ, cond, Bool, true, false, List, [], ◌∷◌, nat_le, Option, Some, None, refl, sym, ap, subst}
+use Rattle.std.proofs.Common.{◌≡◌, ℕ, cond, Bool, true, false, List, [], ◌∷◌, nat_le, Option, Some, None, refl, sym, ap, subst, ◌∙◌}
 use Rattle.mq_capsule.specs.Writing.{datagram}
 use Rattle.mq_talk.specs.declared.book.Call.TheVariants as call
 use Rattle.mq_talk.specs.declared.note.End.{End}
@@ -18,9 +18,7 @@ use Rattle.mq_machine.specs.Done.{done}
 use Rattle.mq_machine.specs.Shared.{Answers, at_port}
 use Rattle.mq_machine.specs.Steps.{wrote, finished, failed, received, port_failed, port_received}
 use Rattle.mq_machine.specs.Turn.{ActNext, WriteNext, ReadNext, ReceiveNext, PortNext, TakesNext, over_or, received_from, receive_failed, write_count}
-use Rattle.mq_actor.specs.Goes.{shapes_of, Goes}
 use Rattle.mq_actor.proofs.Searches.{Same}
-use Rattle.mq_actor.proofs.Replies.{stays_with, goes_before}
 use Rattle.mq_actor.proofs.Behind.{ported, unmapped, conn_stays}
 
 -- ---- its want
@@ -75,14 +73,18 @@ bare_by : (s : Conn) (e : Option End) (why : End) → want_by s e ≡ Over why �
 bare_by s None why w = absurd (due_not_over s s.due why w)
 bare_by s (Some e) why w = ending_bare s e why s.tunnels w
 
+-- a connection without tunnels ended, and nothing was written
+abbrev pub Ends : Conn → Shared → Shared → Type 0
+Ends s sh after = (s.tunnels ≡ []) × (after.book ≡ sh.book)
+
 -- what was wanted was the end
-pub act_ends : (old : Held) (sh after : Shared) (answer : Answer) (said : Note) → ActNext old sh answer said None after → Goes old.conn sh [] after
+pub act_ends : (old : Held) (sh after : Shared) (answer : Answer) (said : Note) → ActNext old sh answer said None after → Ends old.conn sh after
 act_ends old sh after answer said next =
     let over = ended_over old (want_of old.conn) answer said next.is in
     let A : Want → Type 0 = λ w. Answers old.conn.actor sh w answer after in
     let after_is : after ≡ sh = over_answers old.conn.actor sh after over.0 answer (subst A over.1 next.answers) in
     let bare : old.conn.tunnels ≡ [] = bare_by old.conn old.conn.ending over.0 over.1 in
-    stays_with old.conn sh [] after (ap shapes_of (sym bare)) after_is
+    (bare, ap (λ (x : Shared). x.book) after_is)
 
 -- ---- failures
 
@@ -96,14 +98,15 @@ port_same s t = record { number = refl; actor = refl; tunnels = refl; next = ref
 
 -- it ends where its link or its port failed
 ends_before : (s x : Conn) (h : Held) (sh after : Shared) (answer : Answer) (said : Note) → Same s x → ActNext (record h { conn = x }) sh answer said None after
-    → Goes s sh [] after
-ends_before s x h sh after answer said same next = goes_before s x sh [] after same (act_ends (record h { conn = x }) sh after answer said next)
+    → Ends s sh after
+ends_before s x h sh after answer said same next =
+    let e = act_ends (record h { conn = x }) sh after answer said next in (sym same.tunnels ∙ e.0, e.1)
 
 -- ---- writes, reads and receives
 
 -- with a write it ends only where its link failed
 pub write_ends : (old : Held) (sh after : Shared) (fails : Bool) (answer : Answer) (said : Note) → WriteNext fails old sh answer said None after
-    → Goes old.conn sh [] after
+    → Ends old.conn sh after
 write_ends old sh after true answer said next =
     ends_before old.conn (failed old.conn) (record old { link = record old.link { write_fails = false } }) sh after answer said (failed_same old.conn) next
 write_ends old sh after false answer said next =
@@ -116,7 +119,7 @@ takes_on setup old (first ∷ others) said next = let none = next.new_is in cc
 
 -- and so with a read
 pub read_ends : (setup : Setup) (old : Held) (sh after : Shared) (fails : Bool) (answer : Answer) (said : Note)
-    → ReadNext fails setup old sh answer said None after → Goes old.conn sh [] after
+    → ReadNext fails setup old sh answer said None after → Ends old.conn sh after
 read_ends setup old sh after true answer said next =
     ends_before old.conn (failed old.conn) (record old { link = record old.link { read_fails = false } }) sh after answer said (failed_same old.conn) next
 read_ends setup old sh after false answer said next = absurd (takes_on setup old old.link.pieces said next.1)
@@ -127,17 +130,17 @@ receive_on old p (datagram ∷ others) n is = unmapped (record old { ports = at_
 
 receive_fails_ends : (old : Held) (sh after : Shared) (p : Port) (o : Option Tunnel) (answer : Answer) (said : Note)
     → ActNext (receive_failed old p o) sh answer said None after
-    → Goes old.conn sh [] after
+    → Ends old.conn sh after
 receive_fails_ends old sh after p None answer said next = act_ends old sh after answer said next
 receive_fails_ends old sh after p (Some t) answer said next = ends_before old.conn (port_failed old.conn t) old sh after answer said (port_same old.conn t) next
 
 port_next_ends : (old : Held) (sh after : Shared) (p : Port) (fails : Bool) (answer : Answer) (said : Note) → PortNext fails old p sh answer said None after
-    → Goes old.conn sh [] after
+    → Ends old.conn sh after
 port_next_ends old sh after p true answer said next = receive_fails_ends old sh after p (tunnel_of old.conn p.tunnel) answer said next
 port_next_ends old sh after p false answer said next = absurd (receive_on old p p.arrived said next.is)
 
 -- and with a receive only where its port failed
 pub receive_ends : (old : Held) (sh after : Shared) (o : Option Port) (answer : Answer) (said : Note) → ReceiveNext o old sh answer said None after
-    → Goes old.conn sh [] after
+    → Ends old.conn sh after
 receive_ends old sh after None answer said next = absurd next
 receive_ends old sh after (Some p) answer said next = port_next_ends old sh after p p.receive_fails answer said next

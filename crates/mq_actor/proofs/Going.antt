@@ -43,7 +43,7 @@ use Rattle.mq_actor.proofs.Beside.{framed_leaves, framed_has, wrote_leaves, fini
 use Rattle.mq_actor.proofs.Shapes.{find_only}
 use Rattle.mq_actor.proofs.Replies.{stays_with, opens_with, closes_with, goes_before, asked_close, Opened, Full, asked_open}
 use Rattle.mq_actor.proofs.Behind.{mapped, unmapped, Acted, acted_done, conn_of}
-use Rattle.mq_actor.proofs.Ending.{act_ends, failed_same, port_same, write_ends, read_ends, receive_ends}
+use Rattle.mq_actor.proofs.Ending.{Ends, act_ends, failed_same, port_same, write_ends, read_ends, receive_ends}
 use Rattle.mq_actor.proofs.Starving.{want_heard}
 
 -- What a step leaves of a connection, and what it did to its tunnels and to the book.
@@ -350,7 +350,7 @@ try_leaves setup c d old sh after (Receive tunnel) answer said new conn left is 
 -- with which the connection ended
 pub try_ends : (setup : Setup) (c : Core) (old : Held) (sh after : Shared) (try : Try) (answer : Answer) (said : Note)
     → IsConn c old.conn → first_of tries_of old ≡ Some try → TryNext setup old sh try answer said None after
-    → Goes old.conn sh [] after
+    → Ends old.conn sh after
 try_ends setup c old sh after Act answer said conn is next = act_ends old sh after answer said next
 try_ends setup c old sh after Frame answer said conn is next = absurd (unmapped old (framed old.conn) said next.is)
 try_ends setup c old sh after Write answer said conn is next = write_ends old sh after old.link.write_fails answer said next

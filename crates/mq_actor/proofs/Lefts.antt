@@ -1,5 +1,5 @@
 -- The ring behind a step in which the connection at a place became another, or ended.
-use Rattle.std.proofs.Common.{◌≡◌, ◌⊎◌, inl, inr, ℕ, zero, suc, ◌<◌, ◌≤◌, List, [], ◌∷◌, ◌++◌, length, map, remove, All, slice_get, slice_set, Some, refl, sym, ap, subst, ◌∙◌, arith}
+use Rattle.std.proofs.Common.{◌≡◌, ◌≢◌, ◌⊎◌, inl, inr, ℕ, zero, suc, ◌<◌, ◌≤◌, List, [], ◌∷◌, ◌++◌, length, map, remove, All, slice_get, slice_set, Option, Some, refl, sym, ap, subst, ◌∙◌, arith}
 use Rattle.std.proofs.lemmas.Bool.{cases_eq}
 use Rattle.slab.specs.Slab.{Slab}
 use Rattle.mq_machine.specs.State.{Held}
@@ -7,9 +7,9 @@ use Rattle.mq_machine.specs.Acting.{Outside, ConnsTold}
 use Rattle.mq_held.specs.declared.held.Held.{Held as HeldBy}
 use Rattle.mq_actor.specs.declared.offer.Offer.{Offer as OfferBy}
 use Rattle.mq_actor.specs.Holds.{AreHeld, AreDistinct, numbers_of}
-use Rattle.mq_actor.proofs.Between.{held_from, numbers_same}
+use Rattle.mq_actor.proofs.Between.{held_from, numbers_same, get_append}
 use Rattle.mq_actor.proofs.InRing.{all_at}
-use Rattle.mq_actor.proofs.Lists.{get_set_same, get_set_other, get_removed, map_remove}
+use Rattle.mq_actor.proofs.Lists.{get_map, get_set_same, get_set_other, get_removed, map_remove}
 use Rattle.mq_actor.proofs.Neighbours.{Fine}
 use Rattle.mq_actor.proofs.Pointwise.{Pointwise, there, within, set_size}
 use Rattle.mq_actor.proofs.Refilled.{conns_told}
@@ -58,6 +58,28 @@ numbers {L} hs = map (λ (h : HeldBy L). h.number) hs
 numbers_size : {L : Type 0} (hs : List (HeldBy L)) → length (numbers hs) ≡ length hs
 numbers_size [] = refl
 numbers_size (h ∷ hs) = ap (λ (k : ℕ). suc k) (numbers_size hs)
+
+-- the numbers where one ended
+pub removed_numbers : {L : Type 0} (hs : List (HeldBy L)) (fs : List (OfferBy L)) (place : ℕ) → place < length hs
+    → remove (numbers_of hs fs) place ≡ numbers_of (remove hs place) fs
+removed_numbers {L} hs fs place lt =
+    let os : List ℕ = map (λ (f : OfferBy L). f.number) fs in
+    let size = numbers_size hs in
+    removed_front (numbers hs) os place (omega (arith, lt, size)) ∙ ap (λ (ns : List ℕ). ns ++ os) (sym (map_remove (λ (h : HeldBy L). h.number) hs place))
+
+free_removed : (ns : List ℕ) (place n : ℕ) → AreDistinct ns → slice_get ns place ≡ Some n → All (λ k. k ≢ n) (remove ns place)
+free_removed ns place n apart at = all_at (λ k. k ≢ n) (remove ns place) (λ i k at_k. by_side i k (get_removed ns place i k at_k)) where
+  by_side : (i k : ℕ) → ((i < place) × (slice_get ns i ≡ Some k)) ⊎ ((place ≤ i) × (slice_get ns (suc i) ≡ Some k)) → k ≢ n
+  by_side i k (inl (lt, at_k)) = λ same. let e = apart i place k at_k (at ∙ ap {B = Option ℕ} (λ (z : ℕ). Some z) (sym same)) in omega (arith, e, lt)
+  by_side i k (inr (le, at_k)) = λ same. let e = apart (suc i) place k at_k (at ∙ ap {B = Option ℕ} (λ (z : ℕ). Some z) (sym same)) in omega (arith, e, le)
+
+-- and its own is none of them
+pub number_freed : {L : Type 0} (hs : List (HeldBy L)) (fs : List (OfferBy L)) (place : ℕ) (was : HeldBy L) → slice_get hs place ≡ Some was → AreDistinct (numbers_of hs fs)
+    → All (λ k. k ≢ was.number) (numbers_of (remove hs place) fs)
+number_freed {L} hs fs place was at apart =
+    let N : List ℕ → Type 0 = λ ns. All (λ k. k ≢ was.number) ns in
+    subst N (removed_numbers hs fs place (within hs place was at)) (free_removed (numbers_of hs fs) place was.number apart
+    (get_append (numbers hs) (map (λ (f : OfferBy L). f.number) fs) place was.number (get_map (λ (h : HeldBy L). h.number) hs place was at)))
 
 -- the numbers stay apart where one ended
 pub numbers_removed : {L : Type 0} (hs : List (HeldBy L)) (fs : List (OfferBy L)) (place : ℕ) → place < length hs → AreDistinct (numbers_of hs fs)

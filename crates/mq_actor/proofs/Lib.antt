@@ -34,3 +34,6 @@ pub mod Others
 pub mod Coming
 pub mod Returning
 pub mod Offering
+pub mod Apart
+pub mod Sighted
+pub mod Sights

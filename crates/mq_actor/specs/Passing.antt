@@ -1,5 +1,5 @@
 -- Connections that were passed over, and one that acted.
-use Rattle.std.specs.Prelude.{◌≡◌, ⊤, ℕ, ◌+◌, ◌<◌, Bool, true, false, nat_le, nat_lt, List, length, remove, slice_get, slice_set, All, Option, Some, None, MatchOption, Result, Ok, Err}
+use Rattle.std.specs.Prelude.{◌≡◌, ⊤, ℕ, ◌+◌, ◌<◌, ◌≤◌, Bool, true, false, nat_le, nat_lt, List, length, remove, slice_get, slice_set, All, Option, Some, None, MatchOption, Result, Ok, Err}
 use Rattle.slab.specs.Slab.{Slab, get}
 use Rattle.mq_wire.specs.declared.NoMemory.{NoMemory}
 use Rattle.mq_talk.specs.declared.note.Note.{Note}
@@ -77,6 +77,8 @@ pub record Acts {L Q : Type 0} (words : Words L Q) (setup : Setup) (old new : Mo
   pub others : KeepsOthers was now old.table new.table
   pub stays : stepped ≡ Ok Quiet → now.ports.items ≡ was.ports.items
   pub calm : stepped ≡ Ok Quiet → (new.seen ≡ old.seen) × (new.faults ≡ old.faults)
+  pub few : length now.ports.items ≤ 1
+  pub ends : (said : Note) → stepped ≡ Ok (Ended said) → now.ports.items ≡ was.ports.items
   pub still : stepped ≡ Ok Quiet → (s : Held) → IsHeld words.most old.table was s → IsHeld words.most new.table now s
   pub gives : (o n : Outside) → Sees words.link words.link_counts words.port words.port_counts old.faults old.table was o
       → Sees words.link words.link_counts words.port words.port_counts new.faults new.table now n

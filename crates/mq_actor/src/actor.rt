@@ -85,10 +85,12 @@ impl<L: WriteReady, P: Ports> Actor<L, P> {
         requires office { (O.seen office.old).actor ≡ self.old.ring.id }
         requires mail { M.actor mail.old ≡ self.old.ring.id }
         requires inboxes { M.count mail.old ≡ (O.seen office.old).config.workers + 1 }
-        ensures gives { (o n : Outside) → SeesRing (record { most = P.P.most; link = L.holds; link_counts = L.counts; port = P.P.holds; port_counts = P.P.counts }) self.old.table.table (P.faults self.old.table.ports) self.old.ring o
+        ensures gives { (o n : Outside) → SeesRing (record { most = P.P.most; link = L.holds; link_counts = L.counts; port = P.P.holds; port_counts = P.P.counts }) self.old.table.table (P.faults self.old.table.ports) (record self.old.ring { ended = None }) o
             → SeesRing (record { most = P.P.most; link = L.holds; link_counts = L.counts; port = P.P.holds; port_counts = P.P.counts }) self.new.table.table (P.faults self.new.table.ports) self.new.ring n
             → Steps (λ w. IsWorker P.P.most self.old.table.table self.old.ring w × AllCounted w) (IsWorker P.P.most self.new.table.table self.new.ring)
             (sight o (O.seen office.old) (M.boxes mail.old)) (sight n (O.seen office.new) (M.boxes mail.new)) result }
+        ensures stands { (o : Outside) (w : machine.Worker) → IsWorker P.P.most self.old.table.table self.old.ring w → AllCounted w → Known (sight o (O.seen office.old) (M.boxes mail.old)) w
+            → (t : machine.Worker) × IsWorker P.P.most self.new.table.table self.new.ring t × Known (sight o (O.seen office.new) (M.boxes mail.new)) t }
         ensures office { (O.seen office.new).actor ≡ (O.seen office.old).actor }
         ensures mail { M.actor mail.new ≡ M.actor mail.old }
         ensures inboxes { M.count mail.new ≡ M.count mail.old }

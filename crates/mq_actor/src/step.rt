@@ -31,10 +31,12 @@ impl<L: WriteReady> Ring<L> {
         requires office { (O.seen office.old).actor ≡ self.old.id }
         requires mail { M.actor mail.old ≡ self.old.id }
         requires inboxes { M.count mail.old ≡ (O.seen office.old).config.workers + 1 }
-        ensures gives { (o n : Outside) → SeesRing (record { most = P.P.most; link = L.holds; link_counts = L.counts; port = P.P.holds; port_counts = P.P.counts }) table.old.table (P.faults table.old.ports) self.old o
+        ensures gives { (o n : Outside) → SeesRing (record { most = P.P.most; link = L.holds; link_counts = L.counts; port = P.P.holds; port_counts = P.P.counts }) table.old.table (P.faults table.old.ports) (record self.old { ended = None }) o
             → SeesRing (record { most = P.P.most; link = L.holds; link_counts = L.counts; port = P.P.holds; port_counts = P.P.counts }) table.new.table (P.faults table.new.ports) self.new n
             → Steps (λ w. IsWorker P.P.most table.old.table self.old w × AllCounted w) (IsWorker P.P.most table.new.table self.new)
             (sight o (O.seen office.old) (M.boxes mail.old)) (sight n (O.seen office.new) (M.boxes mail.new)) result }
+        ensures stands { (o : Outside) (w : Worker) → IsWorker P.P.most table.old.table self.old w → AllCounted w → Known (sight o (O.seen office.old) (M.boxes mail.old)) w
+            → (t : Worker) × IsWorker P.P.most table.new.table self.new t × Known (sight o (O.seen office.new) (M.boxes mail.new)) t }
         ensures office { (O.seen office.new).actor ≡ (O.seen office.old).actor }
         ensures mail { M.actor mail.new ≡ M.actor mail.old }
         ensures inboxes { M.count mail.new ≡ M.count mail.old }

@@ -27,3 +27,4 @@ pub mod Moving
 pub mod Incoming
 pub mod Stepping
 pub mod Still
+pub mod Few

@@ -1,13 +1,13 @@
 -- The ports of other connections stay as they are.
 use Rattle.std.proofs.Common.{◌≡◌, ◌≢◌, ◌⊎◌, inl, inr, ℕ, zero, suc, ◌<◌, List, [], ◌∷◌, length, remove, All, slice_get, slice_set}
-use Rattle.std.proofs.Common.{Option, Some, None, refl, sym, ap, subst, ◌∙◌, arith}
+use Rattle.std.proofs.Common.{◌++◌, Option, Some, None, MatchOption, refl, sym, ap, subst, ◌∙◌, arith}
 use Rattle.std.proofs.lemmas.Bool.{cases_eq}
 use Rattle.std.proofs.lemmas.List.Elements.{All-cons, All-head, All-tail}
 use Rattle.slab.specs.Slab.{Slab, get, Updates}
 use Rattle.mq_held.specs.declared.held.Held.{Held as HeldBy}
 use Rattle.mq_held.specs.declared.held.PortSeat.{PortSeat}
 use Rattle.mq_held.specs.Seats.{IsSeatOf, HasNoSeat}
-use Rattle.mq_step.specs.Holds.{IsOther, KeepsOthers}
+use Rattle.mq_step.specs.Holds.{IsOther, KeepsOthers, Seats}
 
 -- ---- the first seat of a tunnel, or none
 
@@ -111,3 +111,41 @@ keeps_both {L} {Q} old mid new table between after first second =
     λ key port at other.
     let kept = first key port at other in
     second key port kept.0 kept.1
+
+-- ---- the port of an opening
+
+keys_added : (seats : List PortSeat) (key : ℕ) (new : PortSeat) → new.key ≢ key → All (HasKey key) seats → All (HasKey key) (seats ++ new ∷ [])
+keys_added [] key new not all = All-cons (HasKey key) new [] not all
+keys_added (x ∷ seats) key new not all =
+    All-cons (HasKey key) x (seats ++ new ∷ []) (All-head (HasKey key) x seats all) (keys_added seats key new not (All-tail (HasKey key) x seats all))
+
+seat_others : {Q T : Type 0} (slab : T → Slab Q) (before after : T) (opened bound : Option ℕ) (seats seats_after : List PortSeat) (key : ℕ) (port : Q)
+    → Seats opened seats bound seats_after
+    → MatchOption opened (MatchOption bound (after ≡ before) (λ k. Updates (slab before) (slab after) k None)) (λ tunnel. after ≡ before)
+    → get (slab before) key ≡ Some port → IsOther seats bound key → (get (slab after) key ≡ Some port) × All (HasKey key) seats_after
+seat_others {Q} {T} slab before after None None seats seats_after key port is same at other =
+    let P : List PortSeat → Type 0 = λ xs. All (HasKey key) xs in
+    (ap (λ (t : T). get (slab t) key) same ∙ at, subst P (sym is) other.seats_are)
+seat_others {Q} {T} slab before after None (Some k) seats seats_after key port is gone at other =
+    let P : List PortSeat → Type 0 = λ xs. All (HasKey key) xs in
+    (gone.others key (λ same. other.bound_is (ap Some (sym same))) ∙ at, subst P (sym is) other.seats_are)
+seat_others {Q} {T} slab before after (Some tunnel) None seats seats_after key port is same at other =
+    let P : List PortSeat → Type 0 = λ xs. All (HasKey key) xs in
+    (ap (λ (t : T). get (slab t) key) same ∙ at, subst P (sym is) other.seats_are)
+seat_others {Q} {T} slab before after (Some tunnel) (Some k) seats seats_after key port is same at other =
+    let P : List PortSeat → Type 0 = λ xs. All (HasKey key) xs in
+    let one : PortSeat = record { tunnel = tunnel; key = k; received = 0 } in
+    let apart : k ≢ key = λ e. other.bound_is (ap Some e) in
+    (ap (λ (t : T). get (slab t) key) same ∙ at, subst P (sym is) (keys_added seats key one apart other.seats_are))
+
+-- it has its seat, or was handed back
+pub seat_keeps : {L Q T : Type 0} (slab : T → Slab Q) (before after : T) (opened : Option ℕ) (old new : HeldBy L)
+    → Seats opened old.ports.items old.bound new.ports.items
+    → MatchOption opened (MatchOption old.bound (after ≡ before) (λ k. Updates (slab before) (slab after) k None)) (λ tunnel. after ≡ before)
+    → new.bound ≡ None → KeepsOthers old new (slab before) (slab after)
+seat_keeps {L} {Q} {T} slab before after opened old new seats table none =
+    λ key port at other.
+    let r = seat_others slab before after opened old.bound old.ports.items new.ports.items key port seats table at other in
+    (r.0, record { seats_are = r.1; bound_is = λ is. none_some key (sym none ∙ is) }) where
+      none_some : (key : ℕ) → ◌≡◌ {A = Option ℕ} None (Some key) → ⊥
+      none_some key is = cc

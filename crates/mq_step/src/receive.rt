@@ -1,6 +1,7 @@
 //! A connection receives on the ports of its tunnels.
-ghost use Rattle.std.specs.Prelude.{◌≡◌, ◌∷◌, ℕ, true, slice_get, [], Some, IfOk};
+ghost use Rattle.std.specs.Prelude.{◌≡◌, ◌≤◌, ◌∷◌, ℕ, true, slice_get, [], Some, IfOk, length};
 ghost use Rattle.mq_machine.specs.declared.setup.Setup.{Setup};
+ghost use Rattle.mq_talk.specs.declared.note.Note.{Note as Said};
 ghost use Rattle.mq_machine.specs.Acting.{Outside};
 ghost use Rattle.mq_machine.specs.State as machine;
 ghost use Rattle.mq_machine.specs.Turn.{Receive};
@@ -45,6 +46,8 @@ where
     ensures rooms { HasRooms rooms.new }
     ensures stays { IfOk result (λ stepped. stepped ≡ Stepped.Quiet → held.new.ports.items ≡ held.old.ports.items) }
     ensures still { IfOk result (λ stepped. stepped ≡ Stepped.Quiet → (s : machine.Held) → IsHeld P.P.most table.old.table held.old s → waits (want_of s.conn) ≡ true → IsHeld P.P.most table.new.table held.new s) }
+    ensures few { length held.new.ports.items ≤ 1 }
+    ensures ends { IfOk result (λ stepped. (said : Said) → stepped ≡ Stepped.Ended said → held.new.ports.items ≡ held.old.ports.items) }
     ensures calm { IfOk result (λ stepped. stepped ≡ Stepped.Quiet → (O.seen office.new ≡ O.seen office.old) × (P.faults table.new.ports ≡ P.faults table.old.ports)) }
     ensures actor { (O.seen office.new).actor ≡ (O.seen office.old).actor }
     ensures others { KeepsOthers held.old held.new table.old.table table.new.table }
@@ -83,6 +86,8 @@ where
     ensures rooms { HasRooms rooms.new }
     ensures stays { IfOk result (λ stepped. stepped ≡ Stepped.Quiet → held.new.ports.items ≡ held.old.ports.items) }
     ensures still { IfOk result (λ stepped. stepped ≡ Stepped.Quiet → (s : machine.Held) → IsHeld P.P.most table.old.table held.old s → waits (want_of s.conn) ≡ true → IsHeld P.P.most table.new.table held.new s) }
+    ensures few { length held.new.ports.items ≤ 1 }
+    ensures ends { IfOk result (λ stepped. (said : Said) → stepped ≡ Stepped.Ended said → held.new.ports.items ≡ held.old.ports.items) }
     ensures calm { IfOk result (λ stepped. stepped ≡ Stepped.Quiet → (O.seen office.new ≡ O.seen office.old) × (P.faults table.new.ports ≡ P.faults table.old.ports)) }
     ensures actor { (O.seen office.new).actor ≡ (O.seen office.old).actor }
     ensures others { KeepsOthers held.old held.new table.old.table table.new.table }

@@ -12,6 +12,7 @@ use Rattle.mq_step.proofs.Alone.{close_alone}
 use Rattle.mq_step.proofs.Asking.{Closes, may_call, same_actor, port_at_alone, closed_seats, close_done, close_stands, closed_left}
 use Rattle.mq_step.proofs.Others.{retire_others}
 use Rattle.mq_step.proofs.Closing.{closed_is, only_seat_of, at_some}
+use Rattle.mq_step.proofs.Few.{few_stay, few_retired}
 use Rattle.mq_step.proofs.ask.close.Goals as goal
 
 pub ask-requires : goal.ask-requires
@@ -97,3 +98,11 @@ returns-clause-closes g c = λ s held want.
           (λ port. g.P.Ports.faults c.retire.new.table.ports ≡ risen_by (g.P.P.Port.counts port).faults (g.P.Ports.faults c.args.table.now.ports)) at
           (handed seat (only_seat_of most table old.ports.items s.ports alone.0.id c.args.tunnel seat port alone.2 are)),
     )
+
+pub returns-clause-few : goal.returns-clause-few
+returns-clause-few g c =
+    let k = c.requires.known in
+    let asked = c.ask.new.self.ports.items in
+    few_retired asked c.retire.new.self.ports.items c.args.tunnel (λ place seat is. (c.retire.ensures.seat place seat is).0)
+    (λ without. ap (λ h. h.ports.items) (c.retire.ensures.none without).0)
+    (few_stay g.P.P.Port.most c.args.table.now.table c.args.held.now k.0 asked k.1 (ap (λ h. h.ports.items) c.ask.ensures.rest))

@@ -7,6 +7,8 @@ use Rattle.mq_step.proofs.Asking.{same_actor}
 use Rattle.mq_step.proofs.Opening.{Opens, comes, opened_table, plain_call}
 use Rattle.mq_held.specs.Answers.{AskGives}
 use Rattle.mq_step.proofs.Refusing.{Fails, sinks}
+use Rattle.mq_step.proofs.Few.{few_stay, few_opened, none_opens}
+use Rattle.mq_step.proofs.Others.{keeps_from, seat_keeps}
 use Rattle.mq_step.proofs.ask.open.Goals as goal
 
 pub returns-in-Ok-clause-gives : goal.returns-in-Ok-clause-gives
@@ -60,3 +62,24 @@ returns-in-Err-clause-gives g c = λ o n so sn s held want boxes orders.
     let x = sinks g.P.P.Port.most c.args.table.now.table c.retire_bound.new.table.table old new o n actor seen seen_after boxes orders s c.args.call c.in-Err.refused c.requires.opens fails
     (subst C (sym (ap (λ h. h.conn) rest)) e) in
     (x.left_is, x.starves, x.stands_for, x.told_is)
+
+pub returns-in-Ok-clause-few : goal.returns-in-Ok-clause-few
+returns-in-Ok-clause-few g c =
+    let k = c.requires.known in
+    let none = none_opens g.P.P.Port.most c.args.table.now.table c.args.held.now k.0 c.args.call c.requires.opens k.1 k.3 in
+    few_opened c.in-Ok.heard.opened c.ask.new.self.bound c.ask.new.self.ports.items c.seat.new.held.ports.items c.seat.ensures.seats
+    (ap (λ h. h.ports.items) c.ask.ensures.rest ∙ none)
+
+pub returns-in-Err-clause-few : goal.returns-in-Err-clause-few
+returns-in-Err-clause-few g c =
+    let k = c.requires.known in
+    few_stay g.P.P.Port.most c.args.table.now.table c.args.held.now k.0 c.retire_bound.new.self.ports.items k.1
+    (ap (λ h. h.ports.items) c.retire_bound.ensures.rest ∙ ap (λ h. h.ports.items) c.ask.ensures.rest)
+
+pub returns-in-Ok-clause-others : goal.returns-in-Ok-clause-others
+returns-in-Ok-clause-others g c =
+    let asked = c.ask.ensures.rest in
+    keeps_from c.args.held.now c.ask.new.self c.seat.new.held c.args.table.now.table c.seat.new.table.table (ap (λ h. h.ports.items) asked)
+    (ap (λ h. h.bound) asked)
+    (seat_keeps (λ t. t.table) c.args.table.now c.seat.new.table c.in-Ok.heard.opened c.ask.new.self c.seat.new.held c.seat.ensures.seats
+    c.seat.ensures.table (ap (λ h. h.bound) c.seat.ensures.rest))

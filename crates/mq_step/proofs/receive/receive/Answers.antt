@@ -1,6 +1,7 @@
 use Rattle.std.proofs.Common.{rules, ◌≡◌, ◌⊎◌, inl, inr, ◌<◌, ◌≤◌, true, length, slice_get, Some, Ok, Err, refl, sym, subst, ◌∙◌, arith}
 use Rattle.std.specs.Vec.{vec_len}
 use Rattle.std.proofs.lemmas.Bool.{cases_lt}
+use Rattle.mq_talk.specs.declared.note.Note.{Note}
 use Rattle.mq_machine.specs.declared.setup.Setup.{Setup}
 use Rattle.mq_machine.specs.Acting.{Outside}
 use Rattle.mq_machine.specs.State as machine
@@ -9,6 +10,7 @@ use Rattle.mq_conn.specs.Frames.{waits}
 use Rattle.mq_ports.specs.Tables.{IsBalanced}
 use Rattle.mq_held.specs.declared.held.PortSeat.{PortSeat}
 use Rattle.mq_step.specs.declared.stepped.Stepped.{Stepped}
+use Rattle.mq_step.specs.declared.stepped.Stepped.TheVariants.{Ended}
 use Rattle.mq_step.specs.Holds.{IsHeld, IsKnown, AreCounted, KeepsOthers}
 use Rattle.mq_step.specs.Whole.{Sees}
 use Rattle.mq_step.specs.Gives.{Gives, Waited, ReadsWait, receives_of, receive_alone}
@@ -23,6 +25,7 @@ loop-place-init g c = record {
   rest = refl;
   stays = refl;
   still = λ s held wait. held;
+  few = at_most_one g.P.P.Port.most c.args.table.now.table c.args.held.now c.requires.known.0 c.requires.known.1;
   calm = (refl, refl);
   actor = refl;
   others = λ key port at other. (at, other);
@@ -176,9 +179,12 @@ returns-in_default g c =
           (λ seat at. gives o n so sn s held few wait setup seat at);
       rest = subst_three c.loop-place.held old c.loop-place.table c.args.table.now c.loop-place.office c.args.office.now start.0 start.1 start.2
           (λ h t f. new ≡ record h { conn = new.conn; ports = new.ports; bound = new.bound }) c.in_ok-stepped.ensures.rest;
+      ends = subst_three c.loop-place.held old c.loop-place.table c.args.table.now c.loop-place.office c.args.office.now start.0 start.1 start.2
+          (λ h t f. (said : Note) → c.in_ok-stepped.stepped ≡ Ended said → new.ports.items ≡ h.ports.items) c.in_ok-stepped.ensures.ends;
       rooms = c.in_ok-stepped.ensures.rooms;
       stays = λ is. absurd (c.in_default.not-Quiet is);
       still = λ is. absurd (c.in_default.not-Quiet is);
+      few = c.in_ok-stepped.ensures.few;
       calm = λ is. absurd (c.in_default.not-Quiet is);
       actor = subst_three c.loop-place.held old c.loop-place.table c.args.table.now c.loop-place.office c.args.office.now start.0 start.1 start.2
           (λ h t f. (g.O.Office.seen office).actor ≡ (g.O.Office.seen f).actor) c.in_ok-stepped.ensures.actor;
@@ -218,6 +224,7 @@ loop-place-preserved g c =
           (λ h t f. new.ports.items ≡ h.ports.items) (c.in_ok-stepped.ensures.stays c.in-Quiet.is);
       still = subst_three c.loop-place.held old c.loop-place.table c.args.table.now c.loop-place.office c.args.office.now start.0 start.1 start.2
           (λ h t f. Still most t.table after.table h new) (c.in_ok-stepped.ensures.still c.in-Quiet.is);
+      few = c.in_ok-stepped.ensures.few;
       calm = subst_three c.loop-place.held old c.loop-place.table c.args.table.now c.loop-place.office c.args.office.now start.0 start.1 start.2
           (λ h t f. (g.O.Office.seen office ≡ g.O.Office.seen f) × (g.P.Ports.faults after.ports ≡ g.P.Ports.faults t.ports))
           (c.in_ok-stepped.ensures.calm c.in-Quiet.is);
@@ -267,6 +274,9 @@ returns-clause-stays g c = λ is. c.loop-place.invariant.stays
 
 pub returns-clause-still : goal.returns-clause-still
 returns-clause-still g c = λ is. c.loop-place.invariant.still
+
+pub returns-clause-few : goal.returns-clause-few
+returns-clause-few g c = c.loop-place.invariant.few
 
 pub returns-clause-calm : goal.returns-clause-calm
 returns-clause-calm g c = λ is. c.loop-place.invariant.calm

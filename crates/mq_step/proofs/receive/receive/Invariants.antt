@@ -1,4 +1,4 @@
-use Rattle.std.proofs.Common.{◌≡◌, ◌<◌, true}
+use Rattle.std.proofs.Common.{◌≡◌, ◌<◌, ◌≤◌, true, length}
 use Rattle.mq_machine.specs.declared.setup.Setup.{Setup}
 use Rattle.mq_machine.specs.Acting.{Outside}
 use Rattle.mq_machine.specs.State as machine
@@ -20,6 +20,7 @@ invariant-loop-place g l = record {
   rest : l.held ≡ record l.fn.held { conn = l.held.conn; ports = l.held.ports; bound = l.held.bound };
   stays : l.held.ports.items ≡ l.fn.held.ports.items;
   still : Still g.P.P.Port.most l.fn.table.table l.table.table l.fn.held l.held;
+  few : length l.held.ports.items ≤ 1;
   calm : (g.O.Office.seen l.office ≡ g.O.Office.seen l.fn.office) × (g.P.Ports.faults l.table.ports ≡ g.P.Ports.faults l.fn.table.ports);
   actor : (g.O.Office.seen l.office).actor ≡ (g.O.Office.seen l.fn.office).actor;
   others : KeepsOthers l.fn.held l.held l.fn.table.table l.table.table;

@@ -18,6 +18,8 @@ use Rattle.mq_step.proofs.Receiving.{Live, live, link_stays, copied_at, same_sea
 use Rattle.mq_step.proofs.Received.{Behind, behind_of, behind_call, only_set, came, received_waits, waits_stand, received_starves, starved_stands, starved_told, sunk_then, received_left, received_done, received_stands, received_told}
 use Rattle.mq_step.proofs.PortFailing.{failing, failed_left, failing_known, blind, blind_sees, wants_close, failing_stands, failed_done, failed_told, closes_give, starved_gives}
 use Rattle.mq_step.proofs.Still.{Still, closes_still}
+use Rattle.mq_step.proofs.Passing.{at_most_one}
+use Rattle.mq_step.proofs.Few.{few_stay, few_counted}
 use Rattle.mq_step.proofs.receive.receive_at.Goals as goal
 
 pub returns-in-Waits-clause-gives : goal.returns-in-Waits-clause-gives
@@ -339,3 +341,25 @@ returns-in-Failed-clause-still g c =
     let closes = c.act.ensures.closes closing stand mine.tunnel (wants_close most holds past counts table after old mid blind s mine x) in
     closes_still (g.O.Office.seen c.args.office.now) (g.O.Office.seen c.act.new.office) (IsHeld most c.act.new.table.table c.act.new.held) closing c.act.result
     (Still most table c.act.new.table.table old c.act.new.held) closes.0
+
+pub returns-in_default-clause-few : goal.returns-in_default-clause-few
+returns-in_default-clause-few g c = let k = c.requires.known in at_most_one g.P.P.Port.most c.args.table.now.table c.args.held.now k.0 k.1
+
+pub returns-in_err-receive-clause-few : goal.returns-in_err-receive-clause-few
+returns-in_err-receive-clause-few g c =
+    let k = c.requires.known in
+    few_stay g.P.P.Port.most c.args.table.now.table c.args.held.now k.0 c.receive.new.self.ports.items k.1
+    (ap (λ h. h.ports.items) c.in_err-receive.ensures.rest)
+
+pub returns-in-Waits-clause-few : goal.returns-in-Waits-clause-few
+returns-in-Waits-clause-few g c =
+    let k = c.requires.known in
+    few_stay g.P.P.Port.most c.args.table.now.table c.args.held.now k.0 c.receive.new.self.ports.items k.1
+    (ap (λ h. h.ports.items) c.in_ok-receive.ensures.rest)
+
+pub returns-in-Did-clause-few : goal.returns-in-Did-clause-few
+returns-in-Did-clause-few g c =
+    let k = c.requires.known in
+    let came = c.receive.new.self.ports.items in
+    few_counted (slice_get came c.args.place) came c.count.new.self.ports.items c.args.place c.count.ensures.seats
+    (few_stay g.P.P.Port.most c.args.table.now.table c.args.held.now k.0 came k.1 (ap (λ h. h.ports.items) c.in_ok-receive.ensures.rest))

@@ -101,9 +101,11 @@ returns-in_default g c = record {
       (λ is. c.in_default.not-Quiet (same_ok c.in_ok-stepped.stepped Quiet is))
       (c.in_ok-stepped.ensures.gives o n so.of_table sn.of_table (linked o s) (linked_held g.P.P.Port.most c.args.table.now.table old o s held));
   rest = search rules;
+  ends = c.in_ok-stepped.ensures.ends;
   rooms = search rules;
   stays = λ is. absurd (c.in_default.not-Quiet is);
   still = λ is. absurd (c.in_default.not-Quiet is);
+  few = c.in_ok-stepped.ensures.few;
   calm = λ is. absurd (c.in_default.not-Quiet is);
   actor = search rules;
   others = search rules;

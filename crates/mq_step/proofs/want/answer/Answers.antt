@@ -10,6 +10,8 @@ use Rattle.mq_step.proofs.Alone.{said_alive, bind_alive}
 use Rattle.mq_step.proofs.Saying.{say_some}
 use Rattle.mq_step.proofs.Standing.{bound_none}
 use Rattle.mq_step.proofs.Binding.{Stays, sinks_alone, says, quiet, ends, err_gives, bind_comes}
+use Rattle.mq_step.proofs.Passing.{at_most_one}
+use Rattle.mq_step.proofs.Few.{few_stay}
 use Rattle.mq_step.proofs.want.answer.Goals as goal
 
 pub returns-in-Nothing-clause-gives : goal.returns-in-Nothing-clause-gives
@@ -121,3 +123,33 @@ returns-in-Ask-clause-closes g c = λ s held want tunnel closes.
     let wanted = subst W c.in-Ask.is want in
     let same : Ask c.in-Ask.call ≡ Ask (Close tunnel) = sym wanted ∙ closes in
     c.ask.ensures.closes s held wanted tunnel cc
+
+pub returns-in-Nothing-clause-few : goal.returns-in-Nothing-clause-few
+returns-in-Nothing-clause-few g c = let k = c.requires.known in at_most_one g.P.P.Port.most c.args.table.now.table c.args.held.now k.0 k.1
+
+pub returns-in_err-note-in-Say-clause-few : goal.returns-in_err-note-in-Say-clause-few
+returns-in_err-note-in-Say-clause-few g c = let k = c.requires.known in at_most_one g.P.P.Port.most c.args.table.now.table c.args.held.now k.0 k.1
+
+pub returns-in_ok-note-in-Say-clause-few : goal.returns-in_ok-note-in-Say-clause-few
+returns-in_ok-note-in-Say-clause-few g c = let k = c.requires.known in at_most_one g.P.P.Port.most c.args.table.now.table c.args.held.now k.0 k.1
+
+pub returns-in_err-note-in-Bind-clause-few : goal.returns-in_err-note-in-Bind-clause-few
+returns-in_err-note-in-Bind-clause-few g c =
+    let k = c.requires.known in
+    few_stay g.P.P.Port.most c.args.table.now.table c.args.held.now k.0 c.bind.new.held.ports.items k.1
+    c.in_err-note-in-Bind.ensures.seats
+
+pub returns-in_ok-note-in-Bind-clause-few : goal.returns-in_ok-note-in-Bind-clause-few
+returns-in_ok-note-in-Bind-clause-few g c =
+    let k = c.requires.known in
+    few_stay g.P.P.Port.most c.args.table.now.table c.args.held.now k.0 c.bind.new.held.ports.items k.1
+    c.in_ok-note-in-Bind.ensures.seats
+
+pub returns-in-SendUdp-clause-few : goal.returns-in-SendUdp-clause-few
+returns-in-SendUdp-clause-few g c =
+    let k = c.requires.known in
+    few_stay g.P.P.Port.most c.args.table.now.table c.args.held.now k.0 c.send.new.held.ports.items k.1
+    (ap (λ h. h.ports.items) c.send.ensures.rest)
+
+pub returns-in-Ended-clause-few : goal.returns-in-Ended-clause-few
+returns-in-Ended-clause-few g c = let k = c.requires.known in at_most_one g.P.P.Port.most c.args.table.now.table c.args.held.now k.0 k.1

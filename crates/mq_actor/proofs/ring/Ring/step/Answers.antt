@@ -6,6 +6,8 @@ use Rattle.mq_actor.specs.Passing.{PassGives, AreKnown}
 use Rattle.mq_actor.specs.Seats.{AcceptGives, InboxGives}
 use Rattle.mq_actor.specs.Seen.{Words, Moment}
 use Rattle.mq_actor.proofs.Returning.{begun, among, err_promise, known_conns, known_later, accept_refused, accept_did, pop_did, upper_stopped, accept_refused_later, accept_did_later, pop_did_later, lower_gives}
+use Rattle.mq_actor.proofs.Returning.{accept_refused_stands, accept_did_stands, pop_did_stands, upper_stopped_stands, accept_refused_later_stands}
+use Rattle.mq_actor.proofs.Returning.{accept_did_later_stands, pop_did_later_stands, lower_stands}
 use Rattle.mq_actor.proofs.ring.Ring.step.Goals as goal
 
 pub returns-in_err-note-clause-gives : goal.returns-in_err-note-clause-gives
@@ -248,4 +250,164 @@ returns-clause-gives g c =
     let new : Moment g.row.L.Denot g.row.P-P.Denot =
     record { conns = c.pass-2.new.self.conns.items; table = c.pass-2.new.table.table; faults = g.P.Ports.faults c.pass-2.new.table.ports; seen = g.O.Office.seen c.pass-2.new.office } in
     lower_gives words self old refl boxes count c.requires.office c.requires.inboxes c.accept.new.self c.pop.new.self boxes_one (g.M.Mail.actor c.args.mail.now) c.requires.mail first popped c.pass.new.self mid refl upper ports rooms c.accept-2.new.self second c.pop-2.new.self (g.M.Mail.boxes c.pop-2.new.mail) popped_later
+    c.pass-2.new.self new c.pass-2.result refl c.pass-2.ensures.gives c.pass-2.ensures.ports c.pass-2.ensures.rooms
+
+pub returns-in_err-note-clause-stands : goal.returns-in_err-note-clause-stands
+returns-in_err-note-clause-stands g c =
+    let self = c.args.self.now in
+    let words : Words g.row.L.Denot g.row.P-P.Denot = record { most = g.P.P.Port.most; link = g.L.Link.holds; link_counts = g.L.Link.counts; port = g.P.P.Port.holds; port_counts = g.P.P.Port.counts } in
+    let old : Moment g.row.L.Denot g.row.P-P.Denot =
+    record { conns = self.conns.items; table = c.args.table.now.table; faults = g.P.Ports.faults c.args.table.now.ports; seen = g.O.Office.seen c.args.office.now } in
+    let boxes = g.M.Mail.boxes c.args.mail.now in
+    let count = g.M.Mail.count c.args.mail.now in
+    accept_refused_stands words self old refl boxes count c.requires.office c.requires.inboxes c.accept.new.self c.in_err-note.field-0.0 c.in_err-note.ensures.gives
+
+pub returns-in-Some-clause-stands : goal.returns-in-Some-clause-stands
+returns-in-Some-clause-stands g c =
+    let self = c.args.self.now in
+    let words : Words g.row.L.Denot g.row.P-P.Denot = record { most = g.P.P.Port.most; link = g.L.Link.holds; link_counts = g.L.Link.counts; port = g.P.P.Port.holds; port_counts = g.P.P.Port.counts } in
+    let old : Moment g.row.L.Denot g.row.P-P.Denot =
+    record { conns = self.conns.items; table = c.args.table.now.table; faults = g.P.Ports.faults c.args.table.now.ports; seen = g.O.Office.seen c.args.office.now } in
+    let boxes = g.M.Mail.boxes c.args.mail.now in
+    let count = g.M.Mail.count c.args.mail.now in
+    let A : Option Note → Type 0 = λ z. AcceptGives true (begun self) c.accept.new.self (Ok z) in
+    accept_did_stands words self old refl boxes count c.requires.office c.requires.inboxes c.accept.new.self c.in-Some.note (subst A c.in-Some.is c.in_ok-note.ensures.gives)
+
+pub returns-in-Some-pop-clause-stands : goal.returns-in-Some-pop-clause-stands
+returns-in-Some-pop-clause-stands g c =
+    let self = c.args.self.now in
+    let words : Words g.row.L.Denot g.row.P-P.Denot = record { most = g.P.P.Port.most; link = g.L.Link.holds; link_counts = g.L.Link.counts; port = g.P.P.Port.holds; port_counts = g.P.P.Port.counts } in
+    let old : Moment g.row.L.Denot g.row.P-P.Denot =
+    record { conns = self.conns.items; table = c.args.table.now.table; faults = g.P.Ports.faults c.args.table.now.ports; seen = g.O.Office.seen c.args.office.now } in
+    let boxes = g.M.Mail.boxes c.args.mail.now in
+    let count = g.M.Mail.count c.args.mail.now in
+    let A : Option Note → Type 0 = λ z. AcceptGives true (begun self) c.accept.new.self (Ok z) in
+    let first = subst A c.in_default.is c.in_ok-note.ensures.gives in
+    pop_did_stands words self old refl boxes count c.requires.office c.requires.inboxes c.accept.new.self c.pop.new.self c.in-Some-pop.note (g.M.Mail.boxes c.pop.new.mail) (g.M.Mail.actor c.args.mail.now) c.requires.mail first c.in-Some-pop.ensures.gives
+
+pub returns-in_err-note-2-clause-stands : goal.returns-in_err-note-2-clause-stands
+returns-in_err-note-2-clause-stands g c =
+    let self = c.args.self.now in
+    let words : Words g.row.L.Denot g.row.P-P.Denot = record { most = g.P.P.Port.most; link = g.L.Link.holds; link_counts = g.L.Link.counts; port = g.P.P.Port.holds; port_counts = g.P.P.Port.counts } in
+    let old : Moment g.row.L.Denot g.row.P-P.Denot =
+    record { conns = self.conns.items; table = c.args.table.now.table; faults = g.P.Ports.faults c.args.table.now.ports; seen = g.O.Office.seen c.args.office.now } in
+    let boxes = g.M.Mail.boxes c.args.mail.now in
+    let count = g.M.Mail.count c.args.mail.now in
+    let A : Option Note → Type 0 = λ z. AcceptGives true (begun self) c.accept.new.self (Ok z) in
+    let first = subst A c.in_default.is c.in_ok-note.ensures.gives in
+    let popped = c.in_default-pop.ensures.gives in
+    let boxes_one = g.M.Mail.boxes c.pop.new.mail in
+    let new : Moment g.row.L.Denot g.row.P-P.Denot =
+    record { conns = c.pass.new.self.conns.items; table = c.pass.new.table.table; faults = g.P.Ports.faults c.pass.new.table.ports; seen = g.O.Office.seen c.pass.new.office } in
+    upper_stopped_stands words self old refl boxes count c.requires.office c.requires.inboxes c.accept.new.self c.pop.new.self boxes_one (g.M.Mail.actor c.args.mail.now) c.requires.mail first popped c.pass.new.self new (Err c.in_err-note-2.field-0.0)
+    c.in_err-note-2.ensures.gives c.in_err-note-2.ensures.ports c.in_err-note-2.ensures.rooms
+
+pub returns-in-Some-2-clause-stands : goal.returns-in-Some-2-clause-stands
+returns-in-Some-2-clause-stands g c =
+    let self = c.args.self.now in
+    let words : Words g.row.L.Denot g.row.P-P.Denot = record { most = g.P.P.Port.most; link = g.L.Link.holds; link_counts = g.L.Link.counts; port = g.P.P.Port.holds; port_counts = g.P.P.Port.counts } in
+    let old : Moment g.row.L.Denot g.row.P-P.Denot =
+    record { conns = self.conns.items; table = c.args.table.now.table; faults = g.P.Ports.faults c.args.table.now.ports; seen = g.O.Office.seen c.args.office.now } in
+    let boxes = g.M.Mail.boxes c.args.mail.now in
+    let count = g.M.Mail.count c.args.mail.now in
+    let A : Option Note → Type 0 = λ z. AcceptGives true (begun self) c.accept.new.self (Ok z) in
+    let first = subst A c.in_default.is c.in_ok-note.ensures.gives in
+    let popped = c.in_default-pop.ensures.gives in
+    let boxes_one = g.M.Mail.boxes c.pop.new.mail in
+    let new : Moment g.row.L.Denot g.row.P-P.Denot =
+    record { conns = c.pass.new.self.conns.items; table = c.pass.new.table.table; faults = g.P.Ports.faults c.pass.new.table.ports; seen = g.O.Office.seen c.pass.new.office } in
+    let U : Option Note → Type 0 = λ z. PassGives words true c.pop.new.self c.pass.new.self (among c.pop.new.self.conns.items old) new (Ok z) in
+    upper_stopped_stands words self old refl boxes count c.requires.office c.requires.inboxes c.accept.new.self c.pop.new.self boxes_one (g.M.Mail.actor c.args.mail.now) c.requires.mail first popped c.pass.new.self new (Ok (Some c.in-Some-2.note))
+    (subst U c.in-Some-2.is c.in_ok-note-2.ensures.gives) c.in_ok-note-2.ensures.ports c.in_ok-note-2.ensures.rooms
+
+pub returns-in_err-note-3-clause-stands : goal.returns-in_err-note-3-clause-stands
+returns-in_err-note-3-clause-stands g c =
+    let self = c.args.self.now in
+    let words : Words g.row.L.Denot g.row.P-P.Denot = record { most = g.P.P.Port.most; link = g.L.Link.holds; link_counts = g.L.Link.counts; port = g.P.P.Port.holds; port_counts = g.P.P.Port.counts } in
+    let old : Moment g.row.L.Denot g.row.P-P.Denot =
+    record { conns = self.conns.items; table = c.args.table.now.table; faults = g.P.Ports.faults c.args.table.now.ports; seen = g.O.Office.seen c.args.office.now } in
+    let boxes = g.M.Mail.boxes c.args.mail.now in
+    let count = g.M.Mail.count c.args.mail.now in
+    let A : Option Note → Type 0 = λ z. AcceptGives true (begun self) c.accept.new.self (Ok z) in
+    let first = subst A c.in_default.is c.in_ok-note.ensures.gives in
+    let popped = c.in_default-pop.ensures.gives in
+    let boxes_one = g.M.Mail.boxes c.pop.new.mail in
+    let mid : Moment g.row.L.Denot g.row.P-P.Denot =
+    record { conns = c.pass.new.self.conns.items; table = c.pass.new.table.table; faults = g.P.Ports.faults c.pass.new.table.ports; seen = g.O.Office.seen c.pass.new.office } in
+    let U : Option Note → Type 0 = λ z. PassGives words true c.pop.new.self c.pass.new.self (among c.pop.new.self.conns.items old) mid (Ok z) in
+    let upper = subst U c.in_default-2.is c.in_ok-note-2.ensures.gives in
+    let ports = c.in_ok-note-2.ensures.ports in
+    let rooms = c.in_ok-note-2.ensures.rooms in
+    accept_refused_later_stands words self old refl boxes count c.requires.office c.requires.inboxes c.accept.new.self c.pop.new.self boxes_one (g.M.Mail.actor c.args.mail.now) c.requires.mail first popped c.pass.new.self mid refl upper ports rooms c.accept-2.new.self c.in_err-note-3.field-0.0 c.in_err-note-3.ensures.gives
+
+pub returns-in-Some-3-clause-stands : goal.returns-in-Some-3-clause-stands
+returns-in-Some-3-clause-stands g c =
+    let self = c.args.self.now in
+    let words : Words g.row.L.Denot g.row.P-P.Denot = record { most = g.P.P.Port.most; link = g.L.Link.holds; link_counts = g.L.Link.counts; port = g.P.P.Port.holds; port_counts = g.P.P.Port.counts } in
+    let old : Moment g.row.L.Denot g.row.P-P.Denot =
+    record { conns = self.conns.items; table = c.args.table.now.table; faults = g.P.Ports.faults c.args.table.now.ports; seen = g.O.Office.seen c.args.office.now } in
+    let boxes = g.M.Mail.boxes c.args.mail.now in
+    let count = g.M.Mail.count c.args.mail.now in
+    let A : Option Note → Type 0 = λ z. AcceptGives true (begun self) c.accept.new.self (Ok z) in
+    let first = subst A c.in_default.is c.in_ok-note.ensures.gives in
+    let popped = c.in_default-pop.ensures.gives in
+    let boxes_one = g.M.Mail.boxes c.pop.new.mail in
+    let mid : Moment g.row.L.Denot g.row.P-P.Denot =
+    record { conns = c.pass.new.self.conns.items; table = c.pass.new.table.table; faults = g.P.Ports.faults c.pass.new.table.ports; seen = g.O.Office.seen c.pass.new.office } in
+    let U : Option Note → Type 0 = λ z. PassGives words true c.pop.new.self c.pass.new.self (among c.pop.new.self.conns.items old) mid (Ok z) in
+    let upper = subst U c.in_default-2.is c.in_ok-note-2.ensures.gives in
+    let ports = c.in_ok-note-2.ensures.ports in
+    let rooms = c.in_ok-note-2.ensures.rooms in
+    let B : Option Note → Type 0 = λ z. AcceptGives false c.pass.new.self c.accept-2.new.self (Ok z) in
+    accept_did_later_stands words self old refl boxes count c.requires.office c.requires.inboxes c.accept.new.self c.pop.new.self boxes_one (g.M.Mail.actor c.args.mail.now) c.requires.mail first popped c.pass.new.self mid refl upper ports rooms c.accept-2.new.self c.in-Some-3.note (subst B c.in-Some-3.is c.in_ok-note-3.ensures.gives)
+
+pub returns-in-Some-pop-2-clause-stands : goal.returns-in-Some-pop-2-clause-stands
+returns-in-Some-pop-2-clause-stands g c =
+    let self = c.args.self.now in
+    let words : Words g.row.L.Denot g.row.P-P.Denot = record { most = g.P.P.Port.most; link = g.L.Link.holds; link_counts = g.L.Link.counts; port = g.P.P.Port.holds; port_counts = g.P.P.Port.counts } in
+    let old : Moment g.row.L.Denot g.row.P-P.Denot =
+    record { conns = self.conns.items; table = c.args.table.now.table; faults = g.P.Ports.faults c.args.table.now.ports; seen = g.O.Office.seen c.args.office.now } in
+    let boxes = g.M.Mail.boxes c.args.mail.now in
+    let count = g.M.Mail.count c.args.mail.now in
+    let A : Option Note → Type 0 = λ z. AcceptGives true (begun self) c.accept.new.self (Ok z) in
+    let first = subst A c.in_default.is c.in_ok-note.ensures.gives in
+    let popped = c.in_default-pop.ensures.gives in
+    let boxes_one = g.M.Mail.boxes c.pop.new.mail in
+    let mid : Moment g.row.L.Denot g.row.P-P.Denot =
+    record { conns = c.pass.new.self.conns.items; table = c.pass.new.table.table; faults = g.P.Ports.faults c.pass.new.table.ports; seen = g.O.Office.seen c.pass.new.office } in
+    let U : Option Note → Type 0 = λ z. PassGives words true c.pop.new.self c.pass.new.self (among c.pop.new.self.conns.items old) mid (Ok z) in
+    let upper = subst U c.in_default-2.is c.in_ok-note-2.ensures.gives in
+    let ports = c.in_ok-note-2.ensures.ports in
+    let rooms = c.in_ok-note-2.ensures.rooms in
+    let B : Option Note → Type 0 = λ z. AcceptGives false c.pass.new.self c.accept-2.new.self (Ok z) in
+    let second = subst B c.in_default-3.is c.in_ok-note-3.ensures.gives in
+    let N : ℕ → ℕ → Type 0 = λ k i. InboxGives k boxes_one i false c.accept-2.new.self c.pop-2.new.self (Some c.in-Some-pop-2.note) (g.M.Mail.boxes c.pop-2.new.mail) in
+    let gives = subst (λ k. N k (g.M.Mail.actor c.args.mail.now)) c.in_default-pop.ensures.count (subst (λ i. N (g.M.Mail.count c.pop.new.mail) i) c.in_default-pop.ensures.actor c.in-Some-pop-2.ensures.gives) in
+    pop_did_later_stands words self old refl boxes count c.requires.office c.requires.inboxes c.accept.new.self c.pop.new.self boxes_one (g.M.Mail.actor c.args.mail.now) c.requires.mail first popped c.pass.new.self mid refl upper ports rooms c.accept-2.new.self second c.pop-2.new.self c.in-Some-pop-2.note (g.M.Mail.boxes c.pop-2.new.mail) gives
+
+pub returns-clause-stands : goal.returns-clause-stands
+returns-clause-stands g c =
+    let self = c.args.self.now in
+    let words : Words g.row.L.Denot g.row.P-P.Denot = record { most = g.P.P.Port.most; link = g.L.Link.holds; link_counts = g.L.Link.counts; port = g.P.P.Port.holds; port_counts = g.P.P.Port.counts } in
+    let old : Moment g.row.L.Denot g.row.P-P.Denot =
+    record { conns = self.conns.items; table = c.args.table.now.table; faults = g.P.Ports.faults c.args.table.now.ports; seen = g.O.Office.seen c.args.office.now } in
+    let boxes = g.M.Mail.boxes c.args.mail.now in
+    let count = g.M.Mail.count c.args.mail.now in
+    let A : Option Note → Type 0 = λ z. AcceptGives true (begun self) c.accept.new.self (Ok z) in
+    let first = subst A c.in_default.is c.in_ok-note.ensures.gives in
+    let popped = c.in_default-pop.ensures.gives in
+    let boxes_one = g.M.Mail.boxes c.pop.new.mail in
+    let mid : Moment g.row.L.Denot g.row.P-P.Denot =
+    record { conns = c.pass.new.self.conns.items; table = c.pass.new.table.table; faults = g.P.Ports.faults c.pass.new.table.ports; seen = g.O.Office.seen c.pass.new.office } in
+    let U : Option Note → Type 0 = λ z. PassGives words true c.pop.new.self c.pass.new.self (among c.pop.new.self.conns.items old) mid (Ok z) in
+    let upper = subst U c.in_default-2.is c.in_ok-note-2.ensures.gives in
+    let ports = c.in_ok-note-2.ensures.ports in
+    let rooms = c.in_ok-note-2.ensures.rooms in
+    let B : Option Note → Type 0 = λ z. AcceptGives false c.pass.new.self c.accept-2.new.self (Ok z) in
+    let second = subst B c.in_default-3.is c.in_ok-note-3.ensures.gives in
+    let N : ℕ → ℕ → Type 0 = λ k i. InboxGives k boxes_one i false c.accept-2.new.self c.pop-2.new.self None (g.M.Mail.boxes c.pop-2.new.mail) in
+    let popped_later = subst (λ k. N k (g.M.Mail.actor c.args.mail.now)) c.in_default-pop.ensures.count (subst (λ i. N (g.M.Mail.count c.pop.new.mail) i) c.in_default-pop.ensures.actor c.in_default-pop-2.ensures.gives) in
+    let new : Moment g.row.L.Denot g.row.P-P.Denot =
+    record { conns = c.pass-2.new.self.conns.items; table = c.pass-2.new.table.table; faults = g.P.Ports.faults c.pass-2.new.table.ports; seen = g.O.Office.seen c.pass-2.new.office } in
+    lower_stands words self old refl boxes count c.requires.office c.requires.inboxes c.accept.new.self c.pop.new.self boxes_one (g.M.Mail.actor c.args.mail.now) c.requires.mail first popped c.pass.new.self mid refl upper ports rooms c.accept-2.new.self second c.pop-2.new.self (g.M.Mail.boxes c.pop-2.new.mail) popped_later
     c.pass-2.new.self new c.pass-2.result refl c.pass-2.ensures.gives c.pass-2.ensures.ports c.pass-2.ensures.rooms

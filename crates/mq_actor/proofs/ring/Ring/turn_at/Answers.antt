@@ -1,10 +1,11 @@
 use Rattle.std.proofs.Common.{rules, ◌≡◌, length, Some, slice_get, IfOk, Result, refl, sym, ap, subst, ◌∙◌, arith}
 use Rattle.std.specs.Vec.{vec_len}
 use Rattle.mq_wire.specs.declared.NoMemory.{NoMemory}
+use Rattle.mq_talk.specs.declared.note.Note.{Note}
 use Rattle.mq_machine.specs.State.{Held}
 use Rattle.mq_held.specs.declared.held.Held.{Held as HeldBy}
 use Rattle.mq_step.specs.declared.stepped.Stepped.{Stepped}
-use Rattle.mq_step.specs.declared.stepped.Stepped.TheVariants.{Quiet}
+use Rattle.mq_step.specs.declared.stepped.Stepped.TheVariants.{Quiet, Ended}
 use Rattle.mq_step.specs.Holds.{IsHeld, IsKnown}
 use Rattle.mq_actor.proofs.InRing.{at_all}
 use Rattle.mq_actor.proofs.OwnPorts.{at_index, held_at, own_ports_set}
@@ -37,6 +38,7 @@ returns-clause-turns g c = λ was at_was.
     let S : Result Stepped NoMemory → Type 0 = λ r. IfOk r (λ stepped. stepped ≡ Quiet → c.step.new.held.ports.items ≡ held.ports.items) in
     let C : Result Stepped NoMemory → Type 0 = λ r. IfOk r (λ stepped. stepped ≡ Quiet
     → (g.O.Office.seen c.step.new.office ≡ g.O.Office.seen c.args.office.now) × (g.P.Ports.faults c.step.new.table.ports ≡ g.P.Ports.faults c.args.table.now.ports)) in
+    let E : Result Stepped NoMemory → Type 0 = λ r. IfOk r (λ stepped. (said : Note) → stepped ≡ Ended said → c.step.new.held.ports.items ≡ held.ports.items) in
     let T : Result Stepped NoMemory → Type 0 = λ r. IfOk r (λ stepped. stepped ≡ Quiet
     → (s : Held) → IsHeld g.P.P.Port.most c.args.table.now.table held s → IsHeld g.P.P.Port.most c.step.new.table.table c.step.new.held s) in (
       c.step.new.held,
@@ -46,6 +48,8 @@ returns-clause-turns g c = λ was at_was.
         others = does.others;
         stays = λ is. subst S is does.stays refl;
         calm = λ is. subst C is does.calm refl;
+        few = does.few;
+        ends = λ said is. subst E is does.ends said refl;
         still = λ is. subst T is does.still refl;
         gives = does.gives;
       },
