@@ -30,14 +30,16 @@ use Rattle.mq_actor.specs.Passing.{Tried, TellsSame, PassedOver}
 use Rattle.mq_actor.specs.Seats.{OffersWait, Accepts, Takes}
 use Rattle.mq_actor.specs.Seen.{Words, Moment, SeesConn, SeesOffer, SeesRing}
 use Rattle.mq_actor.specs.Steps.{sight, AllCounted}
-use Rattle.mq_actor.proofs.Between.{get_append, get_last, at_held, held_length, held_pushed, held_refilled, offered_at, offered_none, sees_at, apart_of}
-use Rattle.mq_actor.proofs.Between.{numbers_passed, stands_passed, told_so_far, over_so_far, offers_so_far, vain_so_far}
+use Rattle.mq_actor.proofs.Between.{get_append, get_last, held_refilled, offered_at, offered_none, sees_at, apart_of}
+use Rattle.mq_actor.proofs.Helds.{at_held, held_length, held_pushed}
+use Rattle.mq_actor.proofs.Between.{numbers_passed, told_so_far, over_so_far, offers_so_far, vain_so_far}
 use Rattle.mq_actor.proofs.Cores.{AreApart, cores_of}
 use Rattle.mq_actor.proofs.Going.{udp_tunnels}
 use Rattle.mq_actor.proofs.InRing.{Precedes, at_all, all_at}
 use Rattle.mq_actor.proofs.Lists.{map_get}
 use Rattle.mq_actor.proofs.Others.{set_length, popped_none, AreForUdp, none_for_ip, cores_refilled, cores_pushed, told_refilled, told_pushed}
 use Rattle.mq_actor.proofs.Others.{was_box, boxes_told, relinked, ports_pushed, numbers_moved, offered_first, offered_refilled}
+use Rattle.mq_actor.proofs.Passings.{held_passed}
 use Rattle.mq_actor.proofs.Refilled.{refill, refilled, reoffered, refills, conns_told, offers_told, faults_refilled}
 use Rattle.mq_actor.proofs.SoFar.{Vain, SoFar, Covers}
 use Rattle.mq_actor.proofs.Tunnels.{known_same, known_accepted}
@@ -132,7 +134,7 @@ module _ {L Q : Type 0} (words : Words L Q) (r m s : Ring L) (old mid : Moment L
       let R : List (HeldBy L) → Type 0 = λ hs. AreHeld words.most mid.table hs now.conns in
       subst R at_conns
       (held_refilled words.most mid.table o 0 idle mid.conns x.conns
-      (stands_passed words old mid tried x.conns so.passed (subst P (sym so.starts) is.conns)))
+      (held_passed words old mid tried x.conns so.passed (subst P (sym so.starts) is.conns)))
 
   actors_now : All (λ (h : Held). h.conn.actor ≡ x.id) now.conns
   actors_now = all_at (λ (h : Held). h.conn.actor ≡ x.id) now.conns (λ i h at. one i h (map_get (refilled o 0 idle) x.conns i h at)) where

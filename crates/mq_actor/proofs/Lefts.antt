@@ -7,7 +7,8 @@ use Rattle.mq_machine.specs.Acting.{Outside, ConnsTold}
 use Rattle.mq_held.specs.declared.held.Held.{Held as HeldBy}
 use Rattle.mq_actor.specs.declared.offer.Offer.{Offer as OfferBy}
 use Rattle.mq_actor.specs.Holds.{AreHeld, AreDistinct, numbers_of}
-use Rattle.mq_actor.proofs.Between.{held_from, numbers_same, get_append}
+use Rattle.mq_actor.proofs.Between.{numbers_same, get_append}
+use Rattle.mq_actor.proofs.Helds.{held_from}
 use Rattle.mq_actor.proofs.InRing.{all_at}
 use Rattle.mq_actor.proofs.Lists.{get_map, get_set_same, get_set_other, get_removed, map_remove}
 use Rattle.mq_actor.proofs.Neighbours.{Fine}

@@ -1,3 +1,4 @@
+pub mod Helds
 pub mod Fronts
 pub mod Books
 pub mod Cores

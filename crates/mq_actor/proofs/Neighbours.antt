@@ -14,7 +14,8 @@ use Rattle.mq_actor.specs.Holds.{IsWorker, HaveOwnPorts}
 use Rattle.mq_actor.specs.Passing.{Tried, TellsSame}
 use Rattle.mq_actor.specs.Seen.{Words, Moment, SeesConn, SeesRing}
 use Rattle.mq_actor.specs.Steps.{AllCounted}
-use Rattle.mq_actor.proofs.Between.{At, place as placed, apart_of, held_length}
+use Rattle.mq_actor.proofs.Between.{At, place as placed, apart_of}
+use Rattle.mq_actor.proofs.Helds.{held_length}
 use Rattle.mq_actor.proofs.InRing.{at_all}
 use Rattle.mq_actor.proofs.Lists.{map_get}
 use Rattle.mq_actor.proofs.OwnPorts.{ports_stay, held_stays, stay_back, stay_seen}

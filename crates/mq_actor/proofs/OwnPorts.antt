@@ -18,6 +18,7 @@ use Rattle.mq_step.specs.Sights.{SeesPort}
 use Rattle.mq_actor.specs.Holds.{AreHeld, AreOthers, HaveOwnPorts}
 use Rattle.mq_actor.specs.Seen.{Words, SeesConn}
 use Rattle.mq_actor.specs.Passing.{PortsStay}
+use Rattle.mq_actor.proofs.Helds.{held_at}
 use Rattle.mq_actor.proofs.InRing.{all_at, at_all}
 use Rattle.mq_actor.proofs.Lists.{get_set_same, get_set_other, get_removed}
 
@@ -28,34 +29,6 @@ pub at_index : {A : Type 0} (xs : List A) (i : ℕ) (x : A) → i < length xs �
 at_index [] i x less is = absurd (omega (arith, less))
 at_index {A} (y ∷ xs) zero x less is = ap {B = Option A} (λ (z : A). Some z) (sym is)
 at_index (y ∷ xs) (suc i) x less is = let below : i < length xs = omega (arith, less) in at_index xs i x below is
-
--- the state of the connection at a place
-pub held_at : {L Q : Type 0} (most : Q → ℕ) (table : Slab Q) (hs : List (HeldBy L)) (ss : List Held) → AreHeld most table hs ss → (i : ℕ) (h : HeldBy L)
-    → slice_get hs i ≡ Some h → (s : Held) × (slice_get ss i ≡ Some s) × IsHeld most table h s
-held_at most table [] ss are i h at = absurd cc
-held_at most table (x ∷ hs) [] are i h at = absurd are
-held_at {L} most table (x ∷ hs) (s ∷ ss) are zero h at =
-    let e : x ≡ h = cc in
-    let P : HeldBy L → Type 0 = λ y. IsHeld most table y s in
-    (s, refl, subst P e are.0)
-held_at most table (x ∷ hs) (s ∷ ss) are (suc i) h at = held_at most table hs ss are.1 i h at
-
--- there is a state for each connection
-pub held_length : {L Q : Type 0} (most : Q → ℕ) (table : Slab Q) (hs : List (HeldBy L)) (ss : List Held) → AreHeld most table hs ss → length hs ≡ length ss
-held_length most table [] [] are = refl
-held_length most table [] (s ∷ ss) are = absurd are
-held_length most table (x ∷ hs) [] are = absurd are
-held_length most table (x ∷ hs) (s ∷ ss) are = ap (λ (k : ℕ). suc k) (held_length most table hs ss are.1)
-
--- connections that stand for the state at their place
-pub at_held : {L Q : Type 0} (most : Q → ℕ) (table : Slab Q) (hs : List (HeldBy L)) (ss : List Held) → length hs ≡ length ss
-    → ((i : ℕ) (h : HeldBy L) (s : Held) → slice_get hs i ≡ Some h → slice_get ss i ≡ Some s → IsHeld most table h s) → AreHeld most table hs ss
-at_held most table [] [] same each = tt
-at_held most table [] (s ∷ ss) same each = absurd cc
-at_held most table (x ∷ hs) [] same each = absurd cc
-at_held most table (x ∷ hs) (s ∷ ss) same each =
-    let fewer : length hs ≡ length ss = omega (arith, same) in
-    (each 0 x s refl refl, at_held most table hs ss fewer (λ i h t at_h at_t. each (suc i) h t at_h at_t))
 
 -- ---- the keys of a connection
 
@@ -281,7 +254,7 @@ own_ports_set {L} most table after hs ss place was now held own at_was keeps = �
 
       beside : (j : ℕ) (b : HeldBy L) → place ≢ j → slice_get hs j ≡ Some b → AreOthers now b
       beside j b ne at =
-          let s = held_at most table hs ss held j b at in
+          let s = held_at most table hs ss j b held at in
           others_stay most table after was now b s.0 keeps (own place j was b ne at_was at) s.2
 
       by_cases : (i j : ℕ) (a b : HeldBy L) → i ≢ j → Stood i a → Stood j b → AreOthers a b

@@ -27,8 +27,9 @@ use Rattle.mq_actor.specs.Seen.{Words, Moment, SeesConn}
 use Rattle.mq_actor.specs.Holds.{AreHeld, HaveOwnPorts}
 use Rattle.mq_actor.specs.Passing.{Tried, TellsSame, PassedOver, PortsStay, PassedAt, Passed, Acts, AreKnown}
 use Rattle.mq_actor.proofs.InRing.{all_at, at_all}
+use Rattle.mq_actor.proofs.Helds.{held_at, held_length, held_from}
 use Rattle.mq_actor.proofs.Lists.{get_map, get_set_same, get_set_other}
-use Rattle.mq_actor.proofs.OwnPorts.{held_at, held_length, at_held, all_stay, stay_twice, stay_back, stay_held, stay_seen, ports_stay}
+use Rattle.mq_actor.proofs.OwnPorts.{all_stay, stay_twice, stay_back, stay_held, stay_seen, ports_stay}
 
 -- ---- who sees a connection alone
 
@@ -207,14 +208,14 @@ there_is (x ∷ xs) (suc i) less = let below : i < length xs = omega (arith, les
 pub held_passed : {L Q : Type 0} (words : Words L Q) (old new : Moment L Q) (tried : Tried) (ss : List Held) → Passed words old new tried
     → AreHeld words.most old.table old.conns ss → AreHeld words.most new.table new.conns ss
 held_passed {L} words old new tried ss p held =
-    at_held words.most new.table new.conns ss (p.size ∙ held_length words.most old.table old.conns ss held) each where
+    held_from words.most new.table new.conns ss (p.size ∙ held_length words.most old.table old.conns ss held) each where
       each : (i : ℕ) (h : HeldBy L) (s : Held) → slice_get new.conns i ≡ Some h → slice_get ss i ≡ Some s → IsHeld words.most new.table h s
       each i h s at_h at_s =
           let less = at_within new.conns i h at_h in
           let size = p.size in
           let was = there_is old.conns i (omega (arith, less, size)) in
           let x = p.at i was.0 was.1 in
-          let t = held_at words.most old.table old.conns ss held i was.0 was.1 in
+          let t = held_at words.most old.table old.conns ss i was.0 held was.1 in
           let one : Some x.now ≡ Some h = sym x.at ∙ at_h in
           let e : x.now ≡ h = cc in
           let two : Some t.0 ≡ Some s = sym t.1 ∙ at_s in
@@ -319,7 +320,7 @@ module _ {L Q : Type 0} (words : Words L Q) (setup : Setup) (old new : Moment L 
           let B : HeldBy L → Type 0 = λ x. PassedAt words old new here place x in
           subst A same (subst B e passed)
       by_case (inr ne) =
-          let s = held_at words.most old.table old.conns known.0 known.1 i h at_h in
+          let s = held_at words.most old.table old.conns known.0 i h known.1 at_h in
           let stay = ports_stay words.most old.table new.table was now h s.0 acts.others (own place i was h ne at_was at_h) s.2 in
           let P : List (HeldBy L) → Type 0 = λ hs. slice_get hs i ≡ Some h in
           untouched words old new here i h (subst P (sym conns) (get_set_other old.conns place i now ne ∙ at_h)) stay (λ is. ne (sym is))

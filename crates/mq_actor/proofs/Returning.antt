@@ -19,7 +19,7 @@ use Rattle.mq_actor.specs.Passing.{Tried, Passed, Stopped, PassGives, AreKnown, 
 use Rattle.mq_actor.specs.Seats.{OffersWait, Accepts, AcceptGives, Takes, InboxGives}
 use Rattle.mq_actor.specs.Seen.{Words, Moment, SeesRing}
 use Rattle.mq_actor.specs.Steps.{sight, AllCounted}
-use Rattle.mq_actor.proofs.Between.{apart_of, numbers_passed, stands_passed}
+use Rattle.mq_actor.proofs.Between.{apart_of, numbers_passed}
 use Rattle.mq_actor.proofs.Cores.{AreApart}
 use Rattle.mq_actor.proofs.Calm.{idle_gives, refused_gives, taken_gives, accepted_gives}
 use Rattle.mq_actor.proofs.Coming.{Own, own_untried, own_upper, own_lower, so_far, first_passed, lower_passed, all_passed, offers_waited}
@@ -27,7 +27,7 @@ use Rattle.mq_actor.proofs.InRing.{all_at, at_all}
 use Rattle.mq_actor.proofs.Lists.{found_at}
 use Rattle.mq_actor.proofs.Others.{numbers_moved}
 use Rattle.mq_actor.proofs.Outcomes.{acted_gives}
-use Rattle.mq_actor.proofs.Passings.{known_passed}
+use Rattle.mq_actor.proofs.Passings.{known_passed, held_passed}
 use Rattle.mq_actor.proofs.Sighted.{HaveOwnTunnels, sighted, own_tunnels, own_tunnels_pushed}
 use Rattle.mq_actor.proofs.Sights.{acted_seen}
 use Rattle.mq_actor.proofs.SoFar.{SoFar}
@@ -149,7 +149,7 @@ module _ {L Q : Type 0} (words : Words L Q) (self : Ring L) (old : Moment L Q) (
   stand_then : (mid : Moment L Q) (tried : Tried) (x : Worker) → Passed words old mid tried → IsWorker words.most old.table self x → AreHeld words.most mid.table mid.conns x.conns
   stand_then mid tried x passed is =
       let A : List (HeldBy L) → Type 0 = λ hs. AreHeld words.most old.table hs x.conns in
-      stands_passed words old mid tried x.conns passed (subst A (sym starts) is.conns)
+      held_passed words old mid tried x.conns passed (subst A (sym starts) is.conns)
 
   tunnels_then : (mid : Moment L Q) (tried : Tried) (o : Outside) (x : Worker) → Passed words old mid tried → IsWorker words.most old.table self x → Known (sight o old.seen boxes) x
       → HaveOwnTunnels mid.conns

@@ -28,7 +28,7 @@ use Rattle.mq_actor.proofs.Books.{open_once}
 use Rattle.mq_actor.proofs.Cores.{AreApart}
 use Rattle.mq_actor.proofs.InRing.{all_at, at_all}
 use Rattle.mq_actor.proofs.Lists.{found_at, get_map, get_pushed, get_removed, map_get}
-use Rattle.mq_actor.proofs.OwnPorts.{held_at}
+use Rattle.mq_actor.proofs.Helds.{held_at}
 use Rattle.mq_actor.proofs.Pointwise.{within}
 
 -- ---- the outside
@@ -294,7 +294,7 @@ port_tunnel (Some why) tunnels ports (inr same) a p at = tunnel_same tunnels por
 pub own_tunnels : {L Q : Type 0} (most : Q → ℕ) (table : Slab Q) (hs : List (HeldBy L)) (x : Worker) (o : Outside) (seen : Seen) (boxes : Option Boxes)
     → AreHeld most table hs x.conns → AreApart x.conns → Known (sight o seen boxes) x → HaveOwnTunnels hs
 own_tunnels {L} most table hs x o seen boxes are apart known = λ i j a b g h u v at_g at_h at_u at_v same.
-    by_places i j a b g h u v at_u at_v same (held_at most table hs x.conns are i g at_g) (held_at most table hs x.conns are j h at_h) where
+    by_places i j a b g h u v at_u at_v same (held_at most table hs x.conns i g are at_g) (held_at most table hs x.conns j h are at_h) where
       At : ℕ → HeldBy L → Type 0
       At i g = (s : Held) × (slice_get x.conns i ≡ Some s) × IsHeld most table g s
 

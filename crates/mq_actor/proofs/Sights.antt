@@ -29,12 +29,13 @@ use Rattle.mq_actor.specs.Seen.{Words, Moment, SeesRing}
 use Rattle.mq_actor.specs.Steps.{AllCounted, sight}
 use Rattle.mq_actor.proofs.Acted.{mapped_some, mapped_none}
 use Rattle.mq_actor.proofs.Apart.{tunnel_of_seat, goes_apart}
-use Rattle.mq_actor.proofs.Between.{apart_of, held_at, numbers_passed, stands_passed}
+use Rattle.mq_actor.proofs.Between.{apart_of, numbers_passed}
+use Rattle.mq_actor.proofs.Helds.{held_at}
 use Rattle.mq_actor.proofs.Cores.{AreApart}
 use Rattle.mq_actor.proofs.Going.{try_leaves, try_ends, starved_goes}
 use Rattle.mq_actor.proofs.Lefts.{numbers_set, numbers_removed, number_freed}
 use Rattle.mq_actor.proofs.Neighbours.{Here, here}
-use Rattle.mq_actor.proofs.Passings.{sight as lone_sight, sight_whole}
+use Rattle.mq_actor.proofs.Passings.{sight as lone_sight, sight_whole, held_passed}
 use Rattle.mq_actor.proofs.Pointwise.{within}
 use Rattle.mq_actor.proofs.Refilled.{prepared_core}
 use Rattle.mq_actor.proofs.Sighted.{HaveOwnTunnels, sighted, sighted_ended, own_tunnels, own_tunnels_set, own_tunnels_removed}
@@ -57,7 +58,7 @@ module _ {L Q : Type 0} (words : Words L Q) (r m : Ring L) (old mid new : Moment
   stand : AreHeld words.most mid.table mid.conns x.conns
   stand =
       let A : List (HeldBy L) → Type 0 = λ hs. AreHeld words.most old.table hs x.conns in
-      stands_passed words old mid tried x.conns so.passed (subst A (sym so.starts) is.conns)
+      held_passed words old mid tried x.conns so.passed (subst A (sym so.starts) is.conns)
 
   own : HaveOwnTunnels mid.conns
   own = own_tunnels words.most mid.table mid.conns x o old.seen boxes stand apart known

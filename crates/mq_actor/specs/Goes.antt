@@ -28,15 +28,21 @@ pub record Opens (old : Conn) (sh : Shared) (tunnels : List Tunnel) (after : Sha
   pub stream : ℕ
   pub goal : Goal
   pub routes : List Range
-  pub tunnels_are : shapes_of tunnels ≡ shapes_of old.tunnels ++ record { id = length sh.book; stream = stream; goal = goal } ∷ []
-  pub book : after.book ≡ sh.book ++ record { actor = old.actor; call = call.Open old.number stream old.actor goal; reply = reply.Opened (length sh.book) routes } ∷ []
+  pub tunnels_are : shapes_of tunnels
+      ≡ shapes_of old.tunnels ++ record { id = length sh.book; stream = stream; goal = goal } ∷ []
+  pub book : after.book ≡ sh.book ++ record {
+    actor = old.actor;
+    call = call.Open old.number stream old.actor goal;
+    reply = reply.Opened (length sh.book) routes;
+  } ∷ []
 
 -- one of its tunnels closed
 pub record Closes (old : Conn) (sh : Shared) (tunnels : List Tunnel) (after : Shared) : Type 0 where
   pub closed : Tunnel
   pub has : Contains old.tunnels closed
   pub tunnels_are : shapes_of tunnels ≡ filter (λ (x : Shape). not (x.id == closed.id)) (shapes_of old.tunnels)
-  pub book : after.book ≡ sh.book ++ record { actor = old.actor; call = call.Close closed.id; reply = reply.Closed } ∷ []
+  pub book : after.book
+      ≡ sh.book ++ record { actor = old.actor; call = call.Close closed.id; reply = reply.Closed } ∷ []
 
 -- of a connection with these tunnels then
 abbrev pub Goes : Conn → Shared → List Tunnel → Shared → Type 0

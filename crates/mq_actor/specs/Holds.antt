@@ -32,7 +32,8 @@ pub record AreOthers {L : Type 0} (a b : HeldBy L) : Type 0 where
   pub bound : MatchOption b.bound ⊤ (λ key. IsOther a.ports.items a.bound key)
 
 abbrev pub HaveOwnPorts : {L : Type 0} → List (HeldBy L) → Type 0
-HaveOwnPorts {L} hs = (i j : ℕ) (a b : HeldBy L) → i ≢ j → slice_get hs i ≡ Some a → slice_get hs j ≡ Some b → AreOthers a b
+HaveOwnPorts {L} hs =
+    (i j : ℕ) (a b : HeldBy L) → i ≢ j → slice_get hs i ≡ Some a → slice_get hs j ≡ Some b → AreOthers a b
 
 -- the numbers of its connections and offered links
 abbrev pub numbers_of : {L : Type 0} → List (HeldBy L) → List (OfferBy L) → List ℕ

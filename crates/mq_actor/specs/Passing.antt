@@ -52,56 +52,69 @@ abbrev pub Tried : Type 1
 Tried = (place number : ℕ) → Type 0
 
 -- the connection at this place was passed over where it was tried, and else it is as it was
-pub record PassedAt {L Q : Type 0} (words : Words L Q) (old new : Moment L Q) (tried : Tried) (place : ℕ) (h : HeldBy L) : Type 0 where
+pub record PassedAt {L Q : Type 0} (words : Words L Q) (old new : Moment L Q) (tried : Tried) (place : ℕ)
+    (h : HeldBy L) : Type 0 where
   pub now : HeldBy L
   pub at : slice_get new.conns place ≡ Some now
   pub number : now.number ≡ h.number
   pub stands : (s : Held) → IsHeld words.most old.table h s → IsHeld words.most new.table now s
-  pub told : (o n : Outside) → SeesConn words old.table h o → SeesConn words new.table now n → (s : Held) → IsHeld words.most old.table h s → AreCounted s.ports
-      → TellsSame o n s
-  pub over : tried place h.number → (o n : Outside) → SeesConn words old.table h o → SeesConn words new.table now n
+  pub told : (o n : Outside) → SeesConn words old.table h o → SeesConn words new.table now n
+      → (s : Held) → IsHeld words.most old.table h s → AreCounted s.ports → TellsSame o n s
+  pub over : tried place h.number
+      → (o n : Outside) → SeesConn words old.table h o → SeesConn words new.table now n
       → (s : Held) → IsHeld words.most old.table h s → AreCounted s.ports → PassedOver o n s
   pub still : (tried place h.number → ⊥) → (now ≡ h) × PortsStay old.table new.table h
 
 pub record Passed {L Q : Type 0} (words : Words L Q) (old new : Moment L Q) (tried : Tried) : Type 0 where
   pub size : length new.conns ≡ length old.conns
-  pub at : (place : ℕ) (h : HeldBy L) → slice_get old.conns place ≡ Some h → PassedAt words old new tried place h
+  pub at : (place : ℕ) (h : HeldBy L) → slice_get old.conns place ≡ Some h
+      → PassedAt words old new tried place h
   pub seen : new.seen ≡ old.seen
   pub faults : new.faults ≡ old.faults
 
 -- ---- one that acted
 
 -- this connection had its turn, and became `now`
-pub record Acts {L Q : Type 0} (words : Words L Q) (setup : Setup) (old new : Moment L Q) (stepped : Result Stepped NoMemory) (was now : HeldBy L) : Type 0 where
+pub record Acts {L Q : Type 0} (words : Words L Q) (setup : Setup) (old new : Moment L Q)
+    (stepped : Result Stepped NoMemory) (was now : HeldBy L) : Type 0 where
   pub number : now.number ≡ was.number
   pub others : KeepsOthers was now old.table new.table
   pub stays : stepped ≡ Ok Quiet → now.ports.items ≡ was.ports.items
   pub calm : stepped ≡ Ok Quiet → (new.seen ≡ old.seen) × (new.faults ≡ old.faults)
   pub few : length now.ports.items ≤ 1
   pub ends : (said : Note) → stepped ≡ Ok (Ended said) → now.ports.items ≡ was.ports.items
-  pub still : stepped ≡ Ok Quiet → (s : Held) → IsHeld words.most old.table was s → IsHeld words.most new.table now s
-  pub gives : (o n : Outside) → Sees words.link words.link_counts words.port words.port_counts old.faults old.table was o
+  pub still : stepped ≡ Ok Quiet
+      → (s : Held) → IsHeld words.most old.table was s → IsHeld words.most new.table now s
+  pub gives : (o n : Outside)
+      → Sees words.link words.link_counts words.port words.port_counts old.faults old.table was o
       → Sees words.link words.link_counts words.port words.port_counts new.faults new.table now n
       → (s : Held) → IsHeld words.most old.table was s → AreCounted s.ports
       → Gives setup tries_of Anything o n old.seen new.seen (IsHeld words.most new.table now) s stepped
 
 -- How it leaves the ring: one that is over is no longer in it. The next search begins behind its seat.
-abbrev pub LeavesRing : {L : Type 0} → ℕ → HeldBy L → HeldBy L → List (HeldBy L) → Ring L → Ring L → Result Stepped NoMemory → Result (Option Note) NoMemory → Type 0
+abbrev pub LeavesRing : {L : Type 0} → ℕ → HeldBy L → HeldBy L → List (HeldBy L) → Ring L → Ring L
+    → Result Stepped NoMemory → Result (Option Note) NoMemory → Type 0
 LeavesRing place was now conns r s (Ok (Did note)) result =
-    (result ≡ Ok (Some note)) × (s.conns.items ≡ slice_set conns place now) × (s ≡ record r { conns = s.conns; rooms = s.rooms; next_seat = was.number + 3 })
+    (result ≡ Ok (Some note)) × (s.conns.items ≡ slice_set conns place now)
+    × (s ≡ record r { conns = s.conns; rooms = s.rooms; next_seat = was.number + 3 })
 LeavesRing place was now conns r s (Ok (Ended note)) result =
     (result ≡ Ok (Some note)) × (s.conns.items ≡ remove conns place)
     × (s ≡ record r { conns = s.conns; rooms = s.rooms; next_seat = was.number + 3; ended = Some now })
 LeavesRing place was now conns r s (Ok Quiet) result = ⊥
-LeavesRing place was now conns r s (Err refused) result = (result ≡ Err refused) × (s.conns.items ≡ slice_set conns place now) × (s ≡ record r { conns = s.conns; rooms = s.rooms })
+LeavesRing place was now conns r s (Err refused) result =
+    (result ≡ Err refused) × (s.conns.items ≡ slice_set conns place now)
+    × (s ≡ record r { conns = s.conns; rooms = s.rooms })
 
 -- the connection at a place had its turn, and the list has what it became
-abbrev pub TurnsAt : {L Q : Type 0} → Words L Q → Setup → ℕ → Moment L Q → Moment L Q → Result Stepped NoMemory → Type 0
+abbrev pub TurnsAt : {L Q : Type 0} → Words L Q → Setup → ℕ → Moment L Q → Moment L Q → Result Stepped NoMemory
+    → Type 0
 TurnsAt {L} words setup place old new stepped =
-    (was : HeldBy L) → slice_get old.conns place ≡ Some was → (now : HeldBy L) × (new.conns ≡ slice_set old.conns place now) × Acts words setup old new stepped was now
+    (was : HeldBy L) → slice_get old.conns place ≡ Some was
+    → (now : HeldBy L) × (new.conns ≡ slice_set old.conns place now) × Acts words setup old new stepped was now
 
 -- The connection at this place, whose seat is in this part of the ring, acted.
-pub record Acted {L Q : Type 0} (words : Words L Q) (upper : Bool) (place : ℕ) (r s : Ring L) (old new : Moment L Q) (result : Result (Option Note) NoMemory) : Type 0 where
+pub record Acted {L Q : Type 0} (words : Words L Q) (upper : Bool) (place : ℕ) (r s : Ring L) (old new : Moment L Q)
+    (result : Result (Option Note) NoMemory) : Type 0 where
   pub stepped : Result Stepped NoMemory
   pub was : HeldBy L
   pub now : HeldBy L
@@ -111,14 +124,17 @@ pub record Acted {L Q : Type 0} (words : Words L Q) (upper : Bool) (place : ℕ)
   pub leaves : LeavesRing place was now old.conns r s stepped result
 
 -- what the turn of the connection at a place gives
-abbrev pub TryGives : {L Q : Type 0} → Words L Q → Bool → ℕ → Ring L → Ring L → Moment L Q → Moment L Q → Result (Option Note) NoMemory → Type 0
+abbrev pub TryGives : {L Q : Type 0} → Words L Q → Bool → ℕ → Ring L → Ring L → Moment L Q → Moment L Q
+    → Result (Option Note) NoMemory → Type 0
 TryGives words upper place r s old new (Ok None) =
-    Passed words old new (λ i number. (i ≡ place) × InPart upper r.next_seat number) × (s ≡ record r { conns = s.conns; rooms = s.rooms })
+    Passed words old new (λ i number. (i ≡ place) × InPart upper r.next_seat number)
+    × (s ≡ record r { conns = s.conns; rooms = s.rooms })
 TryGives words upper place r s old new (Ok (Some note)) = Acted words upper place r s old new (Ok (Some note))
 TryGives words upper place r s old new (Err refused) = Acted words upper place r s old new (Err refused)
 
 -- Those before it were passed over, and the connection at this place acted.
-pub record Stopped {L Q : Type 0} (words : Words L Q) (upper : Bool) (r s : Ring L) (old new : Moment L Q) (result : Result (Option Note) NoMemory) : Type 0 where
+pub record Stopped {L Q : Type 0} (words : Words L Q) (upper : Bool) (r s : Ring L) (old new : Moment L Q)
+    (result : Result (Option Note) NoMemory) : Type 0 where
   pub mid : Moment L Q
   pub place : ℕ
   pub passed : Passed words old mid (λ i number. (i < place) × InPart upper r.next_seat number)
@@ -126,12 +142,15 @@ pub record Stopped {L Q : Type 0} (words : Words L Q) (upper : Bool) (r s : Ring
   pub acted : Acted words upper place r s mid new result
 
 -- what the turns of a part's connections give
-abbrev pub PassGives : {L Q : Type 0} → Words L Q → Bool → Ring L → Ring L → Moment L Q → Moment L Q → Result (Option Note) NoMemory → Type 0
+abbrev pub PassGives : {L Q : Type 0} → Words L Q → Bool → Ring L → Ring L → Moment L Q → Moment L Q
+    → Result (Option Note) NoMemory → Type 0
 PassGives words upper r s old new (Ok None) =
-    Passed words old new (λ i number. InPart upper r.next_seat number) × (s ≡ record r { conns = s.conns; rooms = s.rooms })
+    Passed words old new (λ i number. InPart upper r.next_seat number)
+    × (s ≡ record r { conns = s.conns; rooms = s.rooms })
 PassGives words upper r s old new (Ok (Some note)) = Stopped words upper r s old new (Ok (Some note))
 PassGives words upper r s old new (Err refused) = Stopped words upper r s old new (Err refused)
 
 -- its connections stand for some state, and what the office has seen knows their tunnels
 abbrev pub AreKnown : {L Q : Type 0} → Words L Q → Moment L Q → Type 0
-AreKnown words m = (ss : List Held) × AreHeld words.most m.table m.conns ss × All (λ s. IsKnown m.seen m.seen.actor s) ss
+AreKnown words m =
+    (ss : List Held) × AreHeld words.most m.table m.conns ss × All (λ s. IsKnown m.seen m.seen.actor s) ss

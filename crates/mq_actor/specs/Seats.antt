@@ -21,8 +21,8 @@ use Rattle.mq_actor.specs.Passing.{is_in_part}
 abbrev pub OffersWait : {L : Type 0} → Ring L → Type 0
 OffersWait r = (r.offered.items ≡ []) ⊎ (most_live ≤ length r.conns.items)
 
--- The link that was offered first is a connection now, of which nothing was read: it is the last of the connections, and the next
--- search begins behind the seat of the offered links.
+-- The link that was offered first is a connection now, of which nothing was read: it is the last of the connections,
+-- and the next search begins behind the seat of the offered links.
 pub record Accepts {L : Type 0} (r s : Ring L) (said : Note) : Type 0 where
   pub first : OfferBy L
   pub others : List (OfferBy L)
@@ -44,7 +44,8 @@ abbrev pub NextOffer : {L : Type 0} → Bool → Ring L → Option ℕ → Type 
 NextOffer upper r None = is_in_part upper r.next_seat 0 ≡ true → OffersWait r
 NextOffer {L} upper r (Some number) =
     (is_in_part upper r.next_seat 0 ≡ true) × (length r.conns.items + 1 ≤ most_live)
-    × (first : OfferBy L) × (others : List (OfferBy L)) × (r.offered.items ≡ first ∷ others) × (first.number ≡ number)
+    × (first : OfferBy L) × (others : List (OfferBy L)) × (r.offered.items ≡ first ∷ others)
+    × (first.number ≡ number)
 
 -- the first offered link is a connection now, with this core
 pub record TakesIn {L : Type 0} (conn : Core) (r s : Ring L) : Type 0 where
@@ -59,25 +60,30 @@ pub record TakesIn {L : Type 0} (conn : Core) (r s : Ring L) : Type 0 where
   pub conns : s.conns.items ≡ r.conns.items ++ held ∷ []
   pub rest : s ≡ record r { offered = s.offered; conns = s.conns; next_seat = 1 }
 
--- What the turn of the offered links gives, where their seat is in this part of the ring. Where memory is refused, the link stays
--- offered.
+-- What the turn of the offered links gives, where their seat is in this part of the ring. Where memory is refused, the
+-- link stays offered.
 abbrev pub AcceptGives : {L : Type 0} → Bool → Ring L → Ring L → Result (Option Note) NoMemory → Type 0
 AcceptGives upper r s (Ok None) = (s ≡ r) × (is_in_part upper r.next_seat 0 ≡ true → OffersWait r)
 AcceptGives upper r s (Ok (Some said)) = (is_in_part upper r.next_seat 0 ≡ true) × Accepts r s said
 AcceptGives upper r s (Err refused) =
-    (is_in_part upper r.next_seat 0 ≡ true) × (OffersWait r → ⊥) × (s.conns.items ≡ r.conns.items) × (s ≡ record r { conns = s.conns })
+    (is_in_part upper r.next_seat 0 ≡ true) × (OffersWait r → ⊥) × (s.conns.items ≡ r.conns.items)
+    × (s ≡ record r { conns = s.conns })
 
 -- ---- the inbox
 
 -- The parcel at the front of the inbox was taken. Tunnels for UDP take none, so that it is dropped.
-pub record Takes {L : Type 0} (count : ℕ) (old : Option Boxes) (id : ℕ) (r s : Ring L) (said : Note) (new : Option Boxes) : Type 0 where
+pub record Takes {L : Type 0} (count : ℕ) (old : Option Boxes) (id : ℕ) (r s : Ring L) (said : Note)
+    (new : Option Boxes) : Type 0 where
   pub parcel : Parcel
   pub pops : PopGives count old id (Some parcel) new
   pub said_is : said ≡ note.Dropped (source_of parcel.from) parcel.n cause.Gone
   pub rest : s ≡ record r { next_seat = 2 }
 
 -- what its turn gives, where its seat is in this part of the ring
-abbrev pub InboxGives : {L : Type 0} → ℕ → Option Boxes → ℕ → Bool → Ring L → Ring L → Option Note → Option Boxes → Type 0
+abbrev pub InboxGives : {L : Type 0} → ℕ → Option Boxes → ℕ → Bool → Ring L → Ring L → Option Note → Option Boxes
+    → Type 0
 InboxGives count old id upper r s None new =
-    (s ≡ r) × (is_in_part upper r.next_seat 1 ≡ true → PopGives count old id None new) × (is_in_part upper r.next_seat 1 ≡ false → new ≡ old)
-InboxGives count old id upper r s (Some said) new = (is_in_part upper r.next_seat 1 ≡ true) × Takes count old id r s said new
+    (s ≡ r) × (is_in_part upper r.next_seat 1 ≡ true → PopGives count old id None new)
+    × (is_in_part upper r.next_seat 1 ≡ false → new ≡ old)
+InboxGives count old id upper r s (Some said) new =
+    (is_in_part upper r.next_seat 1 ≡ true) × Takes count old id r s said new

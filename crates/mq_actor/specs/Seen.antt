@@ -36,7 +36,8 @@ abbrev pub SeesOffer : {L Q : Type 0} → Words L Q → Outside → OfferBy L �
 SeesOffer words o f = o.link f.number ≡ words.link f.link
 
 -- and that of all connections and offered links, and of the connection that the last step ended
-pub record SeesRing {L Q : Type 0} (words : Words L Q) (table : Slab Q) (faults : ℕ) (r : Ring L) (o : Outside) : Type 0 where
+pub record SeesRing {L Q : Type 0} (words : Words L Q) (table : Slab Q) (faults : ℕ) (r : Ring L) (o : Outside)
+    : Type 0 where
   pub conns : All (λ h. SeesConn words table h o) r.conns.items
   pub offers : All (SeesOffer words o) r.offered.items
   pub ended : MatchOption r.ended ⊤ (λ h. SeesConn words table h o)

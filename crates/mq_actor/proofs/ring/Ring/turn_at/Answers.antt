@@ -7,8 +7,9 @@ use Rattle.mq_held.specs.declared.held.Held.{Held as HeldBy}
 use Rattle.mq_step.specs.declared.stepped.Stepped.{Stepped}
 use Rattle.mq_step.specs.declared.stepped.Stepped.TheVariants.{Quiet, Ended}
 use Rattle.mq_step.specs.Holds.{IsHeld, IsKnown}
+use Rattle.mq_actor.proofs.Helds.{held_at}
 use Rattle.mq_actor.proofs.InRing.{at_all}
-use Rattle.mq_actor.proofs.OwnPorts.{at_index, held_at, own_ports_set}
+use Rattle.mq_actor.proofs.OwnPorts.{at_index, own_ports_set}
 use Rattle.mq_actor.proofs.Passings.{same_acts}
 use Rattle.mq_actor.proofs.ring.Ring.turn_at.Goals as goal
 
@@ -22,7 +23,7 @@ step-requires-clause-known g c =
     let len : vec_len c.args.self.now.conns ≡ length conns = search rules in
     let place = c.requires.place in
     let at : slice_get conns c.args.place ≡ Some held = at_index conns c.args.place held (omega (arith, len, place)) c.index_mut-held.ensures.value in
-    let s = held_at g.P.P.Port.most table conns k.0 k.1 c.args.place held at in
+    let s = held_at g.P.P.Port.most table conns k.0 c.args.place held k.1 at in
     (s.0, s.2, at_all (λ (x : Held). IsKnown seen seen.actor x) k.0 k.2 c.args.place s.0 s.1)
 
 pub returns-clause-turns : goal.returns-clause-turns
