@@ -49,6 +49,7 @@ impl<L: Drop> Ring<L> {
     /// Accepts the oldest offered link, while fewer than 32 connections are live, where the seat of the offered links is in this
     /// part of the ring. Where memory is refused, the link stays offered.
     pub(crate) fn accept(&mut self, alloc: Global, upper: bool) -> Result<Option<Note>, NoMemory>
+        ensures ring { (self.new.id ≡ self.old.id) × (self.new.setup ≡ self.old.setup) }
         ensures gives { AcceptGives upper self.old self.new result }
     {
         let Some(number) = self.next_offer(upper) else {

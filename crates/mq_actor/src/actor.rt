@@ -1,5 +1,5 @@
 //! A worker.
-ghost use Rattle.std.specs.Prelude.{◌≡◌, ◌≢◌, ◌+◌, None, IfOk, OnOk, IfErr, MatchOption, All, length};
+ghost use Rattle.std.specs.Prelude.{◌≡◌, ◌≢◌, ◌+◌, None, IfOk, OnOk, IfErr, MatchOption, All, [], length};
 ghost use Rattle.mq_addr.specs.declared.kind.Kind.TheVariants as kind;
 ghost use Rattle.mq_machine.specs.State as machine;
 ghost use Rattle.mq_machine.specs.Acting.{Outside, Known, Steps};
@@ -31,7 +31,8 @@ impl<L: Drop, P: Ports> Actor<L, P> {
     /// A worker without connections, with its number. Its template for UDP tunnels is one of that kind.
     pub fn new(alloc: Global, id: u32, setup: Setup, ports: P) -> Result<Actor<L, P>, NoMemory>
         requires { setup.udp.kind ≡ kind.Udp }
-        ensures { IfOk result (λ actor. IsWorker P.P.most actor.table.table actor.ring (new_worker id setup)) }
+        ensures stands { IfOk result (λ actor. IsWorker P.P.most actor.table.table actor.ring (new_worker id setup)) }
+        ensures empty { IfOk result (λ actor. (actor.alloc ≡ alloc) × (actor.ring.ended ≡ None) × (actor.table.table.slots ≡ []) × (actor.table.ports ≡ ports)) }
     {
         let ring = Ring::new(alloc, id, setup)?;
         Ok(Actor {
@@ -91,6 +92,7 @@ impl<L: WriteReady, P: Ports> Actor<L, P> {
             (sight o (O.seen office.old) (M.boxes mail.old)) (sight n (O.seen office.new) (M.boxes mail.new)) result }
         ensures stands { (o : Outside) (w : machine.Worker) → IsWorker P.P.most self.old.table.table self.old.ring w → AllCounted w → Known (sight o (O.seen office.old) (M.boxes mail.old)) w
             → (t : machine.Worker) × IsWorker P.P.most self.new.table.table self.new.ring t × Known (sight o (O.seen office.new) (M.boxes mail.new)) t }
+        ensures ring { (self.new.alloc ≡ self.old.alloc) × (self.new.ring.id ≡ self.old.ring.id) × (self.new.ring.setup ≡ self.old.ring.setup) }
         ensures office { (O.seen office.new).actor ≡ (O.seen office.old).actor }
         ensures mail { M.actor mail.new ≡ M.actor mail.old }
         ensures inboxes { M.count mail.new ≡ M.count mail.old }

@@ -60,6 +60,7 @@ impl<L: WriteReady> Ring<L> {
         requires rooms { HasRooms self.old.rooms }
         requires udp { self.old.setup.udp.kind ≡ kind.Udp }
         requires place { place < vec_len self.old.conns }
+        ensures ring { (self.new.id ≡ self.old.id) × (self.new.setup ≡ self.old.setup) }
         ensures gives { TryGives (record { most = P.P.most; link = L.holds; link_counts = L.counts; port = P.P.holds; port_counts = P.P.counts }) upper place self.old self.new (record { conns = self.old.conns.items; table = table.old.table; faults = P.faults table.old.ports; seen = O.seen office.old }) (record { conns = self.new.conns.items; table = table.new.table; faults = P.faults table.new.ports; seen = O.seen office.new }) result }
         ensures ports { HaveOwnPorts self.new.conns.items }
         ensures rooms { HasRooms self.new.rooms }

@@ -21,6 +21,7 @@ impl<L: Drop> Ring<L> {
     /// dropped.
     pub(crate) fn pop<M: Mail>(&mut self, upper: bool, mail: &mut M) -> Option<Note>
         ensures gives { InboxGives (M.count mail.old) (M.boxes mail.old) (M.actor mail.old) upper self.old self.new result (M.boxes mail.new) }
+        ensures ring { (self.new.id ≡ self.old.id) × (self.new.setup ≡ self.old.setup) }
         ensures actor { M.actor mail.new ≡ M.actor mail.old }
         ensures count { M.count mail.new ≡ M.count mail.old }
     {

@@ -1,5 +1,5 @@
 //! The seats of a worker.
-ghost use Rattle.std.specs.Prelude.{◌≡◌, ◌+◌, ◌++◌, ◌∷◌, [], length, IfOk, OnOk, IfErr};
+ghost use Rattle.std.specs.Prelude.{◌≡◌, ◌+◌, ◌++◌, ◌∷◌, [], None, length, IfOk, OnOk, IfErr};
 ghost use Rattle.mq_step.specs.Rooms.{HasRooms};
 ghost use Rattle.mq_actor.specs.Passing.{is_in_part};
 
@@ -34,7 +34,7 @@ pub struct Ring<L> {
 impl<L: Drop> Ring<L> {
     /// No connection is live, and no link is offered.
     pub(crate) fn new(alloc: Global, id: u32, setup: Setup) -> Result<Ring<L>, NoMemory>
-        ensures { IfOk result (λ ring. (ring.id ≡ id) × (ring.setup ≡ setup) × (ring.offered.items ≡ []) × (ring.conns.items ≡ []) × (ring.next_seat ≡ 0) × HasRooms ring.rooms) }
+        ensures { IfOk result (λ ring. (ring.id ≡ id) × (ring.setup ≡ setup) × (ring.offered.items ≡ []) × (ring.conns.items ≡ []) × (ring.next_seat ≡ 0) × (ring.ended ≡ None) × HasRooms ring.rooms) }
     {
         Ok(Ring {
             id,

@@ -37,6 +37,7 @@ impl<L: WriteReady> Ring<L> {
             (sight o (O.seen office.old) (M.boxes mail.old)) (sight n (O.seen office.new) (M.boxes mail.new)) result }
         ensures stands { (o : Outside) (w : Worker) → IsWorker P.P.most table.old.table self.old w → AllCounted w → Known (sight o (O.seen office.old) (M.boxes mail.old)) w
             → (t : Worker) × IsWorker P.P.most table.new.table self.new t × Known (sight o (O.seen office.new) (M.boxes mail.new)) t }
+        ensures ring { (self.new.id ≡ self.old.id) × (self.new.setup ≡ self.old.setup) }
         ensures office { (O.seen office.new).actor ≡ (O.seen office.old).actor }
         ensures mail { M.actor mail.new ≡ M.actor mail.old }
         ensures inboxes { M.count mail.new ≡ M.count mail.old }

@@ -14,6 +14,7 @@ returns g c =
     let number : t.first.number ≡ c.in-Some.number = ap (λ f. f.number) (sym same) ∙ e.5 in
     let P : Core → Type 0 = λ x. IsConn x (new_conn t.first.number c.args.self.now.id) in
     record {
+      ring = (ap (λ r. r.id) t.rest, ap (λ r. r.setup) t.rest);
       gives = (
         e.0,
         record {
