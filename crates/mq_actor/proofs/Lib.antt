@@ -38,3 +38,4 @@ pub mod Offering
 pub mod Apart
 pub mod Sighted
 pub mod Sights
+mod Leaving

@@ -5,3 +5,4 @@ pub mod Passing
 pub mod Seats
 pub mod Steps
 pub mod Around
+pub mod Ended

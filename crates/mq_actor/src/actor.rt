@@ -5,6 +5,7 @@ ghost use Rattle.mq_machine.specs.State as machine;
 ghost use Rattle.mq_machine.specs.Acting.{Outside, Known, Steps};
 ghost use Rattle.mq_ports.specs.Tables.{IsBalanced};
 ghost use Rattle.mq_actor.specs.Around.{new_worker, with_offer};
+ghost use Rattle.mq_actor.specs.Ended.{numbers_in, AreLeft};
 ghost use Rattle.mq_actor.specs.Holds.{IsWorker, numbers_of};
 ghost use Rattle.mq_actor.specs.Seen.{SeesRing};
 ghost use Rattle.mq_actor.specs.Steps.{sight, AllCounted};
@@ -93,6 +94,7 @@ impl<L: WriteReady, P: Ports> Actor<L, P> {
         ensures stands { (o : Outside) (w : machine.Worker) → IsWorker P.P.most self.old.table.table self.old.ring w → AllCounted w → Known (sight o (O.seen office.old) (M.boxes mail.old)) w
             → (t : machine.Worker) × IsWorker P.P.most self.new.table.table self.new.ring t × Known (sight o (O.seen office.new) (M.boxes mail.new)) t }
         ensures ring { (self.new.alloc ≡ self.old.alloc) × (self.new.ring.id ≡ self.old.ring.id) × (self.new.ring.setup ≡ self.old.ring.setup) }
+        ensures left { AreLeft (numbers_in self.old.ring) self.new.ring }
         ensures office { (O.seen office.new).actor ≡ (O.seen office.old).actor }
         ensures mail { M.actor mail.new ≡ M.actor mail.old }
         ensures inboxes { M.count mail.new ≡ M.count mail.old }

@@ -3,6 +3,7 @@ ghost use Rattle.std.specs.Prelude.{◌≡◌, ◌+◌};
 ghost use Rattle.mq_machine.specs.State.{Worker};
 ghost use Rattle.mq_machine.specs.Acting.{Outside, Known, Steps};
 ghost use Rattle.mq_ports.specs.Tables.{IsBalanced};
+ghost use Rattle.mq_actor.specs.Ended.{numbers_in, AreLeft};
 ghost use Rattle.mq_actor.specs.Holds.{IsWorker};
 ghost use Rattle.mq_actor.specs.Seen.{SeesRing};
 ghost use Rattle.mq_actor.specs.Steps.{sight, AllCounted};
@@ -38,6 +39,7 @@ impl<L: WriteReady> Ring<L> {
         ensures stands { (o : Outside) (w : Worker) → IsWorker P.P.most table.old.table self.old w → AllCounted w → Known (sight o (O.seen office.old) (M.boxes mail.old)) w
             → (t : Worker) × IsWorker P.P.most table.new.table self.new t × Known (sight o (O.seen office.new) (M.boxes mail.new)) t }
         ensures ring { (self.new.id ≡ self.old.id) × (self.new.setup ≡ self.old.setup) }
+        ensures left { AreLeft (numbers_in self.old) self.new }
         ensures office { (O.seen office.new).actor ≡ (O.seen office.old).actor }
         ensures mail { M.actor mail.new ≡ M.actor mail.old }
         ensures inboxes { M.count mail.new ≡ M.count mail.old }
