@@ -16,7 +16,7 @@ use Rattle.mq_machine.specs.State.{Conn, Held, Offer, Worker, Tunnel, Orders, Sh
 use Rattle.mq_machine.specs.Steps.{starved}
 use Rattle.mq_machine.specs.Want.{Answer}
 use Rattle.mq_machine.specs.Turn.{Of, Try, try_of, can_act, seats_of, turn_of, replace, with_held, TryNext}
-use Rattle.mq_machine.specs.Acting.{Outside, HasTold, Known, Meets, OffersTold, WasInbox, StepDone, StepSilent, FaultsFit as worker_fits, BindFits, with_prepared as worker_prepared}
+use Rattle.mq_machine.specs.Acting.{Outside, HasTold, Known, Meets, OffersTold, WasInbox, StepDone, StepSilent, FaultsFit as worker_fits, BindFits, with_prepared as worker_prepared, Writes}
 use Rattle.mq_conn.specs.Conns.{IsConn}
 use Rattle.mq_held.specs.declared.held.Held.{Held as HeldBy}
 use Rattle.mq_step.specs.Holds.{IsHeld, KeepsOthers}
@@ -32,7 +32,7 @@ use Rattle.mq_actor.specs.Goes.{Goes, shapes_of}
 use Rattle.mq_actor.specs.Holds.{IsWorker, HaveOwnPorts, AreOffered, AreDistinct, numbers_of}
 use Rattle.mq_actor.specs.Passing.{Tried}
 use Rattle.mq_actor.specs.Seen.{Words, Moment, SeesConn, SeesRing}
-use Rattle.mq_actor.specs.Steps.{AllCounted, sight}
+use Rattle.mq_actor.specs.Steps.{sight}
 use Rattle.mq_actor.proofs.Between.{vain_so_far, apart_of, numbers_passed}
 use Rattle.mq_actor.proofs.Cores.{AreApart, cores_of, tunnels_or}
 use Rattle.mq_actor.proofs.Books.{open_within}
@@ -46,6 +46,7 @@ use Rattle.mq_actor.proofs.Pointwise.{PointwiseBut, pointwise_set, pointwise_rem
 use Rattle.mq_actor.proofs.Refilled.{found_here, refilled, reoffered, refill, refills, held_prepared, prepared_core, prepared_link, prepared_worker, told_prepared, faults_refilled, offers_told}
 use Rattle.mq_actor.proofs.SoFar.{SoFar, Covers, Vain}
 use Rattle.mq_actor.proofs.Tunnels.{known_goes}
+use Rattle.mq_actor.proofs.Writing.{writes_goes}
 use Rattle.mq_actor.proofs.Turning.{FoundAt, turn_is, before_waited, conn_can, held_is}
 
 -- ---- what is found again
@@ -83,14 +84,14 @@ prepared_harmless L most table n answer = record {
 
 module _ {L Q : Type 0} (words : Words L Q) (r m : Ring L) (old mid new : Moment L Q) (boxes boxes_now : Option Boxes) (count : ℕ)
     (tried : Tried) (offers_tried inbox_tried : Type 0) (so : SoFar words r m old mid boxes boxes_now count tried offers_tried inbox_tried)
-    (o n : Outside) (sees : SeesRing words old.table old.faults r o) (x : Worker) (is : IsWorker words.most old.table r x) (counted : AllCounted x)
+    (o n : Outside) (sees : SeesRing words old.table old.binds r o) (x : Worker) (is : IsWorker words.most old.table r x)
     (place : ℕ) (was now : HeldBy L) (at : slice_get mid.conns place ≡ Some was) (untried : tried place was.number → ⊥)
     (own : HaveOwnPorts mid.conns) (keeps : KeepsOthers was now mid.table new.table)
     (beside : (j : ℕ) (g : HeldBy L) → j ≢ place → slice_get mid.conns j ≡ Some g → SeesConn words new.table g n)
     (covers : Covers r.next_seat tried offers_tried inbox_tried (place + 2) (Of was.number))
     (size : count ≡ old.seen.config.workers + 1) (mine : old.seen.actor ≡ r.id) (known : Known (sight o old.seen boxes) x)
     (offers_same : (i : ℕ) (f : Offer) → slice_get x.offered i ≡ Some f → n.link f.number ≡ o.link f.number)
-    (acting : Here words r m old mid new boxes boxes_now count tried offers_tried inbox_tried so o n sees x is counted place was now at) where
+    (acting : Here words r m old mid new boxes boxes_now count tried offers_tried inbox_tried so o n sees x is place was now at) where
   apart : AreApart x.conns
   apart = apart_of words.most old.table r x is
 
@@ -98,7 +99,7 @@ module _ {L Q : Type 0} (words : Words L Q) (r m : Ring L) (old mid new : Moment
   number = acting.s.conn.number
 
   many : length mid.conns ≡ length x.conns
-  many = as_many words r m old mid new boxes boxes_now count tried offers_tried inbox_tried so o n sees x is counted place was now at
+  many = as_many words r m old mid new boxes boxes_now count tried offers_tried inbox_tried so o n sees x is place was now at
 
   sees_mid : (i : ℕ) (g : HeldBy L) → slice_get mid.conns i ≡ Some g → tried i g.number → SeesConn words mid.table g n
   sees_mid i g at_g was_tried = by_case (cases_eq i place) where
@@ -112,7 +113,7 @@ module _ {L Q : Type 0} (words : Words L Q) (r m : Ring L) (old mid new : Moment
     by_case (inr ne) =
         let lt = within mid.conns i g at_g in
         let s = there x.conns i (omega (arith, lt, many)) in
-        let x_is = other words r m old mid new boxes boxes_now count tried offers_tried inbox_tried so o n sees x is counted place was now at own keeps beside i s.0 ne s.1 in
+        let x_is = other words r m old mid new boxes boxes_now count tried offers_tried inbox_tried so o n sees x is place was now at own keeps beside i s.0 ne s.1 in
         let both : Some x_is.g ≡ Some g = sym x_is.at_is ∙ at_g in
         let e : x_is.g ≡ g = cc in
         let S : HeldBy L → Type 0 = λ h. SeesConn words mid.table h n in
@@ -122,7 +123,7 @@ module _ {L Q : Type 0} (words : Words L Q) (r m : Ring L) (old mid new : Moment
   vain =
       let V : ℕ → Type 0 = λ k. Vain o n x so.box (place + 2) (Of k) in
       subst V (sym acting.stands.number)
-      (vain_so_far words r m old mid boxes boxes_now count tried offers_tried inbox_tried so o n sees x is counted (place + 2) (Of was.number) covers sees_mid)
+      (vain_so_far words r m old mid boxes boxes_now count tried offers_tried inbox_tried so o n sees x is (place + 2) (Of was.number) covers sees_mid)
 
   found_at_place : (found : Found) → FoundAt x number found (place + 2)
   found_at_place found = λ i h at_h same. let e = apart i place h acting.s at_h acting.at_is same in inl (omega (arith, e))
@@ -133,17 +134,19 @@ module _ {L Q : Type 0} (words : Words L Q) (r m : Ring L) (old mid new : Moment
   box_was : WasInbox boxes x.id so.box
   box_was = was_inbox boxes so.mail.boxes x.id so.box so.mail.told (ap (λ (k : ℕ). slice_get so.mail.boxes k) is.id ∙ so.mail.at)
 
-  meets : (orders : Orders) (sh after : Shared) → Shares old.seen new.seen so.mail.boxes orders sh after → Meets (sight o old.seen boxes) (sight n new.seen boxes_now) sh after
+  meets : (orders : Orders) (sh after : Shared) → Shares old.seen new.seen so.mail.boxes orders sh after → Meets orders (sight o old.seen boxes) (sight n new.seen boxes_now) sh after
   meets orders sh after shares =
       let B : Boxes → Type 0 = λ b. IsTold boxes b in
       let N : Boxes → Type 0 = λ b. IsTold boxes_now b in
       record {
         config = shares.config;
+        same = shares.same;
         book = shares.book;
         wrote = shares.wrote;
         boxes = subst B (sym shares.boxes_are) so.mail.told;
         count = ap (λ (b : Boxes). length b) shares.boxes_are ∙ so.mail.size ∙ size ∙ ap (λ c. c.workers + 1) (sym shares.config);
         boxes_after = subst N (sym shares.boxes_after) so.mail.tells;
+        orders_are = shares.orders_are;
       }
 
   boxes_fit : (new_seen : Seen) → new_seen.config ≡ old.seen.config → (bs : Boxes) → boxes_now ≡ Some bs → length bs ≡ new_seen.config.workers + 1
@@ -168,7 +171,7 @@ module _ {L Q : Type 0} (words : Words L Q) (r m : Ring L) (old mid new : Moment
   others_but : (F : Held → Held) (found : Found) → Harmless L words.most new.table n F
       → PointwiseBut (Fine words.most new.table n x.id) place mid.conns (map F (refill o number found x).conns)
   others_but F found safe =
-      let but = others_fine words r m old mid new boxes boxes_now count tried offers_tried inbox_tried so o n sees x is counted place was now at own keeps beside found acting.s acting.at_is in
+      let but = others_fine words r m old mid new boxes boxes_now count tried offers_tried inbox_tried so o n sees x is place was now at own keeps beside found acting.s acting.at_is in
       record {
         size = but.size ∙ sym (length-map (refill o number found x).conns F);
         at = λ i g u ne at_g at_u. by_one i g u ne at_g (map_get F (refill o number found x).conns i u at_u) but;
@@ -272,7 +275,7 @@ module _ {L Q : Type 0} (words : Words L Q) (r m : Ring L) (old mid new : Moment
 
     -- what the worker's step gives, where the connection became this
     done : (became : Option Held) (t : Worker) → TryNext x.setup (filled o found acting.s) sh try answer said became after
-        → t ≡ worker_prepared n answer (with_held (refill o number found x) number became) → StepDone (sight o old.seen boxes) (sight n new.seen boxes_now) x said t
+        → t ≡ worker_prepared n answer (with_held (refill o number found x) number became) → StepDone orders (sight o old.seen boxes) (sight n new.seen boxes_now) x said t
     done became t next t_is = record {
       now = refill o number found x;
       box = so.box;
@@ -339,10 +342,27 @@ module _ {L Q : Type 0} (words : Words L Q) (r m : Ring L) (old mid new : Moment
         })) in
         omega (arith, is_next, lt, grows)
 
+  -- what it wrote is the worker's own
+  written : (sh after : Shared) (orders : Orders) (tunnels : List Tunnel) → Shares old.seen new.seen so.mail.boxes orders sh after → Goes acting.s.conn sh tunnels after
+      → Writes old.seen new.seen x.id
+  written sh after orders tunnels shares goes = writes_goes old.seen new.seen x.id acting.s.conn sh after tunnels shares.book shares.wrote acting.actor opened goes where
+    opened : (t : Tunnel) → Contains acting.s.conn.tunnels t → (e : Entry) × (slice_get old.seen.entries t.id ≡ Some e) × (e.actor ≡ x.id)
+    opened t has =
+        let is = (known.tunnels t.id number t.stream t.goal).0 (record {
+          held = acting.s;
+          t = t;
+          at = found_at x.conns place acting.s apart acting.at_is;
+          has = has;
+          id = refl;
+          on = refl;
+          leads = refl;
+        }) in
+        (is.entry, is.at, is.by)
+
   pub did_gives : (said : Note) (orders : Orders) (tk : Held) → Turned x.setup tries_of Anything o n old.seen new.seen so.mail.boxes orders acting.s said (Some tk)
       → StandsAsTold n (IsHeld words.most new.table now) tk → (s : Ring L) → Rest s (number + 2 + 1) → s.conns.items ≡ slice_set mid.conns place now → now.number ≡ was.number
-      → (t : Worker) × IsWorker words.most new.table s t × HasTold n t × Known (sight n new.seen boxes_now) t
-      × StepDone (sight o old.seen boxes) (sight n new.seen boxes_now) x said t
+      → (t : Worker) × IsWorker words.most new.table s t × HasTold n t × Known (sight n new.seen boxes_now) t × Writes old.seen new.seen x.id
+      × StepDone orders (sight o old.seen boxes) (sight n new.seen boxes_now) x said t
   did_gives said orders tk d stands s rest items same_number =
       let F : Held → Held = with_prepared n d.answer in
       let b = mapped_some F d.became tk d.then in
@@ -382,13 +402,14 @@ module _ {L Q : Type 0} (words : Words L Q) (r m : Ring L) (old mid new : Moment
             let G : Conn → Type 0 = λ c. (c.number ≡ number) × (c.next_tunnel ≤ length new.seen.entries) in
             subst G (sym core ∙ ap (λ (h : Held). h.conn) same) (left.number, next_within b.0.conn d.sh d.after orders d.shares left))
             d.shares goes,
+        written d.sh d.after orders (F b.0).conn.tunnels d.shares goes,
         done d.found d.try d.answer orders d.sh d.after said d.is d.shares d.faults d.binds (Some b.0) t next t_is,
       )
 
   pub ended_gives : (said : Note) (orders : Orders) → Turned x.setup tries_of Anything o n old.seen new.seen so.mail.boxes orders acting.s said None
       → (s : Ring L) → Rest s (number + 2 + 1) → s.conns.items ≡ remove mid.conns place
-      → (t : Worker) × IsWorker words.most new.table s t × HasTold n t × Known (sight n new.seen boxes_now) t
-      × StepDone (sight o old.seen boxes) (sight n new.seen boxes_now) x said t
+      → (t : Worker) × IsWorker words.most new.table s t × HasTold n t × Known (sight n new.seen boxes_now) t × Writes old.seen new.seen x.id
+      × StepDone orders (sight o old.seen boxes) (sight n new.seen boxes_now) x said t
   ended_gives said orders d s rest items =
       let F : Held → Held = with_prepared n d.answer in
       let N : Option Held → Type 0 = λ z. TryNext x.setup (filled o d.found acting.s) d.sh d.try d.answer said z d.after in
@@ -412,13 +433,14 @@ module _ {L Q : Type 0} (words : Words L Q) (r m : Ring L) (old mid new : Moment
         worker_stands s us d.found (number + 2 + 1) rest.id rest.setup rest.offered rest.next_is all rest.rooms rest.ports numbers,
         (all.told, offered_told),
         known_then t None orders d.sh d.after refl refl (cores_removed F d.found (prepared_core n d.answer)) (λ g e. absurd cc) d.shares goes,
+        written d.sh d.after orders [] d.shares goes,
         done d.found d.try d.answer orders d.sh d.after said d.is d.shares d.faults d.binds None t next t_is,
       )
 
   pub starved_gives : (orders : Orders) (tk : Held) → Starved tries_of Anything o n old.seen new.seen so.mail.boxes orders acting.s tk
       → StandsAsTold n (IsHeld words.most new.table now) tk → (s : Ring L) → Rest s r.next_seat → s.conns.items ≡ slice_set mid.conns place now → now.number ≡ was.number
-      → (t : Worker) × IsWorker words.most new.table s t × HasTold n t × Known (sight n new.seen boxes_now) t
-      × StepSilent (sight o old.seen boxes) (sight n new.seen boxes_now) x t
+      → (t : Worker) × IsWorker words.most new.table s t × HasTold n t × Known (sight n new.seen boxes_now) t × Writes old.seen new.seen x.id
+      × StepSilent orders (sight o old.seen boxes) (sight n new.seen boxes_now) x t
   starved_gives orders tk d told s rest items same_number =
       let goes = starved_goes was.conn (filled o d.found acting.s) d.sh d.after d.reached.asked d.try d.answer d.tunnels acting.stands.conn d.heard in
       let conn : tk.conn ≡ record (starved acting.s.conn) { tunnels = d.tunnels } = ap (λ (h : Held). h.conn) d.then in
@@ -430,7 +452,7 @@ module _ {L Q : Type 0} (words : Words L Q) (r m : Ring L) (old mid new : Moment
       } in
       let us : List Held = slice_set (refill o number d.found x).conns place tk in
       let pw = pointwise_set (Fine words.most new.table n x.id) place mid.conns (refill o number d.found x).conns now tk
-      (others_fine words r m old mid new boxes boxes_now count tried offers_tried inbox_tried so o n sees x is counted place was now at own keeps beside d.found acting.s acting.at_is)
+      (others_fine words r m old mid new boxes boxes_now count tried offers_tried inbox_tried so o n sees x is place was now at own keeps beside d.found acting.s acting.at_is)
       fine lt_place in
       let H : List (HeldBy L) → Type 0 = λ hs. AllFine words.most new.table n x.id hs us in
       let A : List (HeldBy L) → Type 0 = λ hs. AreDistinct (numbers_of hs r.offered.items) in
@@ -449,6 +471,7 @@ module _ {L Q : Type 0} (words : Words L Q) (r m : Ring L) (old mid new : Moment
         known_then t (Some tk) orders d.sh d.after refl refl (cores_one d.found tk)
             (λ g e. let is_g : tk ≡ g = cc in subst G (sym conn ∙ ap (λ (h : Held). h.conn) is_g) (refl, next_within (record (starved acting.s.conn) { tunnels = d.tunnels }) d.sh d.after orders d.shares left))
             d.shares (subst TS (sym (ap (λ (c : Conn). c.tunnels) conn)) goes),
+        written d.sh d.after orders d.tunnels d.shares goes,
         record {
           now = refill o number d.found x;
           box = so.box;
@@ -459,6 +482,7 @@ module _ {L Q : Type 0} (words : Words L Q) (r m : Ring L) (old mid new : Moment
           refills = refills o number d.found x;
           was = box_was;
           meets = meets orders d.sh d.after d.shares;
+          binds = d.binds;
           starves = record {
             seat = Of number;
             turn = turn_is o n x so.box number d.found (place + 2) (Of number) apart seat_is (found_at_place d.found) can vain;

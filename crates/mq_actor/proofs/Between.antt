@@ -5,9 +5,9 @@ use Rattle.slab.specs.Slab.{Slab}
 use Rattle.mq_talk.specs.Mails.{Boxes}
 use Rattle.mq_machine.specs.State.{Offer, Held, Worker}
 use Rattle.mq_machine.specs.Turn.{Seat, Offers, Inbox, Of, most_live}
-use Rattle.mq_machine.specs.Acting.{Outside}
+use Rattle.mq_machine.specs.Acting.{Outside, Binder}
 use Rattle.mq_held.specs.declared.held.Held.{Held as HeldBy}
-use Rattle.mq_step.specs.Holds.{IsHeld, AreCounted}
+use Rattle.mq_step.specs.Holds.{IsHeld}
 use Rattle.mq_step.specs.Sights.{Found}
 use Rattle.mq_actor.specs.declared.offer.Offer.{Offer as OfferBy}
 use Rattle.mq_actor.specs.declared.ring.Ring.{Ring}
@@ -15,7 +15,6 @@ use Rattle.mq_actor.specs.Holds.{AreHeld, AreOffered, IsWorker}
 use Rattle.mq_actor.specs.Passing.{Tried, TellsSame, PassedOver, PassedAt, Passed}
 use Rattle.mq_actor.specs.Seats.{OffersWait}
 use Rattle.mq_actor.specs.Seen.{Words, Moment, SeesConn, SeesRing}
-use Rattle.mq_actor.specs.Steps.{AllCounted}
 use Rattle.mq_actor.proofs.Cores.{AreApart}
 use Rattle.mq_actor.proofs.Helds.{at_held, held_length}
 use Rattle.mq_actor.proofs.InRing.{Precedes, at_all}
@@ -68,9 +67,9 @@ offered_none (f ∷ fs) [] are is = absurd are
 offered_none (f ∷ fs) (x ∷ xs) are is = absurd cc
 
 -- what is told of the connection at a place
-pub sees_at : {L Q : Type 0} (words : Words L Q) (table : Slab Q) (faults : ℕ) (r : Ring L) (o : Outside) (i : ℕ) (h : HeldBy L)
-    → SeesRing words table faults r o → slice_get r.conns.items i ≡ Some h → SeesConn words table h o
-sees_at {L} words table faults r o i h sees at =
+pub sees_at : {L Q : Type 0} (words : Words L Q) (table : Slab Q) (binds : Binder) (r : Ring L) (o : Outside) (i : ℕ) (h : HeldBy L)
+    → SeesRing words table binds r o → slice_get r.conns.items i ≡ Some h → SeesConn words table h o
+sees_at {L} words table binds r o i h sees at =
     let P : HeldBy L → Type 0 = λ x. SeesConn words table x o in at_all P r.conns.items sees.conns i h at
 
 -- ---- numbers
@@ -120,12 +119,11 @@ numbers_passed words old mid tried passed =
 -- It was asked of what came so far.
 module _ {L Q : Type 0} (words : Words L Q) (r m : Ring L) (old mid : Moment L Q) (boxes boxes_now : Option Boxes) (count : ℕ)
     (tried : Tried) (offers_tried inbox_tried : Type 0) (so : SoFar words r m old mid boxes boxes_now count tried offers_tried inbox_tried)
-    (o n : Outside) (sees : SeesRing words old.table old.faults r o) (x : Worker) (is : IsWorker words.most old.table r x) (counted : AllCounted x) where
+    (o n : Outside) (sees : SeesRing words old.table old.binds r o) (x : Worker) (is : IsWorker words.most old.table r x) where
   -- the connection at a place, and what it was passed as
   pub record At (i : ℕ) (s : Held) : Type 0 where
     pub h : HeldBy L
     pub stands : IsHeld words.most old.table h s
-    pub counted_are : AreCounted s.ports
     pub seen : SeesConn words old.table h o
     pub passed : PassedAt words old mid tried i h
 
@@ -133,12 +131,10 @@ module _ {L Q : Type 0} (words : Words L Q) (r m : Ring L) (old mid : Moment L Q
   place i s at =
       let found = at_held words.most old.table r.conns.items x.conns i s is.conns at in
       let P : List (HeldBy L) → Type 0 = λ hs. slice_get hs i ≡ Some found.0 in
-      let C : Held → Type 0 = λ h. AreCounted h.ports in
       record {
         h = found.0;
         stands = found.2;
-        counted_are = at_all C x.conns counted i s at;
-        seen = sees_at words old.table old.faults r o i found.0 sees found.1;
+        seen = sees_at words old.table old.binds r o i found.0 sees found.1;
         passed = so.passed.at i found.0 (subst P (sym so.starts) found.1);
       }
 
@@ -146,7 +142,7 @@ module _ {L Q : Type 0} (words : Words L Q) (r m : Ring L) (old mid : Moment L Q
   pub told_so_far : (i : ℕ) (s : Held) → slice_get x.conns i ≡ Some s
       → ((g : HeldBy L) → slice_get mid.conns i ≡ Some g → SeesConn words mid.table g n) → TellsSame o n s
   told_so_far i s at sees_now =
-      let p = place i s at in p.passed.told o n p.seen (sees_now p.passed.now p.passed.at) s p.stands p.counted_are
+      let p = place i s at in p.passed.told o n p.seen (sees_now p.passed.now p.passed.at) s p.stands
 
   -- the connection at a place was passed over, where it was tried
   pub over_so_far : (i : ℕ) (s : Held) → slice_get x.conns i ≡ Some s → tried i s.conn.number
@@ -156,7 +152,7 @@ module _ {L Q : Type 0} (words : Words L Q) (r m : Ring L) (old mid : Moment L Q
       let P : ℕ → Type 0 = λ k. tried i k in
       let here : tried i p.h.number = subst P p.stands.number was_tried in
       let now : tried i p.passed.now.number = subst P (sym p.passed.number) here in
-      p.passed.over here o n p.seen (sees_now i p.passed.now p.passed.at now) s p.stands p.counted_are
+      p.passed.over here o n p.seen (sees_now i p.passed.now p.passed.at now) s p.stands
 
   -- the offered links waited
   pub offers_so_far : OffersWait r → (x.offered ≡ []) ⊎ (most_live ≤ length x.conns)

@@ -9,11 +9,11 @@ use Rattle.mq_talk.specs.declared.note.Note.{Note}
 use Rattle.mq_talk.specs.declared.note.Note.TheVariants as note
 use Rattle.mq_talk.specs.declared.place.Parcel.{Parcel}
 use Rattle.mq_talk.specs.Mails.{Boxes, IsTold, PopGives}
-use Rattle.mq_talk.specs.Offices.{Seen}
-use Rattle.mq_machine.specs.State.{Conn, new_conn, new_link, Port, Offer, Held, Worker, Shared}
+use Rattle.mq_talk.specs.Offices.{Seen, IsSame}
+use Rattle.mq_machine.specs.State.{Conn, new_conn, new_link, Port, Offer, Held, Worker, Orders, Shared}
 use Rattle.mq_machine.specs.Want.{Said}
 use Rattle.mq_machine.specs.Turn.{Seat, Offers, Inbox, most_live, can_act, turn_of, accepted, InboxNext}
-use Rattle.mq_machine.specs.Acting.{Outside, ConnsTold, OffersTold, PortsTold, HasTold, FaultsFit, Known, Meets}
+use Rattle.mq_machine.specs.Acting.{Outside, ConnsTold, OffersTold, PortsTold, HasTold, FaultsFit, Known, Meets, Binder, Writes}
 use Rattle.mq_machine.specs.Acting.{StepDone, StepQuiet, StepSilent}
 use Rattle.mq_conn.specs.Conns.{IsConn}
 use Rattle.mq_held.specs.declared.held.Held.{Held as HeldBy}
@@ -29,7 +29,7 @@ use Rattle.mq_actor.specs.Holds.{AreHeld, AreOffered, AreDistinct, HaveOwnPorts,
 use Rattle.mq_actor.specs.Passing.{Tried, TellsSame, PassedOver}
 use Rattle.mq_actor.specs.Seats.{OffersWait, Accepts, Takes}
 use Rattle.mq_actor.specs.Seen.{Words, Moment, SeesConn, SeesOffer, SeesRing}
-use Rattle.mq_actor.specs.Steps.{sight, AllCounted}
+use Rattle.mq_actor.specs.Steps.{sight}
 use Rattle.mq_actor.proofs.Between.{get_append, get_last, held_refilled, offered_at, offered_none, sees_at, apart_of}
 use Rattle.mq_actor.proofs.Helds.{at_held, held_length, held_pushed}
 use Rattle.mq_actor.proofs.Between.{numbers_passed, told_so_far, over_so_far, offers_so_far, vain_so_far}
@@ -43,13 +43,14 @@ use Rattle.mq_actor.proofs.Passings.{held_passed}
 use Rattle.mq_actor.proofs.Refilled.{refill, refilled, reoffered, refills, conns_told, offers_told, faults_refilled}
 use Rattle.mq_actor.proofs.SoFar.{Vain, SoFar, Covers}
 use Rattle.mq_actor.proofs.Tunnels.{known_same, known_accepted}
-use Rattle.mq_actor.proofs.Turning.{turn_is, before_waited, offers_can, all_waited}
+use Rattle.mq_actor.proofs.Writing.{writes_nothing}
+use Rattle.mq_actor.proofs.Turning.{turn_is, no_turn, before_waited, offers_can, all_waited}
 
 module _ {L Q : Type 0} (words : Words L Q) (r m s : Ring L) (old mid : Moment L Q) (boxes boxes_now : Option Boxes) (count : ℕ)
     (tried : Tried) (offers_tried inbox_tried : Type 0) (so : SoFar words r m old mid boxes boxes_now count tried offers_tried inbox_tried)
-    (at_conns : mid.conns ≡ m.conns.items) (own : HaveOwnPorts m.conns.items) (rooms : HasRooms m.rooms) (o n : Outside) (sees : SeesRing words old.table old.faults r o)
-    (sees_now : SeesRing words mid.table mid.faults s n) (count_is : count ≡ old.seen.config.workers + 1) (x : Worker)
-    (is : IsWorker words.most old.table r x) (counted : AllCounted x) (known : Known (sight o old.seen boxes) x) where
+    (at_conns : mid.conns ≡ m.conns.items) (own : HaveOwnPorts m.conns.items) (rooms : HasRooms m.rooms) (o n : Outside) (sees : SeesRing words old.table old.binds r o)
+    (sees_now : SeesRing words mid.table mid.binds s n) (count_is : count ≡ old.seen.config.workers + 1) (x : Worker)
+    (is : IsWorker words.most old.table r x) (known : Known (sight o old.seen boxes) x) where
   -- the worker with what is told, where nothing was found
   abbrev now : Worker
   now = refill o 0 idle x
@@ -65,19 +66,19 @@ module _ {L Q : Type 0} (words : Words L Q) (r m s : Ring L) (old mid : Moment L
   seen_with : (more : List (HeldBy L)) → s.conns.items ≡ m.conns.items ++ more → SeenNow
   seen_with more are i g at =
       let P : List (HeldBy L) → Type 0 = λ hs. slice_get hs i ≡ Some g in
-      sees_at words mid.table mid.faults s n i g sees_now (subst P (sym are) (get_append m.conns.items more i g (subst P at_conns at)))
+      sees_at words mid.table mid.binds s n i g sees_now (subst P (sym are) (get_append m.conns.items more i g (subst P at_conns at)))
 
   seen_same : s.conns.items ≡ m.conns.items → SeenNow
   seen_same are = seen_with [] (are ∙ sym (append-nil m.conns.items))
 
   vain : (k : ℕ) (seat : Seat) → Covers r.next_seat tried offers_tried inbox_tried k seat → SeenNow → Vain o n x so.box k seat
   vain k seat covers seen =
-      vain_so_far words r m old mid boxes boxes_now count tried offers_tried inbox_tried so o n sees x is counted k seat covers
+      vain_so_far words r m old mid boxes boxes_now count tried offers_tried inbox_tried so o n sees x is k seat covers
       (λ i g at was_tried. seen i g at)
 
   tells_same : SeenNow → (i : ℕ) (h : Held) → slice_get x.conns i ≡ Some h → TellsSame o n h
   tells_same seen i h at =
-      told_so_far words r m old mid boxes boxes_now count tried offers_tried inbox_tried so o n sees x is counted i h at (λ g at_g. seen i g at_g)
+      told_so_far words r m old mid boxes boxes_now count tried offers_tried inbox_tried so o n sees x is i h at (λ g at_g. seen i g at_g)
 
   told_now : SeenNow → ConnsTold n now.conns
   told_now seen = conns_told n now.conns (λ i h at. one i h (map_get (refilled o 0 idle) x.conns i h at)) where
@@ -104,20 +105,35 @@ module _ {L Q : Type 0} (words : Words L Q) (r m s : Ring L) (old mid : Moment L
   faults : FaultsFit o n now
   faults = faults_refilled o n 0 idle x (λ h has number. none_faults o n h idle_port refl refl)
 
+  -- nothing was bound
+  nothing_bound : n.binds ≡ o.binds
+  nothing_bound = sees_now.binds_are ∙ so.passed.binds ∙ sym sees.binds_are
+
+  held_back : n.binds.holds ≡ o.binds.holds
+  held_back = ap (λ (b : Binder). b.holds) nothing_bound
+
+  same_seen : IsSame old.seen mid.seen
+  same_seen = record { config = ap (λ (z : Seen). z.config) so.passed.seen; whole = ap (λ (z : Seen). z.is_whole) so.passed.seen }
+
+  nothing_written : Writes old.seen mid.seen x.id
+  nothing_written = writes_nothing old.seen mid.seen x.id (ap (λ (z : Seen). z.entries) so.passed.seen)
+
   -- ---- what is shared
 
-  abbrev shared : Boxes → Shared
-  shared b = record { config = old.seen.config; book = old.seen.entries; boxes = b; orders = record { bind = false } }
+  abbrev shared : Orders → Boxes → Shared
+  shared orders b = record { config = old.seen.config; book = old.seen.entries; boxes = b; orders = orders }
 
-  meets : (after : Option Boxes) (b c : Boxes) → IsTold boxes b → length b ≡ count → IsTold after c
-      → Meets (sight o old.seen boxes) (sight n mid.seen after) (shared b) (shared c)
-  meets after b c told size tells = record {
+  meets : (orders : Orders) (after : Option Boxes) (b c : Boxes) → IsTold boxes b → length b ≡ count → IsTold after c
+      → Meets orders (sight o old.seen boxes) (sight n mid.seen after) (shared orders b) (shared orders c)
+  meets orders after b c told size tells = record {
     config = refl;
+    same = same_seen;
     book = sees_same old.seen;
     wrote = ap (λ (z : Seen). z.entries) so.passed.seen;
     boxes = told;
     count = size ∙ count_is;
     boxes_after = tells;
+    orders_are = refl;
   }
 
   sized : (after : Option Boxes) (c : Boxes) → IsTold after c → length c ≡ count
@@ -199,7 +215,7 @@ module _ {L Q : Type 0} (words : Words L Q) (r m s : Ring L) (old mid : Moment L
 
   -- Every seat was tried in vain: only what links and ports hold may have changed.
   pub idle_gives : s ≡ m → offers_tried → inbox_tried → ((i number : ℕ) → tried i number)
-      → (t : Worker) × IsWorker words.most mid.table s t × HasTold n t × Known (sight n mid.seen boxes_now) t
+      → (t : Worker) × IsWorker words.most mid.table s t × HasTold n t × Known (sight n mid.seen boxes_now) t × Writes old.seen mid.seen x.id
       × StepQuiet (sight o old.seen boxes) (sight n mid.seen boxes_now) x t
   idle_gives same offers inbox all = (
     now,
@@ -207,22 +223,29 @@ module _ {L Q : Type 0} (words : Words L Q) (r m s : Ring L) (old mid : Moment L
         (part (λ q. q.next_seat) ∙ ap (λ (q : Ring L). q.next_seat) so.ring ∙ sym is.next),
     told_all conns offered,
     known_now x.next_seat boxes_now so.mail.boxes so.mail.tells so.mail.size,
+    nothing_written,
     record {
+      now = now;
       box = so.box;
+      refills = refills o 0 idle x;
       was = was_box boxes so.mail.boxes r.id x.id so.box so.mail.told is.id so.mail.at;
+      none = no_turn o n x so.box apart
+          (offers_so_far words r m old mid boxes boxes_now count tried offers_tried inbox_tried so o n sees x is (so.offers offers))
+          (so.inbox inbox) over;
       waited = all_waited o n x so.box apart
-          (offers_so_far words r m old mid boxes boxes_now count tried offers_tried inbox_tried so o n sees x is counted (so.offers offers))
+          (offers_so_far words r m old mid boxes boxes_now count tried offers_tried inbox_tried so o n sees x is (so.offers offers))
           (so.inbox inbox) (λ i h at. (over i h at).waited);
-      seen = ap (λ (z : Seen). z.entries) so.passed.seen;
+      seen = so.passed.seen;
       outside = record {
         links = all_at LinkSame x.conns (λ i h at. (tells_same (seen_same conns) i h at).link);
         ports = all_at PortsSame x.conns (λ i h at. (tells_same (seen_same conns) i h at).ports);
         offers = all_at OfferSame x.offered (offer_same offered);
       };
+      binds = nothing_bound;
       boxes = so.mail.boxes;
       told = so.mail.told;
       tells = so.mail.tells;
-      refills = (refills o 0 idle x).same;
+      same = (refills o 0 idle x).same;
     },
   ) where
     LinkSame : Held → Type 0
@@ -245,7 +268,7 @@ module _ {L Q : Type 0} (words : Words L Q) (r m s : Ring L) (old mid : Moment L
 
     over : (i : ℕ) (h : Held) → slice_get x.conns i ≡ Some h → PassedOver o n h
     over i h at =
-        over_so_far words r m old mid boxes boxes_now count tried offers_tried inbox_tried so o n sees x is counted i h at
+        over_so_far words r m old mid boxes boxes_now count tried offers_tried inbox_tried so o n sees x is i h at
         (all i h.conn.number) (λ j g at_g was_tried. seen_same conns j g at_g)
 
   -- ---- an accept was refused memory
@@ -264,26 +287,28 @@ module _ {L Q : Type 0} (words : Words L Q) (r m s : Ring L) (old mid : Moment L
         by_size (inr full) = let same = size_now in absurd (may (inr (omega (arith, full, same))))
 
   -- A link could be accepted, and there was no memory for that: it stays offered.
-  pub refused_gives : Covers r.next_seat tried offers_tried inbox_tried 0 Offers → (OffersWait m → ⊥) → s.conns.items ≡ m.conns.items
+  pub refused_gives : (orders : Orders) → Covers r.next_seat tried offers_tried inbox_tried 0 Offers → (OffersWait m → ⊥) → s.conns.items ≡ m.conns.items
       → s ≡ record m { conns = s.conns }
-      → (t : Worker) × IsWorker words.most mid.table s t × HasTold n t × Known (sight n mid.seen boxes_now) t
-      × StepSilent (sight o old.seen boxes) (sight n mid.seen boxes_now) x t
-  refused_gives covers may conns rest = (
+      → (t : Worker) × IsWorker words.most mid.table s t × HasTold n t × Known (sight n mid.seen boxes_now) t × Writes old.seen mid.seen x.id
+      × StepSilent orders (sight o old.seen boxes) (sight n mid.seen boxes_now) x t
+  refused_gives orders covers may conns rest = (
     now,
     worker_now x.next_seat (ap (λ (q : Ring L). q.id) rest) (ap (λ (q : Ring L). q.setup) rest) offered conns (ap (λ (q : Ring L). q.rooms) rest)
         (ap (λ (q : Ring L). q.next_seat) rest ∙ ap (λ (q : Ring L). q.next_seat) so.ring ∙ sym is.next),
     told_all conns offered,
     known_now x.next_seat boxes_now so.mail.boxes so.mail.tells so.mail.size,
+    nothing_written,
     record {
       now = now;
       box = so.box;
       answer = Said;
-      sh = shared so.mail.boxes;
-      after = shared so.mail.boxes;
+      sh = shared orders so.mail.boxes;
+      after = shared orders so.mail.boxes;
       reached = record { took = false; asked = false };
       refills = refills o 0 idle x;
       was = was_box boxes so.mail.boxes r.id x.id so.box so.mail.told is.id so.mail.at;
-      meets = meets boxes_now so.mail.boxes so.mail.boxes so.mail.told so.mail.size so.mail.tells;
+      meets = meets orders boxes_now so.mail.boxes so.mail.boxes so.mail.told so.mail.size so.mail.tells;
+      binds = held_back;
       starves = record { seat = Offers; turn = refused_turn (seen_same conns) covers may; starves = (refl, refl, refl, refl) };
     },
   ) where
@@ -308,30 +333,31 @@ module _ {L Q : Type 0} (words : Words L Q) (r m s : Ring L) (old mid : Moment L
       record { offers = v.offers; inbox = λ before. absurd (not_before x.next_seat before); conns = v.conns }
 
   -- The parcel in front of the inbox was taken, and dropped, since no tunnel here takes packets. The inbox wasn't tried before.
-  pub taken_gives : (said : Note) (boxes_after : Option Boxes) → boxes_now ≡ boxes → Covers r.next_seat tried offers_tried inbox_tried 1 Inbox
+  pub taken_gives : (orders : Orders) (said : Note) (boxes_after : Option Boxes) → boxes_now ≡ boxes → Covers r.next_seat tried offers_tried inbox_tried 1 Inbox
       → Takes count boxes_now r.id m s said boxes_after
-      → (t : Worker) × IsWorker words.most mid.table s t × HasTold n t × Known (sight n mid.seen boxes_after) t
-      × StepDone (sight o old.seen boxes) (sight n mid.seen boxes_after) x said t
-  taken_gives said boxes_after same covers takes = (
+      → (t : Worker) × IsWorker words.most mid.table s t × HasTold n t × Known (sight n mid.seen boxes_after) t × Writes old.seen mid.seen x.id
+      × StepDone orders (sight o old.seen boxes) (sight n mid.seen boxes_after) x said t
+  taken_gives orders said boxes_after same covers takes = (
     became,
     worker_now 2 (ap (λ (q : Ring L). q.id) takes.rest) (ap (λ (q : Ring L). q.setup) takes.rest) offered conns
         (ap (λ (q : Ring L). q.rooms) takes.rest) (ap (λ (q : Ring L). q.next_seat) takes.rest),
     told_all conns offered,
     known_now 2 boxes_after p.after p.is size,
+    nothing_written,
     record {
       now = now;
       box = box;
       seat = Inbox;
       answer = Said;
-      sh = shared p.before;
-      after = shared p.after;
+      sh = shared orders p.before;
+      after = shared orders p.after;
       refills = refills o 0 idle x;
       was = was_box boxes p.before r.id x.id box told is.id p.does.1;
-      meets = meets boxes_after p.before p.after told p.size p.is;
+      meets = meets orders boxes_after p.before p.after told p.size p.is;
       turn = turn_is o n x box 0 idle 1 Inbox apart refl (λ i h at found. inr refl) can_here vain_here;
       waited = before_waited o n x box 0 idle 1 Inbox apart refl (λ i h at found. inr refl) can_here vain_here;
       faults = faults;
-      binds = tt;
+      binds = held_back;
       became = became;
       next = (refl, takes_out);
       is = refl;
@@ -367,7 +393,7 @@ module _ {L Q : Type 0} (words : Words L Q) (r m s : Ring L) (old mid : Moment L
     vain_here : Vain o n x box 1 Inbox
     vain_here = vain_inbox box (seen_same conns) covers
 
-    takes_out : InboxNext now (shared p.before) said became (shared p.after)
+    takes_out : InboxNext now (shared orders p.before) said became (shared orders p.after)
     takes_out =
         let P : ℕ → Type 0 = λ k. slice_get p.before k ≡ Some (takes.parcel ∷ rest) in
         record {
@@ -375,7 +401,7 @@ module _ {L Q : Type 0} (words : Words L Q) (r m s : Ring L) (old mid : Moment L
           rest = rest;
           box = subst P (sym is.id) p.does.1;
           is = popped_none now takes.parcel (none_for_ip now takes.parcel.to udp_now_all) ∙ ap (λ (k : Note). (k, became)) (sym takes.said_is);
-          after_is = ap shared (p.does.2 ∙ ap (λ (k : ℕ). slice_set p.before k rest) (sym is.id));
+          after_is = ap (shared orders) (p.does.2 ∙ ap (λ (k : ℕ). slice_set p.before k rest) (sym is.id));
         }
 
   -- ---- a link was accepted
@@ -396,29 +422,30 @@ module _ {L Q : Type 0} (words : Words L Q) (r m s : Ring L) (old mid : Moment L
       record { f = found.0; fs = found.1; offered = found.2; number = found.3; are = found.4 }
 
   -- The link that was offered first is a connection now.
-  pub accepted_gives : (said : Note) → Covers r.next_seat tried offers_tried inbox_tried 0 Offers → Accepts m s said
-      → (t : Worker) × IsWorker words.most mid.table s t × HasTold n t × Known (sight n mid.seen boxes_now) t
-      × StepDone (sight o old.seen boxes) (sight n mid.seen boxes_now) x said t
-  accepted_gives said covers acc = (
+  pub accepted_gives : (orders : Orders) (said : Note) → Covers r.next_seat tried offers_tried inbox_tried 0 Offers → Accepts m s said
+      → (t : Worker) × IsWorker words.most mid.table s t × HasTold n t × Known (sight n mid.seen boxes_now) t × Writes old.seen mid.seen x.id
+      × StepDone orders (sight o old.seen boxes) (sight n mid.seen boxes_now) x said t
+  accepted_gives orders said covers acc = (
     became,
     worker,
     (told_pushed n now.conns new (told_now seen) offers_told_now.0 tt, offers_told_now.1),
     known_accepted (sight o old.seen boxes) (sight n mid.seen boxes_now) x became f.number known refl refl cores so.passed.seen
         (sized boxes_now so.mail.boxes so.mail.tells so.mail.size),
+    nothing_written,
     record {
       now = now;
       box = so.box;
       seat = Offers;
       answer = Said;
-      sh = shared so.mail.boxes;
-      after = shared so.mail.boxes;
+      sh = shared orders so.mail.boxes;
+      after = shared orders so.mail.boxes;
       refills = refills o 0 idle x;
       was = was_box boxes so.mail.boxes r.id x.id so.box so.mail.told is.id so.mail.at;
-      meets = meets boxes_now so.mail.boxes so.mail.boxes so.mail.told so.mail.size so.mail.tells;
+      meets = meets orders boxes_now so.mail.boxes so.mail.boxes so.mail.told so.mail.size so.mail.tells;
       turn = turn_is o n x so.box 0 idle 0 Offers apart refl (λ i h at same. inr refl) can (vain 0 Offers covers seen);
       waited = before_waited o n x so.box 0 idle 0 Offers apart refl (λ i h at same. inr refl) can (vain 0 Offers covers seen);
       faults = faults;
-      binds = tt;
+      binds = held_back;
       became = became;
       next = (refl, accepts, refl);
       is = refl;
@@ -469,7 +496,7 @@ module _ {L Q : Type 0} (words : Words L Q) (r m s : Ring L) (old mid : Moment L
         let all : r.offered.items ≡ first ∷ others = ap (λ (q : Ring L). q.offered.items) (sym so.ring) ∙ acc.offered in
         let G : List (OfferBy L) → Type 0 = λ gs. slice_get gs 0 ≡ Some first in
         let H : List (HeldBy L) → Type 0 = λ hs. slice_get hs (length m.conns.items) ≡ Some acc.held in
-        let held = sees_at words mid.table mid.faults s n (length m.conns.items) acc.held sees_now
+        let held = sees_at words mid.table mid.binds s n (length m.conns.items) acc.held sees_now
         (subst H (sym acc.conns) (get_last m.conns.items acc.held)) in
         let before : o.link first.number ≡ words.link first.link = at_all (SeesOffer words o) r.offered.items sees.offers 0 first (subst G (sym all) refl) in
         let number : y.number ≡ first.number = ap (λ (z : Offer). z.number) (sym e) ∙ of.number in

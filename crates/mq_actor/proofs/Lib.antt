@@ -8,6 +8,7 @@ pub mod Places
 pub mod InRing
 pub mod Lists
 pub mod Going
+pub mod Writing
 mod Searches
 mod Shapes
 mod Beside
@@ -38,4 +39,5 @@ pub mod Offering
 pub mod Apart
 pub mod Sighted
 pub mod Sights
+pub mod Plain
 mod Leaving

@@ -6,14 +6,13 @@ use Rattle.slab.specs.Slab.{Slab}
 use Rattle.mq_machine.specs.State.{Conn, Link, Held, Worker}
 use Rattle.mq_machine.specs.Acting.{Outside, PortsTold}
 use Rattle.mq_held.specs.declared.held.Held.{Held as HeldBy}
-use Rattle.mq_step.specs.Holds.{IsHeld, AreCounted, KeepsOthers}
+use Rattle.mq_step.specs.Holds.{IsHeld, KeepsOthers}
 use Rattle.mq_step.specs.Sights.{Found, idle}
 use Rattle.mq_step.specs.Whole.{filled}
 use Rattle.mq_actor.specs.declared.ring.Ring.{Ring}
 use Rattle.mq_actor.specs.Holds.{IsWorker, HaveOwnPorts}
 use Rattle.mq_actor.specs.Passing.{Tried, TellsSame}
 use Rattle.mq_actor.specs.Seen.{Words, Moment, SeesConn, SeesRing}
-use Rattle.mq_actor.specs.Steps.{AllCounted}
 use Rattle.mq_actor.proofs.Between.{At, place as placed, apart_of}
 use Rattle.mq_actor.proofs.Helds.{held_length}
 use Rattle.mq_actor.proofs.InRing.{at_all}
@@ -55,10 +54,10 @@ fine_still L most table n F id g u safe fine =
 
 module _ {L Q : Type 0} (words : Words L Q) (r m : Ring L) (old mid new : Moment L Q) (boxes boxes_now : Option Boxes) (count : ℕ)
     (tried : Tried) (offers_tried inbox_tried : Type 0) (so : SoFar words r m old mid boxes boxes_now count tried offers_tried inbox_tried)
-    (o n : Outside) (sees : SeesRing words old.table old.faults r o) (x : Worker) (is : IsWorker words.most old.table r x) (counted : AllCounted x)
+    (o n : Outside) (sees : SeesRing words old.table old.binds r o) (x : Worker) (is : IsWorker words.most old.table r x)
     (place : ℕ) (was now : HeldBy L) (at : slice_get mid.conns place ≡ Some was) where
-  at_place : (i : ℕ) (s : Held) → slice_get x.conns i ≡ Some s → At words r m old mid boxes boxes_now count tried offers_tried inbox_tried so o n sees x is counted i s
-  at_place i s there_is = placed words r m old mid boxes boxes_now count tried offers_tried inbox_tried so o n sees x is counted i s there_is
+  at_place : (i : ℕ) (s : Held) → slice_get x.conns i ≡ Some s → At words r m old mid boxes boxes_now count tried offers_tried inbox_tried so o n sees x is i s
+  at_place i s there_is = placed words r m old mid boxes boxes_now count tried offers_tried inbox_tried so o n sees x is i s there_is
 
   -- as many connections stand there as the worker has
   pub as_many : length mid.conns ≡ length x.conns
@@ -69,7 +68,6 @@ module _ {L Q : Type 0} (words : Words L Q) (r m : Ring L) (old mid new : Moment
     pub s : Held
     pub at_is : slice_get x.conns place ≡ Some s
     pub stands : IsHeld words.most mid.table was s
-    pub counted_are : AreCounted s.ports
     pub seen : SeesConn words mid.table was o
     pub actor : s.conn.actor ≡ x.id
 
@@ -92,7 +90,6 @@ module _ {L Q : Type 0} (words : Words L Q) (r m : Ring L) (old mid new : Moment
         s = found.0;
         at_is = found.1;
         stands = subst H same (p.passed.stands found.0 p.stands);
-        counted_are = p.counted_are;
         seen = subst S (sym still.0 ∙ same) (stay_seen words old.table mid.table p.h o still.1 p.seen);
         actor = at_all A x.conns is.actors place found.0 found.1;
       }
@@ -119,7 +116,7 @@ module _ {L Q : Type 0} (words : Words L Q) (r m : Ring L) (old mid new : Moment
           g = p.passed.now;
           at_is = p.passed.at;
           stands = held_stays words.most mid.table new.table was now p.passed.now s keeps apart held;
-          told = p.passed.told o n p.seen sees_now s p.stands p.counted_are;
+          told = p.passed.told o n p.seen sees_now s p.stands;
           sees_now = sees_now;
         }
 

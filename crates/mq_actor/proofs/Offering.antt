@@ -4,13 +4,12 @@ use Rattle.std.proofs.lemmas.List.{map-append, append_assoc}
 use Rattle.slab.specs.Slab.{Slab}
 use Rattle.mq_addr.specs.declared.kind.Kind.TheVariants as kind
 use Rattle.mq_machine.specs.declared.setup.Setup.{Setup}
-use Rattle.mq_machine.specs.State.{Link, Offer, Worker}
+use Rattle.mq_machine.specs.State.{Link, Offer, Worker, with_offer}
 use Rattle.mq_held.specs.declared.held.Held.{Held as HeldBy}
 use Rattle.mq_step.specs.declared.rooms.Rooms.{Rooms}
 use Rattle.mq_step.specs.Rooms.{HasRooms}
 use Rattle.mq_actor.specs.declared.offer.Offer.{Offer as OfferBy}
 use Rattle.mq_actor.specs.declared.ring.Ring.{Ring}
-use Rattle.mq_actor.specs.Around.{with_offer}
 use Rattle.mq_actor.specs.Holds.{IsWorker, AreHeld, AreOffered, AreDistinct, HaveOwnPorts, numbers_of}
 use Rattle.mq_actor.proofs.InRing.{at_all}
 use Rattle.mq_actor.proofs.Lists.{get_pushed}

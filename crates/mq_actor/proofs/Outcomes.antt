@@ -8,7 +8,7 @@ use Rattle.mq_talk.specs.Offices.{Seen}
 use Rattle.mq_machine.specs.declared.setup.Setup.{Setup}
 use Rattle.mq_machine.specs.State.{Offer, Worker, Orders}
 use Rattle.mq_machine.specs.Turn.{Of, tries_of}
-use Rattle.mq_machine.specs.Acting.{Outside, HasTold, Known, StepGives}
+use Rattle.mq_machine.specs.Acting.{Outside, HasTold, Known, StepGives, Writes}
 use Rattle.mq_held.specs.declared.held.Held.{Held as HeldBy}
 use Rattle.mq_step.specs.declared.stepped.Stepped.{Stepped}
 use Rattle.mq_step.specs.declared.stepped.Stepped.TheVariants.{Quiet, Did, Ended}
@@ -21,7 +21,7 @@ use Rattle.mq_actor.specs.declared.offer.Offer.{Offer as OfferBy}
 use Rattle.mq_actor.specs.Holds.{IsWorker, HaveOwnPorts}
 use Rattle.mq_actor.specs.Passing.{Tried, Acts, Acted, LeavesRing}
 use Rattle.mq_actor.specs.Seen.{Words, Moment, SeesConn, SeesOffer, SeesRing}
-use Rattle.mq_actor.specs.Steps.{AllCounted, sight}
+use Rattle.mq_actor.specs.Steps.{sight}
 use Rattle.mq_actor.proofs.Acted.{Rest, did_gives, ended_gives, starved_gives}
 use Rattle.mq_actor.proofs.Between.{offered_at}
 use Rattle.mq_actor.proofs.InRing.{at_all}
@@ -40,14 +40,14 @@ in_removed (y ∷ xs) (suc place) (suc j) x ne at =
 
 module _ {L Q : Type 0} (words : Words L Q) (r m : Ring L) (old mid new : Moment L Q) (boxes boxes_now : Option Boxes) (count : ℕ)
     (tried : Tried) (offers_tried inbox_tried : Type 0) (so : SoFar words r m old mid boxes boxes_now count tried offers_tried inbox_tried)
-    (o n : Outside) (sees : SeesRing words old.table old.faults r o) (x : Worker) (is : IsWorker words.most old.table r x) (counted : AllCounted x)
+    (o n : Outside) (sees : SeesRing words old.table old.binds r o) (x : Worker) (is : IsWorker words.most old.table r x)
     (place : ℕ) (was now : HeldBy L) (at : slice_get mid.conns place ≡ Some was) (untried : tried place was.number → ⊥) (own : HaveOwnPorts mid.conns)
     (covers : Covers r.next_seat tried offers_tried inbox_tried (place + 2) (Of was.number))
     (size : count ≡ old.seen.config.workers + 1) (mine : old.seen.actor ≡ r.id) (known : Known (sight o old.seen boxes) x)
-    (s : Ring L) (ports : HaveOwnPorts s.conns.items) (rooms : HasRooms s.rooms) (later : SeesRing words new.table new.faults s n) where
-  abbrev pub Gave : Result (Option Note) NoMemory → Type 0
-  Gave result = (t : Worker) × IsWorker words.most new.table s t × HasTold n t × Known (sight n new.seen boxes_now) t
-      × StepGives (sight o old.seen boxes) (sight n new.seen boxes_now) x result t
+    (s : Ring L) (ports : HaveOwnPorts s.conns.items) (rooms : HasRooms s.rooms) (later : SeesRing words new.table new.binds s n) where
+  abbrev pub Gave : Orders → Result (Option Note) NoMemory → Type 0
+  Gave orders result = (t : Worker) × IsWorker words.most new.table s t × HasTold n t × Known (sight n new.seen boxes_now) t × Writes old.seen new.seen x.id
+      × StepGives orders (sight o old.seen boxes) (sight n new.seen boxes_now) x result t
 
   offers_same : s.offered.items ≡ r.offered.items → (i : ℕ) (f : Offer) → slice_get x.offered i ≡ Some f → n.link f.number ≡ o.link f.number
   offers_same same i f at_f =
@@ -56,11 +56,8 @@ module _ {L Q : Type 0} (words : Words L Q) (r m : Ring L) (old mid new : Moment
       let behind = at_all (SeesOffer words n) s.offered.items later.offers i g.0 (ap (λ (fs : List (OfferBy L)). slice_get fs i) same ∙ g.1) in
       ap n.link g.2 ∙ behind ∙ sym before ∙ ap o.link (sym g.2)
 
-  acting : Here words r m old mid new boxes boxes_now count tried offers_tried inbox_tried so o n sees x is counted place was now at
-  acting = here words r m old mid new boxes boxes_now count tried offers_tried inbox_tried so o n sees x is counted place was now at untried
-
-  no_orders : Orders
-  no_orders = record { bind = false }
+  acting : Here words r m old mid new boxes boxes_now count tried offers_tried inbox_tried so o n sees x is place was now at
+  acting = here words r m old mid new boxes boxes_now count tried offers_tried inbox_tried so o n sees x is place was now at untried
 
   -- what the step of the connection gives, by the worker's setup and by what was seen at first
   given : (stepped : Result Stepped NoMemory) → Acts words m.setup mid new stepped was now → SeesConn words new.table now n
@@ -69,15 +66,15 @@ module _ {L Q : Type 0} (words : Words L Q) (r m : Ring L) (old mid new : Moment
       let S : Setup → Type 0 = λ z. Gives z tries_of Anything o n mid.seen new.seen (IsHeld words.most new.table now) acting.s stepped in
       let E : Seen → Type 0 = λ z. Gives x.setup tries_of Anything o n z new.seen (IsHeld words.most new.table now) acting.s stepped in
       let setup : m.setup ≡ x.setup = ap (λ (z : Ring L). z.setup) so.ring ∙ sym is.setup in
-      let before : Sees words.link words.link_counts words.port words.port_counts mid.faults mid.table was o = record {
+      let before : Sees words.link words.link_counts words.port words.port_counts mid.binds mid.table was o = record {
         of_link = acting.seen.of_link;
-        of_table = record { ports = acting.seen.of_ports; faults_are = sees.faults_are ∙ sym so.passed.faults };
+        of_table = record { ports = acting.seen.of_ports; binds_are = sees.binds_are ∙ sym so.passed.binds };
       } in
-      let behind : Sees words.link words.link_counts words.port words.port_counts new.faults new.table now n = record {
+      let behind : Sees words.link words.link_counts words.port words.port_counts new.binds new.table now n = record {
         of_link = sees_now.of_link;
-        of_table = record { ports = sees_now.of_ports; faults_are = later.faults_are };
+        of_table = record { ports = sees_now.of_ports; binds_are = later.binds_are };
       } in
-      subst E so.passed.seen (subst S setup (acts.gives o n before behind acting.s acting.stands acting.counted_are))
+      subst E so.passed.seen (subst S setup (acts.gives o n before behind acting.s acting.stands))
 
   set_beside : s.conns.items ≡ slice_set mid.conns place now → (j : ℕ) (g : HeldBy L) → j ≢ place → slice_get mid.conns j ≡ Some g → SeesConn words new.table g n
   set_beside items j g ne at_g =
@@ -100,16 +97,16 @@ module _ {L Q : Type 0} (words : Words L Q) (r m : Ring L) (old mid new : Moment
       let M : Option (HeldBy L) → Type 0 = λ z. MatchOption z ⊤ (λ h. SeesConn words new.table h n) in
       subst M e later.ended
 
-  by_stepped : (stepped : Result Stepped NoMemory) (result : Result (Option Note) NoMemory) → Acts words m.setup mid new stepped was now
-      → LeavesRing place was now mid.conns m s stepped result → Gave result
-  by_stepped (Ok Quiet) result acts leaves = absurd leaves
-  by_stepped (Ok (Did said)) result acts leaves =
+  by_stepped : (orders : Orders) (stepped : Result Stepped NoMemory) (result : Result (Option Note) NoMemory) → Acts words m.setup mid new stepped was now
+      → LeavesRing place was now mid.conns m s stepped result → Gave orders result
+  by_stepped orders (Ok Quiet) result acts leaves = absurd leaves
+  by_stepped orders (Ok (Did said)) result acts leaves =
       let items = leaves.1 in
       let eq = leaves.2 in
       let offered : s.offered.items ≡ r.offered.items = ap (λ (z : Ring L). z.offered.items) eq ∙ ap (λ (z : Ring L). z.offered.items) so.ring in
-      let gives = given (Ok (Did said)) acts (set_sees items) so.mail.boxes no_orders in
+      let gives = given (Ok (Did said)) acts (set_sees items) so.mail.boxes orders in
       let number = acting.stands.number in
-      let rest : Rest words r m old mid new boxes boxes_now count tried offers_tried inbox_tried so o n sees x is counted place was now at untried own acts.others (set_beside items)
+      let rest : Rest words r m old mid new boxes boxes_now count tried offers_tried inbox_tried so o n sees x is place was now at untried own acts.others (set_beside items)
       covers size mine known (offers_same offered) acting s (acting.s.conn.number + 2 + 1) = record {
         id = ap (λ (z : Ring L). z.id) eq ∙ ap (λ (z : Ring L). z.id) so.ring;
         setup = ap (λ (z : Ring L). z.setup) eq ∙ ap (λ (z : Ring L). z.setup) so.ring;
@@ -118,16 +115,16 @@ module _ {L Q : Type 0} (words : Words L Q) (r m : Ring L) (old mid new : Moment
         rooms = rooms;
         ports = ports;
       } in
-      let R : Result (Option Note) NoMemory → Type 0 = λ z. Gave z in
-      subst R (sym leaves.0) (did_gives words r m old mid new boxes boxes_now count tried offers_tried inbox_tried so o n sees x is counted place was now at untried own acts.others (set_beside items)
-      covers size mine known (offers_same offered) acting said no_orders gives.0 gives.1 gives.2 s rest items acts.number)
-  by_stepped (Ok (Ended said)) result acts leaves =
+      let R : Result (Option Note) NoMemory → Type 0 = λ z. Gave orders z in
+      subst R (sym leaves.0) (did_gives words r m old mid new boxes boxes_now count tried offers_tried inbox_tried so o n sees x is place was now at untried own acts.others (set_beside items)
+      covers size mine known (offers_same offered) acting said orders gives.0 gives.1 gives.2 s rest items acts.number)
+  by_stepped orders (Ok (Ended said)) result acts leaves =
       let items = leaves.1 in
       let eq = leaves.2 in
       let offered : s.offered.items ≡ r.offered.items = ap (λ (z : Ring L). z.offered.items) eq ∙ ap (λ (z : Ring L). z.offered.items) so.ring in
-      let gives = given (Ok (Ended said)) acts (ended_sees (ap (λ (z : Ring L). z.ended) eq)) so.mail.boxes no_orders in
+      let gives = given (Ok (Ended said)) acts (ended_sees (ap (λ (z : Ring L). z.ended) eq)) so.mail.boxes orders in
       let number = acting.stands.number in
-      let rest : Rest words r m old mid new boxes boxes_now count tried offers_tried inbox_tried so o n sees x is counted place was now at untried own acts.others (removed_beside items)
+      let rest : Rest words r m old mid new boxes boxes_now count tried offers_tried inbox_tried so o n sees x is place was now at untried own acts.others (removed_beside items)
       covers size mine known (offers_same offered) acting s (acting.s.conn.number + 2 + 1) = record {
         id = ap (λ (z : Ring L). z.id) eq ∙ ap (λ (z : Ring L). z.id) so.ring;
         setup = ap (λ (z : Ring L). z.setup) eq ∙ ap (λ (z : Ring L). z.setup) so.ring;
@@ -136,15 +133,15 @@ module _ {L Q : Type 0} (words : Words L Q) (r m : Ring L) (old mid new : Moment
         rooms = rooms;
         ports = ports;
       } in
-      let R : Result (Option Note) NoMemory → Type 0 = λ z. Gave z in
-      subst R (sym leaves.0) (ended_gives words r m old mid new boxes boxes_now count tried offers_tried inbox_tried so o n sees x is counted place was now at untried own acts.others (removed_beside items)
-      covers size mine known (offers_same offered) acting said no_orders gives s rest items)
-  by_stepped (Err refused) result acts leaves =
+      let R : Result (Option Note) NoMemory → Type 0 = λ z. Gave orders z in
+      subst R (sym leaves.0) (ended_gives words r m old mid new boxes boxes_now count tried offers_tried inbox_tried so o n sees x is place was now at untried own acts.others (removed_beside items)
+      covers size mine known (offers_same offered) acting said orders gives s rest items)
+  by_stepped orders (Err refused) result acts leaves =
       let items = leaves.1 in
       let eq = leaves.2 in
       let offered : s.offered.items ≡ r.offered.items = ap (λ (z : Ring L). z.offered.items) eq ∙ ap (λ (z : Ring L). z.offered.items) so.ring in
-      let gives = given (Err refused) acts (set_sees items) so.mail.boxes no_orders in
-      let rest : Rest words r m old mid new boxes boxes_now count tried offers_tried inbox_tried so o n sees x is counted place was now at untried own acts.others (set_beside items)
+      let gives = given (Err refused) acts (set_sees items) so.mail.boxes orders in
+      let rest : Rest words r m old mid new boxes boxes_now count tried offers_tried inbox_tried so o n sees x is place was now at untried own acts.others (set_beside items)
       covers size mine known (offers_same offered) acting s r.next_seat = record {
         id = ap (λ (z : Ring L). z.id) eq ∙ ap (λ (z : Ring L). z.id) so.ring;
         setup = ap (λ (z : Ring L). z.setup) eq ∙ ap (λ (z : Ring L). z.setup) so.ring;
@@ -153,9 +150,9 @@ module _ {L Q : Type 0} (words : Words L Q) (r m : Ring L) (old mid new : Moment
         rooms = rooms;
         ports = ports;
       } in
-      let R : Result (Option Note) NoMemory → Type 0 = λ z. Gave z in
-      subst R (sym leaves.0) (starved_gives words r m old mid new boxes boxes_now count tried offers_tried inbox_tried so o n sees x is counted place was now at untried own acts.others (set_beside items)
-      covers size mine known (offers_same offered) acting no_orders gives.0 gives.1 gives.2 s rest items acts.number)
+      let R : Result (Option Note) NoMemory → Type 0 = λ z. Gave orders z in
+      subst R (sym leaves.0) (starved_gives words r m old mid new boxes boxes_now count tried offers_tried inbox_tried so o n sees x is place was now at untried own acts.others (set_beside items)
+      covers size mine known (offers_same offered) acting orders gives.0 gives.1 gives.2 s rest items acts.number)
 
 -- a connection acted behind all that went before
 pub acted_gives : {L Q : Type 0} (words : Words L Q) (upper : Bool) (r m s : Ring L) (old mid new : Moment L Q) (boxes boxes_now : Option Boxes) (count : ℕ) (tried : Tried)
@@ -163,10 +160,10 @@ pub acted_gives : {L Q : Type 0} (words : Words L Q) (upper : Bool) (r m s : Rin
     → (a : Acted words upper place m s mid new result) → HaveOwnPorts mid.conns → (tried place a.was.number → ⊥)
     → Covers r.next_seat tried offers_tried inbox_tried (place + 2) (Of a.was.number) → HaveOwnPorts s.conns.items → HasRooms s.rooms
     → count ≡ old.seen.config.workers + 1 → old.seen.actor ≡ r.id
-    → (o n : Outside) → SeesRing words old.table old.faults r o → SeesRing words new.table new.faults s n
-    → (x : Worker) → IsWorker words.most old.table r x → AllCounted x → Known (sight o old.seen boxes) x
-    → (t : Worker) × IsWorker words.most new.table s t × HasTold n t × Known (sight n new.seen boxes_now) t
-    × StepGives (sight o old.seen boxes) (sight n new.seen boxes_now) x result t
-acted_gives words upper r m s old mid new boxes boxes_now count tried offers_tried inbox_tried place result so a own untried covers ports rooms size mine o n sees later x is counted known =
-    by_stepped words r m old mid new boxes boxes_now count tried offers_tried inbox_tried so o n sees x is counted place a.was a.now a.at untried own covers size mine known s ports rooms later
-    a.stepped result a.acts a.leaves
+    → (o n : Outside) → SeesRing words old.table old.binds r o → SeesRing words new.table new.binds s n
+    → (orders : Orders) (x : Worker) → IsWorker words.most old.table r x → Known (sight o old.seen boxes) x
+    → (t : Worker) × IsWorker words.most new.table s t × HasTold n t × Known (sight n new.seen boxes_now) t × Writes old.seen new.seen x.id
+    × StepGives orders (sight o old.seen boxes) (sight n new.seen boxes_now) x result t
+acted_gives words upper r m s old mid new boxes boxes_now count tried offers_tried inbox_tried place result so a own untried covers ports rooms size mine o n sees later orders x is known =
+    by_stepped words r m old mid new boxes boxes_now count tried offers_tried inbox_tried so o n sees x is place a.was a.now a.at untried own covers size mine known s ports rooms later
+    orders a.stepped result a.acts a.leaves

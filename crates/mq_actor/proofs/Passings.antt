@@ -12,11 +12,11 @@ use Rattle.mq_machine.specs.declared.setup.Setup.{Setup}
 use Rattle.mq_machine.specs.State.{Port, Held}
 use Rattle.mq_machine.specs.Want.{Want, Nothing, Say, Bind, Ask, Judge, Push, Send, Over, want_of}
 use Rattle.mq_machine.specs.Turn.{Try, Act, Frame, Write, Read, Receive, tries_of}
-use Rattle.mq_machine.specs.Acting.{Outside, ConnWaited, Rose, WantWaited}
+use Rattle.mq_machine.specs.Acting.{Outside, ConnWaited, Rose, WantWaited, Binder}
 use Rattle.mq_held.specs.declared.held.Held.{Held as HeldBy}
 use Rattle.mq_step.specs.declared.stepped.Stepped.{Stepped}
 use Rattle.mq_step.specs.declared.stepped.Stepped.TheVariants.{Quiet}
-use Rattle.mq_step.specs.Holds.{IsHeld, IsKnown, AreCounted}
+use Rattle.mq_step.specs.Holds.{IsHeld, IsKnown}
 use Rattle.mq_step.specs.Whole.{Sees}
 use Rattle.mq_step.specs.Gives.{Asked, Waited}
 use Rattle.mq_step.proofs.Filling.{StaysTold, stay_told, none_changed}
@@ -34,40 +34,40 @@ use Rattle.mq_actor.proofs.OwnPorts.{all_stay, stay_twice, stay_back, stay_held,
 -- ---- who sees a connection alone
 
 -- an outside that tells of one connection, as its link and its only port tell
-abbrev pub sight : {L Q : Type 0} → Words L Q → ℕ → Slab Q → HeldBy L → Outside
-sight words faults table h = sight_of words.port words.port_counts faults table h.ports.items record {
+abbrev pub sight : {L Q : Type 0} → Words L Q → Binder → Slab Q → HeldBy L → Outside
+sight words binds table h = sight_of words.port words.port_counts binds table h.ports.items record {
   link = λ conn. words.link h.link;
   link_counts = λ conn. words.link_counts h.link;
   port = λ tunnel. None;
   port_counts = λ tunnel. no_port_counts;
-  bind_faults = 0;
+  binds = record { holds = None; faults = 0 };
 }
 
-module _ {L Q : Type 0} (words : Words L Q) (faults : ℕ) (table : Slab Q) (h : HeldBy L) where
+module _ {L Q : Type 0} (words : Words L Q) (binds : Binder) (table : Slab Q) (h : HeldBy L) where
   -- it sees that connection
-  pub sight_conn : length h.ports.items ≤ 1 → SeesConn words table h (sight words faults table h)
+  pub sight_conn : length h.ports.items ≤ 1 → SeesConn words table h (sight words binds table h)
   sight_conn few = record {
     of_link = record { link_is = refl; counts_are = refl };
-    of_ports = (sight_sees words.port words.port_counts faults table h.ports.items (sight words faults table h) few).ports;
+    of_ports = (sight_sees words.port words.port_counts binds table h.ports.items (sight words binds table h) few).ports;
   }
 
   -- and what binds ports
-  pub sight_whole : length h.ports.items ≤ 1 → Sees words.link words.link_counts words.port words.port_counts faults table h (sight words faults table h)
+  pub sight_whole : length h.ports.items ≤ 1 → Sees words.link words.link_counts words.port words.port_counts binds table h (sight words binds table h)
   sight_whole few = record {
     of_link = record { link_is = refl; counts_are = refl };
-    of_table = sight_sees words.port words.port_counts faults table h.ports.items (sight words faults table h) few;
+    of_table = sight_sees words.port words.port_counts binds table h.ports.items (sight words binds table h) few;
   }
 
 -- the outside with these failures of what binds ports
-abbrev pub with_faults : ℕ → Outside → Outside
-with_faults faults o = record o { bind_faults = faults }
+abbrev pub with_binds : Binder → Outside → Outside
+with_binds binds o = record o { binds = binds }
 
 -- who sees a connection sees those, too
-pub sees_faults : {L Q : Type 0} (words : Words L Q) (faults : ℕ) (table : Slab Q) (h : HeldBy L) (o : Outside) → SeesConn words table h o
-    → Sees words.link words.link_counts words.port words.port_counts faults table h (with_faults faults o)
-sees_faults words faults table h o so = record {
+pub sees_binds : {L Q : Type 0} (words : Words L Q) (binds : Binder) (table : Slab Q) (h : HeldBy L) (o : Outside) → SeesConn words table h o
+    → Sees words.link words.link_counts words.port words.port_counts binds table h (with_binds binds o)
+sees_binds words binds table h o so = record {
   of_link = record { link_is = so.of_link.link_is; counts_are = so.of_link.counts_are };
-  of_table = record { ports = so.of_ports; faults_are = refl };
+  of_table = record { ports = so.of_ports; binds_are = refl };
 }
 
 -- ---- one connection
@@ -104,7 +104,7 @@ untouched words old new tried place h at stay not_so = record {
   at = at;
   number = refl;
   stands = λ s held. stay_held words.most old.table new.table h s stay held;
-  told = λ o n so sn s held counted. told_same words old.table new.table h o n s stay so sn held;
+  told = λ o n so sn s held. told_same words old.table new.table h o n s stay so sn held;
   over = λ is. absurd (not_so is);
   still = λ not_so. (refl, stay);
 }
@@ -118,7 +118,7 @@ none_passed words m tried none = record {
   size = refl;
   at = λ place h at. untouched words m m tried place h at (all_stay m.table h) (none place h at);
   seen = refl;
-  faults = refl;
+  binds = refl;
 }
 
 -- the same connections were tried, said otherwise
@@ -136,7 +136,7 @@ passed_as words old new V W same p = record {
     still = λ not_so. x.still (λ is. not_so ((same place h at).0 is));
   };
   seen = p.seen;
-  faults = p.faults;
+  binds = p.binds;
 }
 
 -- ---- one after the other
@@ -159,26 +159,26 @@ module _ {L Q : Type 0} (words : Words L Q) (old mid new : Moment L Q) (V W : Tr
     later : W place h.number → W place a.now.number
     later w = let P : ℕ → Type 0 = λ k. W place k in subst P (sym a.number) w
 
-    told : (o n : Outside) → SeesConn words old.table h o → SeesConn words new.table b.now n → (s : Held) → IsHeld words.most old.table h s → AreCounted s.ports
+    told : (o n : Outside) → SeesConn words old.table h o → SeesConn words new.table b.now n → (s : Held) → IsHeld words.most old.table h s
         → TellsSame o n s
-    told o n so sn s held counted =
+    told o n so sn s held =
         let stands = a.stands s held in
-        let m = sight words 0 mid.table a.now in
-        let sm = sight_conn words 0 mid.table a.now (at_most_one words.most mid.table a.now s stands) in
-        told_twice o m n s (a.told o m so sm s held counted) (b.told m n sm sn s stands counted)
+        let m = sight words (record { holds = None; faults = 0 }) mid.table a.now in
+        let sm = sight_conn words (record { holds = None; faults = 0 }) mid.table a.now (at_most_one words.most mid.table a.now s stands) in
+        told_twice o m n s (a.told o m so sm s held) (b.told m n sm sn s stands)
 
     over : either place h.number → (o n : Outside) → SeesConn words old.table h o → SeesConn words new.table b.now n
-        → (s : Held) → IsHeld words.most old.table h s → AreCounted s.ports → PassedOver o n s
-    over (inl v) o n so sn s held counted =
+        → (s : Held) → IsHeld words.most old.table h s → PassedOver o n s
+    over (inl v) o n so sn s held =
         let still = b.still (λ w. let P : ℕ → Type 0 = λ k. W place k in apart place h.number v (subst P a.number w)) in
         let P : HeldBy L → Type 0 = λ x. SeesConn words new.table x n in
         let sm = stay_seen words new.table mid.table a.now n (stay_back mid.table new.table a.now still.1) (subst P still.0 sn) in
-        a.over v o n so sm s held counted
-    over (inr w) o n so sn s held counted =
+        a.over v o n so sm s held
+    over (inr w) o n so sn s held =
         let still = a.still (λ v. apart place h.number v w) in
         let P : HeldBy L → Type 0 = λ x. SeesConn words mid.table x o in
         let sm = subst P (sym still.0) (stay_seen words old.table mid.table h o still.1 so) in
-        b.over (later w) o n sm sn s (a.stands s held) counted
+        b.over (later w) o n sm sn s (a.stands s held)
 
     still : (either place h.number → ⊥) → (b.now ≡ h) × PortsStay old.table new.table h
     still not_so =
@@ -194,7 +194,7 @@ module _ {L Q : Type 0} (words : Words L Q) (old mid new : Moment L Q) (V W : Tr
     size = two.size ∙ one.size;
     at = λ place h at. let a = one.at place h at in then_at apart place h a (two.at place a.now a.at);
     seen = two.seen ∙ one.seen;
-    faults = two.faults ∙ one.faults;
+    binds = two.binds ∙ one.binds;
   }
 
 -- ---- what is known stays known
@@ -238,23 +238,23 @@ pub same_acts : {L Q : Type 0} (words : Words L Q) (setup : Setup) (old new : Mo
     → Acts words setup old new r held now → Acts words setup old new r was now
 same_acts {L} words setup old new r held was now e acts = let P : HeldBy L → Type 0 = λ h. Acts words setup old new r h now in subst P e acts
 
-want_waited : (faults after : ℕ) (o n : Outside) (w : Want) → WantWaited (with_faults faults o) (with_faults after n) w → WantWaited o n w
-want_waited faults after o n Nothing is = tt
-want_waited faults after o n Say is = is
-want_waited faults after o n (Bind stream goal) is = is
-want_waited faults after o n (Ask asked) is = is
-want_waited faults after o n (Judge tunnel k flow) is = is
-want_waited faults after o n (Push parcel) is = is
-want_waited faults after o n (Send tunnel k payload) is = is
-want_waited faults after o n (Over why) is = is
+want_waited : (binds after : Binder) (o n : Outside) (w : Want) → WantWaited (with_binds binds o) (with_binds after n) w → WantWaited o n w
+want_waited binds after o n Nothing is = tt
+want_waited binds after o n Say is = is
+want_waited binds after o n (Bind stream goal) is = is
+want_waited binds after o n (Ask asked) is = is
+want_waited binds after o n (Judge tunnel k flow) is = is
+want_waited binds after o n (Push parcel) is = is
+want_waited binds after o n (Send tunnel k payload) is = is
+want_waited binds after o n (Over why) is = is
 
 abbrev received : Port → Try
 received p = Receive p.tunnel
 
 -- what each of its tries asked is what the connection asked
-conn_waited : (faults after : ℕ) (o n : Outside) (s : Held) → All (Asked (with_faults faults o) (with_faults after n) s) (tries_of s) → ConnWaited o n s
-conn_waited faults after o n s asked = record {
-  want = want_waited faults after o n (want_of s.conn) (All-head A Act others asked);
+conn_waited : (binds after : Binder) (o n : Outside) (s : Held) → All (Asked (with_binds binds o) (with_binds after n) s) (tries_of s) → ConnWaited o n s
+conn_waited binds after o n s asked = record {
+  want = want_waited binds after o n (want_of s.conn) (All-head A Act others asked);
   frame = All-head A Frame (Write ∷ Read ∷ receives) from_frame;
   write = All-head A Write (Read ∷ receives) from_write;
   read = All-head A Read receives from_read;
@@ -262,7 +262,7 @@ conn_waited faults after o n s asked = record {
       (λ i p at. at_all A receives (All-tail A Read receives from_read) i (received p) (get_map received s.ports i p at));
 } where
   A : Try → Type 0
-  A t = Asked (with_faults faults o) (with_faults after n) s t
+  A t = Asked (with_binds binds o) (with_binds after n) s t
 
   receives : List Try
   receives = map received s.ports
@@ -290,12 +290,12 @@ module _ {L Q : Type 0} (words : Words L Q) (setup : Setup) (old new : Moment L 
     size = ap (λ (hs : List (HeldBy L)). length hs) conns ∙ length-set old.conns place now;
     at = at;
     seen = (acts.calm refl).0;
-    faults = (acts.calm refl).1;
+    binds = (acts.calm refl).1;
   } where
     waited : (p q : Outside) → SeesConn words old.table was p → SeesConn words new.table now q → (s : Held) → IsHeld words.most old.table was s
-        → AreCounted s.ports → Waited tries_of (with_faults old.faults p) (with_faults new.faults q) old.seen new.seen s × IsHeld words.most new.table now s
-    waited p q so sn s held few_are = acts.gives (with_faults old.faults p) (with_faults new.faults q) (sees_faults words old.faults old.table was p so)
-        (sees_faults words new.faults new.table now q sn) s held few_are
+        → Waited tries_of (with_binds old.binds p) (with_binds new.binds q) old.seen new.seen s × IsHeld words.most new.table now s
+    waited p q so sn s held = acts.gives (with_binds old.binds p) (with_binds new.binds q) (sees_binds words old.binds old.table was p so)
+        (sees_binds words new.binds new.table now q sn) s held
 
     passed : PassedAt words old new here place was
     passed = record {
@@ -303,9 +303,9 @@ module _ {L Q : Type 0} (words : Words L Q) (setup : Setup) (old new : Moment L 
       at = let P : List (HeldBy L) → Type 0 = λ hs. slice_get hs place ≡ Some now in subst P (sym conns) (get_set_same old.conns place was now at_was);
       number = acts.number;
       stands = λ s held. acts.still refl s held;
-      told = λ p q so sn s held few_are. let w = (waited p q so sn s held few_are).0 in record { link = w.told.link; ports = w.told.ports };
-      over = λ is p q so sn s held few_are. let w = (waited p q so sn s held few_are).0 in
-          record { none = w.none; waited = conn_waited old.faults new.faults p q s w.asked };
+      told = λ p q so sn s held. let w = (waited p q so sn s held).0 in record { link = w.told.link; ports = w.told.ports };
+      over = λ is p q so sn s held. let w = (waited p q so sn s held).0 in
+          record { none = w.none; waited = conn_waited old.binds new.binds p q s w.asked };
       still = λ not_so. absurd (not_so refl);
     }
 

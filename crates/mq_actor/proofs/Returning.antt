@@ -8,7 +8,7 @@ use Rattle.mq_talk.specs.declared.note.Note.{Note}
 use Rattle.mq_talk.specs.Offices.{Seen as SeenBy}
 use Rattle.mq_talk.specs.Mails.{Boxes, PopGives}
 use Rattle.mq_machine.specs.State.{Held, Tunnel, Worker}
-use Rattle.mq_machine.specs.Acting.{Outside, Known, IsOpen, Steps}
+use Rattle.mq_machine.specs.Acting.{Outside, Known, IsOpen, Writes, Steps}
 use Rattle.mq_held.specs.declared.held.Held.{Held as HeldBy}
 use Rattle.mq_step.specs.Rooms.{HasRooms}
 use Rattle.mq_step.specs.Holds.{IsKnown}
@@ -18,7 +18,7 @@ use Rattle.mq_actor.specs.Holds.{IsWorker, AreHeld, AreDistinct, HaveOwnPorts, n
 use Rattle.mq_actor.specs.Passing.{Tried, Passed, Stopped, PassGives, AreKnown, is_in_part, InPart}
 use Rattle.mq_actor.specs.Seats.{OffersWait, Accepts, AcceptGives, Takes, InboxGives}
 use Rattle.mq_actor.specs.Seen.{Words, Moment, SeesRing}
-use Rattle.mq_actor.specs.Steps.{sight, AllCounted}
+use Rattle.mq_actor.specs.Steps.{sight}
 use Rattle.mq_actor.proofs.Between.{apart_of, numbers_passed}
 use Rattle.mq_actor.proofs.Cores.{AreApart}
 use Rattle.mq_actor.proofs.Calm.{idle_gives, refused_gives, taken_gives, accepted_gives}
@@ -53,8 +53,8 @@ module _ {L Q : Type 0} (words : Words L Q) (self : Ring L) (old : Moment L Q) (
     (office : old.seen.actor ≡ self.id) (inboxes : count ≡ old.seen.config.workers + 1) where
   -- what is promised where the ring is left so
   abbrev pub Promise : Ring L → Moment L Q → Option Boxes → Result (Option Note) NoMemory → Type 0
-  Promise s new boxes_after result = (o n : Outside) → SeesRing words old.table old.faults (begun self) o → SeesRing words new.table new.faults s n
-      → Steps (λ w. IsWorker words.most old.table self w × AllCounted w) (IsWorker words.most new.table s) (sight o old.seen boxes) (sight n new.seen boxes_after) result
+  Promise s new boxes_after result = (o n : Outside) → SeesRing words old.table old.binds (begun self) o → SeesRing words new.table new.binds s n
+      → Steps (IsWorker words.most old.table self) (IsWorker words.most new.table s) (sight o old.seen boxes) (sight n new.seen boxes_after) result
 
   -- whoever says that memory was refused
   pub err_promise : (s : Ring L) (new : Moment L Q) (boxes_after : Option Boxes) (refused : NoMemory) (result : Result (Option Note) NoMemory) → IsErr result
@@ -121,30 +121,33 @@ module _ {L Q : Type 0} (words : Words L Q) (self : Ring L) (old : Moment L Q) (
 
   -- what is promised without an outside
   abbrev pub Stands : Ring L → Moment L Q → Option Boxes → Type 0
-  Stands s new boxes_after = (o : Outside) (x : Worker) → IsWorker words.most old.table self x → AllCounted x → Known (sight o old.seen boxes) x
-      → (t : Worker) × IsWorker words.most new.table s t × Known (sight o new.seen boxes_after) t
+  Stands s new boxes_after = (o : Outside) (x : Worker) → IsWorker words.most old.table self x → Known (sight o old.seen boxes) x
+      → (t : Worker) × IsWorker words.most new.table s t × Known (sight o new.seen boxes_after) t × Writes old.seen new.seen self.id
 
   -- an outside that sees the ring behind the step, for each worker
   abbrev pub Seen : Ring L → Moment L Q → Type 0
-  Seen s new = (o : Outside) (x : Worker) → IsWorker words.most old.table self x → AllCounted x → Known (sight o old.seen boxes) x → (n : Outside) × SeesRing words new.table new.faults s n
+  Seen s new = (o : Outside) (x : Worker) → IsWorker words.most old.table self x → Known (sight o old.seen boxes) x → (n : Outside) × SeesRing words new.table new.binds s n
 
-  known_any : (o n : Outside) (seen : SeenBy) (bs : Option Boxes) (x : Worker) → Known (sight o seen bs) x → Known (sight n seen bs) x
+  pub known_any : (o n : Outside) (seen : SeenBy) (bs : Option Boxes) (x : Worker) → Known (sight o seen bs) x → Known (sight n seen bs) x
   known_any o n seen bs x known = record { id = known.id; pump = known.pump; tunnels = known.tunnels; last = known.last; boxes = known.boxes }
 
   apart : (x : Worker) → IsWorker words.most old.table self x → AreApart x.conns
   apart x is = apart_of words.most old.table self x is
 
-  begins : (o : Outside) (x : Worker) → IsWorker words.most old.table self x → Known (sight o old.seen boxes) x → (n : Outside) × SeesRing words old.table old.faults (begun self) n
+  pub begins : (o : Outside) (x : Worker) → IsWorker words.most old.table self x → Known (sight o old.seen boxes) x → (n : Outside) × SeesRing words old.table old.binds (begun self) n
   begins o x is known =
-      sighted words old.table old.faults (begun self) refl is.numbers (own_tunnels words.most old.table self.conns.items x o old.seen boxes is.conns (apart x is) known)
+      sighted words old.table old.binds (begun self) refl is.numbers (own_tunnels words.most old.table self.conns.items x o old.seen boxes is.conns (apart x is) known)
+
+  write_by : (x : Worker) → IsWorker words.most old.table self x → (seen_after : SeenBy) → Writes old.seen seen_after x.id → Writes old.seen seen_after self.id
+  write_by x is seen_after writes = let P : ℕ → Type 0 = λ k. Writes old.seen seen_after k in subst P is.id writes
 
   -- where what is promised holds for those who see, it holds
   pub stands_by : (s : Ring L) (new : Moment L Q) (boxes_after : Option Boxes) (result : Result (Option Note) NoMemory) → Promise s new boxes_after result → Seen s new → Stands s new boxes_after
-  stands_by s new after result promise seen o x is counted known =
+  stands_by s new after result promise seen o x is known =
       let b = begins o x is known in
-      let n = seen o x is counted known in
-      let g = promise b.0 n.0 b.1 n.1 x (is, counted) (known_any o b.0 old.seen boxes x known) in
-      (g.0, g.1, known_any n.0 o new.seen after g.0 g.3)
+      let n = seen o x is known in
+      let g = promise b.0 n.0 b.1 n.1 (record { bind = false }) x is (known_any o b.0 old.seen boxes x known) in
+      (g.0, g.1, known_any n.0 o new.seen after g.0 g.3, write_by x is new.seen g.4)
 
   stand_then : (mid : Moment L Q) (tried : Tried) (x : Worker) → Passed words old mid tried → IsWorker words.most old.table self x → AreHeld words.most mid.table mid.conns x.conns
   stand_then mid tried x passed is =
@@ -164,68 +167,67 @@ module _ {L Q : Type 0} (words : Words L Q) (self : Ring L) (old : Moment L Q) (
 
   -- no connection acted
   pub calm_seen : (s : Ring L) (mid : Moment L Q) (tried : Tried) → Passed words old mid tried → s.conns.items ≡ mid.conns → s.offered.items ≡ self.offered.items → s.ended ≡ None → Seen s mid
-  calm_seen s mid tried passed conns offered ended o x is counted known =
+  calm_seen s mid tried passed conns offered ended o x is known =
       let T : List (HeldBy L) → Type 0 = λ hs. HaveOwnTunnels hs in
       let A : List (HeldBy L) → Type 0 = λ hs. AreDistinct (numbers_of hs self.offered.items) in
       let N : List (OfferBy L) → Type 0 = λ fs. AreDistinct (numbers_of s.conns.items fs) in
-      sighted words mid.table mid.faults s ended (subst N (sym offered) (subst A (sym conns) (numbers_then mid tried x passed is))) (subst T (sym conns) (tunnels_then mid tried o x passed is known))
+      sighted words mid.table mid.binds s ended (subst N (sym offered) (subst A (sym conns) (numbers_then mid tried x passed is))) (subst T (sym conns) (tunnels_then mid tried o x passed is known))
 
   -- a link was accepted
   pub accepted_seen : (m s : Ring L) (mid : Moment L Q) (tried : Tried) (said : Note) → Passed words old mid tried → mid.conns ≡ m.conns.items → m.offered.items ≡ self.offered.items → m.ended ≡ None
       → Accepts m s said → Seen s mid
-  accepted_seen m s mid tried said passed conns offered ended acc o x is counted known =
+  accepted_seen m s mid tried said passed conns offered ended acc o x is known =
       let T : List (HeldBy L) → Type 0 = λ hs. HaveOwnTunnels hs in
       let A : List (HeldBy L) → Type 0 = λ hs. AreDistinct (numbers_of hs self.offered.items) in
       let N : List (OfferBy L) → Type 0 = λ fs. AreDistinct (numbers_of m.conns.items fs) in
       let numbers = subst N (sym offered) (subst A conns (numbers_then mid tried x passed is)) in
-      sighted words mid.table mid.faults s (ap (λ (z : Ring L). z.ended) acc.rest ∙ ended) (subst AreDistinct (numbers_moved_on m s said acc) numbers)
+      sighted words mid.table mid.binds s (ap (λ (z : Ring L). z.ended) acc.rest ∙ ended) (subst AreDistinct (numbers_moved_on m s said acc) numbers)
       (subst T (sym acc.conns) (own_tunnels_pushed m.conns.items acc.held acc.ports (subst T conns (tunnels_then mid tried o x passed is known))))
 
   -- ---- the offered links, in the upper part
 
   pub accept_refused : (s : Ring L) (refused : NoMemory) → AcceptGives true (begun self) s (Err refused) → Promise s old boxes (Err refused)
-  accept_refused s refused gives o n sees later x (is, counted) known =
+  accept_refused s refused gives o n sees later orders x is known =
       let own = own_untried boxes count self.id (own_place o x is known) (fit o x known) in
       let so = so_far words (begun self) old boxes count starts (begun self) old boxes Untried ⊥ ⊥ (first_passed words (begun self) old boxes count starts) refl (λ never. absurd never) own in
-      refused_gives words (begun self) (begun self) s old old boxes boxes count Untried ⊥ ⊥ so starts is.ports is.rooms o n sees later inboxes x (worker_begun x is) counted known
-      (covers_offers self.next_seat gives.0) gives.1 gives.2 gives.3
+      refused_gives words (begun self) (begun self) s old old boxes boxes count Untried ⊥ ⊥ so starts is.ports is.rooms o n sees later inboxes x (worker_begun x is) known
+      orders (covers_offers self.next_seat gives.0) gives.1 gives.2 gives.3
 
-  pub accept_refused_stands : (s : Ring L) (refused : NoMemory) → AcceptGives true (begun self) s (Err refused) → Stands s old boxes
-  accept_refused_stands s refused gives =
-      stands_by s old boxes (Err refused) (accept_refused s refused gives) (calm_seen s old Untried (first_passed words (begun self) old boxes count starts) (gives.2 ∙ sym starts)
+  pub accept_refused_sights : (s : Ring L) (refused : NoMemory) → AcceptGives true (begun self) s (Err refused) → Seen s old
+  accept_refused_sights s refused gives =
+      (calm_seen s old Untried (first_passed words (begun self) old boxes count starts) (gives.2 ∙ sym starts)
       (ap (λ (z : Ring L). z.offered.items) gives.3) (ap (λ (z : Ring L). z.ended) gives.3))
 
   pub accept_did : (s : Ring L) (said : Note) → AcceptGives true (begun self) s (Ok (Some said)) → Promise s old boxes (Ok (Some said))
-  accept_did s said gives o n sees later x (is, counted) known =
+  accept_did s said gives o n sees later orders x is known =
       let own = own_untried boxes count self.id (own_place o x is known) (fit o x known) in
       let so = so_far words (begun self) old boxes count starts (begun self) old boxes Untried ⊥ ⊥ (first_passed words (begun self) old boxes count starts) refl (λ never. absurd never) own in
-      accepted_gives words (begun self) (begun self) s old old boxes boxes count Untried ⊥ ⊥ so starts is.ports is.rooms o n sees later inboxes x (worker_begun x is) counted known
-      said (covers_offers self.next_seat gives.0) gives.1
+      accepted_gives words (begun self) (begun self) s old old boxes boxes count Untried ⊥ ⊥ so starts is.ports is.rooms o n sees later inboxes x (worker_begun x is) known
+      orders said (covers_offers self.next_seat gives.0) gives.1
 
-  pub accept_did_stands : (s : Ring L) (said : Note) → AcceptGives true (begun self) s (Ok (Some said)) → Stands s old boxes
-  accept_did_stands s said gives =
-      stands_by s old boxes (Ok (Some said)) (accept_did s said gives)
+  pub accept_did_sights : (s : Ring L) (said : Note) → AcceptGives true (begun self) s (Ok (Some said)) → Seen s old
+  accept_did_sights s said gives =
       (accepted_seen (begun self) s old Untried said (first_passed words (begun self) old boxes count starts) starts refl refl gives.1)
 
   -- ---- the inbox there
 
   pub pop_did : (one s : Ring L) (said : Note) (boxes_after : Option Boxes) (id : ℕ) → id ≡ self.id → AcceptGives true (begun self) one (Ok None)
       → InboxGives count boxes id true one s (Some said) boxes_after → Promise s old boxes_after (Ok (Some said))
-  pop_did one s said after id mine first gives o n sees later x (is, counted) known =
+  pop_did one s said after id mine first gives o n sees later orders x is known =
       let G : Ring L → Type 0 = λ z. InboxGives count boxes id true z s (Some said) after in
       let I : ℕ → Type 0 = λ k. Takes count boxes k (begun self) s said after in
       let gave = subst G first.0 gives in
       let own = own_untried boxes count self.id (own_place o x is known) (fit o x known) in
       let so = so_far words (begun self) old boxes count starts (begun self) old boxes Untried (InUpper self.next_seat 0) ⊥ (first_passed words (begun self) old boxes count starts) refl first.1 own in
       taken_gives words (begun self) (begun self) s old old boxes boxes count Untried (InUpper self.next_seat 0) ⊥ so starts is.ports is.rooms o n sees later inboxes x (worker_begun x is)
-      counted known said after refl (covers_inbox self.next_seat gave.0) (subst I mine gave.1)
+      known orders said after refl (covers_inbox self.next_seat gave.0) (subst I mine gave.1)
 
-  pub pop_did_stands : (one s : Ring L) (said : Note) (boxes_after : Option Boxes) (id : ℕ) → id ≡ self.id → AcceptGives true (begun self) one (Ok None)
-      → InboxGives count boxes id true one s (Some said) boxes_after → Stands s old boxes_after
-  pop_did_stands one s said after id mine first gives =
+  pub pop_did_sights : (one s : Ring L) (said : Note) (boxes_after : Option Boxes) (id : ℕ) → id ≡ self.id → AcceptGives true (begun self) one (Ok None)
+      → InboxGives count boxes id true one s (Some said) boxes_after → Seen s old
+  pop_did_sights one s said after id mine first gives =
       let G : Ring L → Type 0 = λ z. InboxGives count boxes id true z s (Some said) after in
       let rest = (subst G first.0 gives).1.rest in
-      stands_by s old after (Ok (Some said)) (pop_did one s said after id mine first gives) (calm_seen s old Untried (first_passed words (begun self) old boxes count starts)
+      (calm_seen s old Untried (first_passed words (begun self) old boxes count starts)
       (ap (λ (z : Ring L). z.conns.items) rest ∙ sym starts) (ap (λ (z : Ring L). z.offered.items) rest) (ap (λ (z : Ring L). z.ended) rest))
 
   -- ---- behind both, in the upper part
@@ -246,7 +248,7 @@ module _ {L Q : Type 0} (words : Words L Q) (self : Ring L) (old : Moment L Q) (
     -- a connection there acted, or was refused memory
     pub upper_stopped : (s : Ring L) (new : Moment L Q) (result : Result (Option Note) NoMemory) → Stopped words true two s (among two.conns.items old) new result → HaveOwnPorts s.conns.items → HasRooms s.rooms
         → Promise s new boxes_one result
-    upper_stopped s new result stopped ports rooms o n sees later x (is, counted) known =
+    upper_stopped s new result stopped ports rooms o n sees later orders x is known =
         let S : Ring L → Type 0 = λ z. Stopped words true z s (among z.conns.items old) new result in
         let O : List (HeldBy L) → Type 0 = λ hs. Stopped words true (begun self) s (among hs old) new result in
         let st = subst O (sym starts) (subst S two_is stopped) in
@@ -255,13 +257,13 @@ module _ {L Q : Type 0} (words : Words L Q) (self : Ring L) (old : Moment L Q) (
         st.passed refl first.1 own in
         acted_gives words true (begun self) (begun self) s old st.mid new boxes boxes_one count (Upper self.next_seat st.place) (InUpper self.next_seat 0) (InUpper self.next_seat 1) st.place result
         so st.acted st.ports (λ tried. let lt = tried.0 in omega (arith, lt)) (covers_upper self.next_seat st.place st.acted.was.number st.acted.turn) ports rooms inboxes office o n
-        sees later x (worker_begun x is) counted known
+        sees later orders x (worker_begun x is) known
 
-    pub upper_stopped_stands : (s : Ring L) (new : Moment L Q) (result : Result (Option Note) NoMemory) → Stopped words true two s (among two.conns.items old) new result
-        → HaveOwnPorts s.conns.items → HasRooms s.rooms → Stands s new boxes_one
-    upper_stopped_stands s new result stopped ports rooms = stands_by s new boxes_one result (upper_stopped s new result stopped ports rooms) seen where
+    pub upper_stopped_sights : (s : Ring L) (new : Moment L Q) (result : Result (Option Note) NoMemory) → Stopped words true two s (among two.conns.items old) new result
+        → HaveOwnPorts s.conns.items → HasRooms s.rooms → Seen s new
+    upper_stopped_sights s new result stopped ports rooms = seen where
       seen : Seen s new
-      seen o x is counted known =
+      seen o x is known =
           let S : Ring L → Type 0 = λ z. Stopped words true z s (among z.conns.items old) new result in
           let O : List (HeldBy L) → Type 0 = λ hs. Stopped words true (begun self) s (among hs old) new result in
           let st = subst O (sym starts) (subst S two_is stopped) in
@@ -270,7 +272,7 @@ module _ {L Q : Type 0} (words : Words L Q) (self : Ring L) (old : Moment L Q) (
           st.passed refl first.1 own in
           let b = begins o x is known in
           acted_seen words (begun self) (begun self) old st.mid new boxes boxes_one count (Upper self.next_seat st.place) (InUpper self.next_seat 0) (InUpper self.next_seat 1) so refl b.0 b.1 x
-          (worker_begun x is) counted (known_any o b.0 old.seen boxes x known) st.place st.acted.was st.acted.now st.acted.at (λ tried. let lt = tried.0 in omega (arith, lt)) s st.acted.stepped result
+          (worker_begun x is) (known_any o b.0 old.seen boxes x known) st.place st.acted.was st.acted.now st.acted.at (λ tried. let lt = tried.0 in omega (arith, lt)) s st.acted.stepped result
           st.acted.acts st.acted.leaves
 
     -- ---- behind the upper part
@@ -305,23 +307,22 @@ module _ {L Q : Type 0} (words : Words L Q) (self : Ring L) (old : Moment L Q) (
       known_later k = known_passed words old mid (AllUpper self.next_seat) passed k
 
       pub accept_refused_later : (s : Ring L) (refused : NoMemory) → AcceptGives false three s (Err refused) → Promise s mid boxes_one (Err refused)
-      accept_refused_later s refused gives o n sees later x (is, counted) known =
+      accept_refused_later s refused gives o n sees later orders x is known =
           refused_gives words (begun self) three s old mid boxes boxes_one count (AllUpper self.next_seat) (InUpper self.next_seat 0) (InUpper self.next_seat 1) (so_three o x is known) at_mid
-          own_ports has_rooms o n sees later inboxes x (worker_begun x is) counted known (covers_offers_later self.next_seat (down_is 0 true gives.0)) gives.1 gives.2 gives.3
+          own_ports has_rooms o n sees later inboxes x (worker_begun x is) known orders (covers_offers_later self.next_seat (down_is 0 true gives.0)) gives.1 gives.2 gives.3
 
-      pub accept_refused_later_stands : (s : Ring L) (refused : NoMemory) → AcceptGives false three s (Err refused) → Stands s mid boxes_one
-      accept_refused_later_stands s refused gives =
-          stands_by s mid boxes_one (Err refused) (accept_refused_later s refused gives) (calm_seen s mid (AllUpper self.next_seat) passed (gives.2 ∙ sym at_mid)
+      pub accept_refused_later_sights : (s : Ring L) (refused : NoMemory) → AcceptGives false three s (Err refused) → Seen s mid
+      accept_refused_later_sights s refused gives =
+          (calm_seen s mid (AllUpper self.next_seat) passed (gives.2 ∙ sym at_mid)
           (ap (λ (z : Ring L). z.offered.items) gives.3 ∙ ap (λ (z : Ring L). z.offered.items) three_is) (ap (λ (z : Ring L). z.ended) gives.3 ∙ ap (λ (z : Ring L). z.ended) three_is))
 
       pub accept_did_later : (s : Ring L) (said : Note) → AcceptGives false three s (Ok (Some said)) → Promise s mid boxes_one (Ok (Some said))
-      accept_did_later s said gives o n sees later x (is, counted) known =
+      accept_did_later s said gives o n sees later orders x is known =
           accepted_gives words (begun self) three s old mid boxes boxes_one count (AllUpper self.next_seat) (InUpper self.next_seat 0) (InUpper self.next_seat 1) (so_three o x is known) at_mid
-          own_ports has_rooms o n sees later inboxes x (worker_begun x is) counted known said (covers_offers_later self.next_seat (down_is 0 true gives.0)) gives.1
+          own_ports has_rooms o n sees later inboxes x (worker_begun x is) known orders said (covers_offers_later self.next_seat (down_is 0 true gives.0)) gives.1
 
-      pub accept_did_later_stands : (s : Ring L) (said : Note) → AcceptGives false three s (Ok (Some said)) → Stands s mid boxes_one
-      accept_did_later_stands s said gives =
-          stands_by s mid boxes_one (Ok (Some said)) (accept_did_later s said gives)
+      pub accept_did_later_sights : (s : Ring L) (said : Note) → AcceptGives false three s (Ok (Some said)) → Seen s mid
+      accept_did_later_sights s said gives =
           (accepted_seen three s mid (AllUpper self.next_seat) said passed at_mid (ap (λ (z : Ring L). z.offered.items) three_is) (ap (λ (z : Ring L). z.ended) three_is) gives.1)
 
       -- ---- behind the offered links there
@@ -339,24 +340,24 @@ module _ {L Q : Type 0} (words : Words L Q) (self : Ring L) (old : Moment L Q) (
 
         pub pop_did_later : (s : Ring L) (said : Note) (boxes_after : Option Boxes) → InboxGives count boxes_one id false four s (Some said) boxes_after
             → Promise s mid boxes_after (Ok (Some said))
-        pop_did_later s said after gives o n sees later x (is, counted) known =
+        pop_did_later s said after gives o n sees later orders x is known =
             let G : Ring L → Type 0 = λ z. InboxGives count boxes_one id false z s (Some said) after in
             let I : ℕ → Type 0 = λ k. Takes count boxes_one k three s said after in
             let gave = subst G second.0 gives in
             let down = down_is 1 true gave.0 in
             taken_gives words (begun self) three s old mid boxes boxes_one count (AllUpper self.next_seat) ⊤ (InUpper self.next_seat 1) (so_four o x is known) at_mid own_ports has_rooms o n
-            sees later inboxes x (worker_begun x is) counted known said after (not_upper down) (covers_inbox_later self.next_seat down) (subst I mine gave.1) where
+            sees later inboxes x (worker_begun x is) known orders said after (not_upper down) (covers_inbox_later self.next_seat down) (subst I mine gave.1) where
               not_upper : is_in_part false self.next_seat 1 ≡ true → boxes_one ≡ boxes
               not_upper down = by_part (is_in_part true self.next_seat 1) refl where
                 by_part : (b : Bool) → is_in_part true self.next_seat 1 ≡ b → boxes_one ≡ boxes
                 by_part true up = absurd (in_one self.next_seat 1 up down)
                 by_part false not = same_boxes not
 
-        pub pop_did_later_stands : (s : Ring L) (said : Note) (boxes_after : Option Boxes) → InboxGives count boxes_one id false four s (Some said) boxes_after → Stands s mid boxes_after
-        pop_did_later_stands s said after gives =
+        pub pop_did_later_sights : (s : Ring L) (said : Note) (boxes_after : Option Boxes) → InboxGives count boxes_one id false four s (Some said) boxes_after → Seen s mid
+        pop_did_later_sights s said after gives =
             let G : Ring L → Type 0 = λ z. InboxGives count boxes_one id false z s (Some said) after in
             let rest = (subst G second.0 gives).1.rest in
-            stands_by s mid after (Ok (Some said)) (pop_did_later s said after gives) (calm_seen s mid (AllUpper self.next_seat) passed (ap (λ (z : Ring L). z.conns.items) rest ∙ sym at_mid)
+            (calm_seen s mid (AllUpper self.next_seat) passed (ap (λ (z : Ring L). z.conns.items) rest ∙ sym at_mid)
             (ap (λ (z : Ring L). z.offered.items) rest ∙ ap (λ (z : Ring L). z.offered.items) three_is) (ap (λ (z : Ring L). z.ended) rest ∙ ap (λ (z : Ring L). z.ended) three_is))
 
         -- ---- behind both there
@@ -379,7 +380,7 @@ module _ {L Q : Type 0} (words : Words L Q) (self : Ring L) (old : Moment L Q) (
 
           pub lower_stopped : (s : Ring L) (new : Moment L Q) (result : Result (Option Note) NoMemory) → Stopped words false five s (among five.conns.items mid) new result → HaveOwnPorts s.conns.items
               → HasRooms s.rooms → Promise s new boxes_two result
-          lower_stopped s new result stopped ports rooms o n sees later x (is, counted) known =
+          lower_stopped s new result stopped ports rooms o n sees later orders x is known =
               let S : Ring L → Type 0 = λ z. Stopped words false z s (among z.conns.items mid) new result in
               let O : List (HeldBy L) → Type 0 = λ hs. Stopped words false three s (among hs mid) new result in
               let st = subst O (sym at_mid) (subst S five_is stopped) in
@@ -389,13 +390,13 @@ module _ {L Q : Type 0} (words : Words L Q) (self : Ring L) (old : Moment L Q) (
               let turn : InPart false self.next_seat st.acted.was.number = down_is (st.acted.was.number + 2) true st.acted.turn in
               acted_gives words false (begun self) three s old st.mid new boxes boxes_two count (Lower self.next_seat st.place) ⊤ ⊤ st.place result so st.acted st.ports
               (λ tried. untried st.place st.acted.was.number turn tried) (covers_lower self.next_seat st.place st.acted.was.number turn) ports rooms inboxes office o n
-              sees later x (worker_begun x is) counted known where
+              sees later orders x (worker_begun x is) known where
                 untried : (k number : ℕ) → InPart false self.next_seat number → Lower self.next_seat k k number → ⊥
                 untried k number down (inl up) = in_one self.next_seat (number + 2) up down
                 untried k number down (inr (lt, also)) = absurd (omega (arith, lt))
 
           lower_seen : (s : Ring L) (new : Moment L Q) (result : Result (Option Note) NoMemory) → Stopped words false five s (among five.conns.items mid) new result → Seen s new
-          lower_seen s new result stopped o x is counted known =
+          lower_seen s new result stopped o x is known =
               let S : Ring L → Type 0 = λ z. Stopped words false z s (among z.conns.items mid) new result in
               let O : List (HeldBy L) → Type 0 = λ hs. Stopped words false three s (among hs mid) new result in
               let st = subst O (sym at_mid) (subst S five_is stopped) in
@@ -404,7 +405,7 @@ module _ {L Q : Type 0} (words : Words L Q) (self : Ring L) (old : Moment L Q) (
               let so = so_far words (begun self) old boxes count starts three st.mid boxes_two (Lower self.next_seat st.place) ⊤ ⊤ lower three_is (λ any. offers_wait) (own_five o x is known) in
               let turn : InPart false self.next_seat st.acted.was.number = down_is (st.acted.was.number + 2) true st.acted.turn in
               let b = begins o x is known in
-              acted_seen words (begun self) three old st.mid new boxes boxes_two count (Lower self.next_seat st.place) ⊤ ⊤ so refl b.0 b.1 x (worker_begun x is) counted
+              acted_seen words (begun self) three old st.mid new boxes boxes_two count (Lower self.next_seat st.place) ⊤ ⊤ so refl b.0 b.1 x (worker_begun x is)
               (known_any o b.0 old.seen boxes x known) st.place st.acted.was st.acted.now st.acted.at (λ tried. was_untried st.place st.acted.was.number turn tried) s st.acted.stepped result
               st.acted.acts st.acted.leaves where
                 was_untried : (k number : ℕ) → InPart false self.next_seat number → Lower self.next_seat k k number → ⊥
@@ -413,7 +414,7 @@ module _ {L Q : Type 0} (words : Words L Q) (self : Ring L) (old : Moment L Q) (
 
           pub nothing_did : (s : Ring L) (new : Moment L Q) → new.conns ≡ s.conns.items → PassGives words false five s (among five.conns.items mid) new (Ok None) → HaveOwnPorts s.conns.items → HasRooms s.rooms
               → Promise s new boxes_two (Ok None)
-          nothing_did s new at_new gives ports rooms o n sees later x (is, counted) known =
+          nothing_did s new at_new gives ports rooms o n sees later orders x is known =
               let P : Ring L → Type 0 = λ z. Passed words (among z.conns.items mid) new (λ i number. InPart false z.next_seat number) in
               let O : List (HeldBy L) → Type 0 = λ hs. Passed words (among hs mid) new (λ i number. InPart false three.next_seat number) in
               let T : ℕ → Type 0 = λ k. Passed words mid new (λ i number. InPart false k number) in
@@ -422,7 +423,7 @@ module _ {L Q : Type 0} (words : Words L Q) (self : Ring L) (old : Moment L Q) (
               let ring : s ≡ record (begun self) { conns = s.conns; rooms = s.rooms } =
               gives.1 ∙ ap (λ (z : Ring L). record z { conns = s.conns; rooms = s.rooms }) (five_is ∙ three_is) in
               let so = so_far words (begun self) old boxes count starts s new boxes_two (AllTried self.next_seat) ⊤ ⊤ all ring (λ any. offers_wait) (own_five o x is known) in
-              idle_gives words (begun self) s s old new boxes boxes_two count (AllTried self.next_seat) ⊤ ⊤ so at_new ports rooms o n sees later inboxes x (worker_begun x is) counted known
+              idle_gives words (begun self) s s old new boxes boxes_two count (AllTried self.next_seat) ⊤ ⊤ so at_new ports rooms o n sees later inboxes x (worker_begun x is) known
               refl tt tt (λ i number. all_tried self.next_seat i number)
 
           -- whatever the lower part's connections gave
@@ -432,9 +433,9 @@ module _ {L Q : Type 0} (words : Words L Q) (self : Ring L) (old : Moment L Q) (
           lower_gives s new (Ok (Some said)) at_new gives ports rooms = lower_stopped s new (Ok (Some said)) gives ports rooms
           lower_gives s new (Err refused) at_new gives ports rooms = lower_stopped s new (Err refused) gives ports rooms
 
-          pub lower_stands : (s : Ring L) (new : Moment L Q) (result : Result (Option Note) NoMemory) → new.conns ≡ s.conns.items
-              → PassGives words false five s (among five.conns.items mid) new result → HaveOwnPorts s.conns.items → HasRooms s.rooms → Stands s new boxes_two
-          lower_stands s new (Ok None) at_new gives ports rooms =
+          pub lower_sights : (s : Ring L) (new : Moment L Q) (result : Result (Option Note) NoMemory) → new.conns ≡ s.conns.items
+              → PassGives words false five s (among five.conns.items mid) new result → HaveOwnPorts s.conns.items → HasRooms s.rooms → Seen s new
+          lower_sights s new (Ok None) at_new gives ports rooms =
               let P : Ring L → Type 0 = λ z. Passed words (among z.conns.items mid) new (λ i number. InPart false z.next_seat number) in
               let O : List (HeldBy L) → Type 0 = λ hs. Passed words (among hs mid) new (λ i number. InPart false three.next_seat number) in
               let T : ℕ → Type 0 = λ k. Passed words mid new (λ i number. InPart false k number) in
@@ -442,9 +443,8 @@ module _ {L Q : Type 0} (words : Words L Q) (self : Ring L) (old : Moment L Q) (
               let all = all_passed words (begun self) old boxes count starts mid new passed (subst T next_is lower) in
               let ring : s ≡ record (begun self) { conns = s.conns; rooms = s.rooms } =
               gives.1 ∙ ap (λ (z : Ring L). record z { conns = s.conns; rooms = s.rooms }) (five_is ∙ three_is) in
-              stands_by s new boxes_two (Ok None) (nothing_did s new at_new gives ports rooms)
               (calm_seen s new (AllTried self.next_seat) all (sym at_new) (ap (λ (z : Ring L). z.offered.items) ring) (ap (λ (z : Ring L). z.ended) ring))
-          lower_stands s new (Ok (Some said)) at_new gives ports rooms =
-              stands_by s new boxes_two (Ok (Some said)) (lower_stopped s new (Ok (Some said)) gives ports rooms) (lower_seen s new (Ok (Some said)) gives)
-          lower_stands s new (Err refused) at_new gives ports rooms =
-              stands_by s new boxes_two (Err refused) (lower_stopped s new (Err refused) gives ports rooms) (lower_seen s new (Err refused) gives)
+          lower_sights s new (Ok (Some said)) at_new gives ports rooms =
+              (lower_seen s new (Ok (Some said)) gives)
+          lower_sights s new (Err refused) at_new gives ports rooms =
+              (lower_seen s new (Err refused) gives)

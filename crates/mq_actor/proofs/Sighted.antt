@@ -12,7 +12,7 @@ use Rattle.mq_talk.specs.declared.note.End.{End}
 use Rattle.mq_talk.specs.Mails.{Boxes}
 use Rattle.mq_talk.specs.Offices.{Seen}
 use Rattle.mq_machine.specs.State.{Tunnel, Link, Port, Held, Worker}
-use Rattle.mq_machine.specs.Acting.{Outside, IsOpen, Known}
+use Rattle.mq_machine.specs.Acting.{Outside, IsOpen, Known, Binder}
 use Rattle.mq_held.specs.declared.held.Held.{Held as HeldBy}
 use Rattle.mq_held.specs.declared.held.PortSeat.{PortSeat}
 use Rattle.mq_step.specs.Holds.{ArePorts, AreServed, IsHeld}
@@ -50,13 +50,13 @@ port_told say nothing table None = nothing
 port_told say nothing table (Some seat) = unwrap_or (option_map say (get table seat.key)) nothing
 
 -- An outside that tells of these connections and offered links what they tell, and of others nothing.
-abbrev pub ring_sight : {L Q : Type 0} → Words L Q → Slab Q → ℕ → List (HeldBy L) → List (OfferBy L) → Outside
-ring_sight {L} words table faults hs fs = record {
+abbrev pub ring_sight : {L Q : Type 0} → Words L Q → Slab Q → Binder → List (HeldBy L) → List (OfferBy L) → Outside
+ring_sight {L} words table binds hs fs = record {
   link = λ conn. link_told words hs fs conn;
   link_counts = λ conn. unwrap_or (option_map (λ (h : HeldBy L). words.link_counts h.link) (find (λ (h : HeldBy L). h.number == conn) hs)) no_link_counts;
   port = λ tunnel. port_told words.port None table (seat_in hs tunnel);
   port_counts = λ tunnel. port_told words.port_counts no_port_counts table (seat_in hs tunnel);
-  bind_faults = faults;
+  binds = binds;
 }
 
 -- no two seats of these connections are of one tunnel
@@ -163,11 +163,11 @@ port_is {Q} {A} say nothing table o seat port is at =
 -- ---- what is seen
 
 -- each of the connections is seen
-pub sighted_conns : {L Q : Type 0} (words : Words L Q) (table : Slab Q) (faults : ℕ) (hs : List (HeldBy L)) (fs : List (OfferBy L))
-    → AreDistinct (numbers_of hs fs) → HaveOwnTunnels hs → All (λ (h : HeldBy L). SeesConn words table h (ring_sight words table faults hs fs)) hs
-sighted_conns {L} words table faults hs fs apart own =
-    all_at (λ (h : HeldBy L). SeesConn words table h (ring_sight words table faults hs fs)) hs (λ i h at. one i h at) where
-      one : (i : ℕ) (h : HeldBy L) → slice_get hs i ≡ Some h → SeesConn words table h (ring_sight words table faults hs fs)
+pub sighted_conns : {L Q : Type 0} (words : Words L Q) (table : Slab Q) (binds : Binder) (hs : List (HeldBy L)) (fs : List (OfferBy L))
+    → AreDistinct (numbers_of hs fs) → HaveOwnTunnels hs → All (λ (h : HeldBy L). SeesConn words table h (ring_sight words table binds hs fs)) hs
+sighted_conns {L} words table binds hs fs apart own =
+    all_at (λ (h : HeldBy L). SeesConn words table h (ring_sight words table binds hs fs)) hs (λ i h at. one i h at) where
+      one : (i : ℕ) (h : HeldBy L) → slice_get hs i ≡ Some h → SeesConn words table h (ring_sight words table binds hs fs)
       one i h at =
           let found = conn_found hs fs i h apart at in
           record {
@@ -179,7 +179,7 @@ sighted_conns {L} words table faults hs fs apart own =
               counts_are = ap {B = LinkCounts}
                   (λ (o : Option (HeldBy L)). unwrap_or (option_map (λ (g : HeldBy L). words.link_counts g.link) o) no_link_counts) found;
             };
-            of_ports = all_at (SeesPort words.port words.port_counts table (ring_sight words table faults hs fs)) h.ports.items
+            of_ports = all_at (SeesPort words.port words.port_counts table (ring_sight words table binds hs fs)) h.ports.items
                 (λ a seat at_seat port there.
                 let first = seat_found hs i a h seat own at at_seat in (
                   port_is words.port None table (seat_in hs seat.tunnel) seat port first there,
@@ -188,10 +188,10 @@ sighted_conns {L} words table faults hs fs apart own =
           }
 
 -- each of the offered links is seen
-pub sighted_offers : {L Q : Type 0} (words : Words L Q) (table : Slab Q) (faults : ℕ) (hs : List (HeldBy L)) (fs : List (OfferBy L))
-    → AreDistinct (numbers_of hs fs) → All (SeesOffer words (ring_sight words table faults hs fs)) fs
-sighted_offers {L} words table faults hs fs apart =
-    all_at (SeesOffer words (ring_sight words table faults hs fs)) fs
+pub sighted_offers : {L Q : Type 0} (words : Words L Q) (table : Slab Q) (binds : Binder) (hs : List (HeldBy L)) (fs : List (OfferBy L))
+    → AreDistinct (numbers_of hs fs) → All (SeesOffer words (ring_sight words table binds hs fs)) fs
+sighted_offers {L} words table binds hs fs apart =
+    all_at (SeesOffer words (ring_sight words table binds hs fs)) fs
     (λ k f at.
     ap {B = Option Link}
     (λ (o : Option (HeldBy L)). unwrap_or (option_map (λ (g : HeldBy L). words.link g.link) o)
@@ -201,22 +201,22 @@ sighted_offers {L} words table faults hs fs apart =
     (offer_found hs fs k f apart at))
 
 -- and the failures are told
-pub sighted_faults : {L Q : Type 0} (words : Words L Q) (table : Slab Q) (faults : ℕ) (hs : List (HeldBy L)) (fs : List (OfferBy L))
-    → (ring_sight words table faults hs fs).bind_faults ≡ faults
-sighted_faults words table faults hs fs = refl
+pub sighted_binds : {L Q : Type 0} (words : Words L Q) (table : Slab Q) (binds : Binder) (hs : List (HeldBy L)) (fs : List (OfferBy L))
+    → (ring_sight words table binds hs fs).binds ≡ binds
+sighted_binds words table binds hs fs = refl
 
 -- a ring of which no connection has ended is seen
-pub sighted : {L Q : Type 0} (words : Words L Q) (table : Slab Q) (faults : ℕ) (r : Ring L) → r.ended ≡ None
-    → AreDistinct (numbers_of r.conns.items r.offered.items) → HaveOwnTunnels r.conns.items → (o : Outside) × SeesRing words table faults r o
-sighted {L} words table faults r none apart own =
-    let o : Outside = ring_sight words table faults r.conns.items r.offered.items in
+pub sighted : {L Q : Type 0} (words : Words L Q) (table : Slab Q) (binds : Binder) (r : Ring L) → r.ended ≡ None
+    → AreDistinct (numbers_of r.conns.items r.offered.items) → HaveOwnTunnels r.conns.items → (o : Outside) × SeesRing words table binds r o
+sighted {L} words table binds r none apart own =
+    let o : Outside = ring_sight words table binds r.conns.items r.offered.items in
     let P : Option (HeldBy L) → Type 0 = λ x. MatchOption x ⊤ (λ (h : HeldBy L). SeesConn words table h o) in (
       o,
       record {
-        conns = sighted_conns words table faults r.conns.items r.offered.items apart own;
-        offers = sighted_offers words table faults r.conns.items r.offered.items apart;
+        conns = sighted_conns words table binds r.conns.items r.offered.items apart own;
+        offers = sighted_offers words table binds r.conns.items r.offered.items apart;
         ended = subst P (sym none) tt;
-        faults_are = refl;
+        binds_are = refl;
       },
     )
 
@@ -241,23 +241,23 @@ own_more g hs none own (suc i) (suc j) a b f h x y at_f at_h at_x at_y same =
     let is = own i j a b f h x y at_f at_h at_x at_y same in (ap (λ (k : ℕ). suc k) is.0, is.1)
 
 -- and one of which a connection without ports has ended, whose number is none of the others'
-pub sighted_ended : {L Q : Type 0} (words : Words L Q) (table : Slab Q) (faults : ℕ) (r : Ring L) (h : HeldBy L) → r.ended ≡ Some h → h.ports.items ≡ []
+pub sighted_ended : {L Q : Type 0} (words : Words L Q) (table : Slab Q) (binds : Binder) (r : Ring L) (h : HeldBy L) → r.ended ≡ Some h → h.ports.items ≡ []
     → All (λ (n : ℕ). n ≢ h.number) (numbers_of r.conns.items r.offered.items) → AreDistinct (numbers_of r.conns.items r.offered.items)
-    → HaveOwnTunnels r.conns.items → (o : Outside) × SeesRing words table faults r o
-sighted_ended {L} words table faults r h ended none others apart own =
+    → HaveOwnTunnels r.conns.items → (o : Outside) × SeesRing words table binds r o
+sighted_ended {L} words table binds r h ended none others apart own =
     let hs : List (HeldBy L) = h ∷ r.conns.items in
     let fs : List (OfferBy L) = r.offered.items in
-    let o : Outside = ring_sight words table faults hs fs in
+    let o : Outside = ring_sight words table binds hs fs in
     let P : Option (HeldBy L) → Type 0 = λ x. MatchOption x ⊤ (λ (g : HeldBy L). SeesConn words table g o) in
     let S : HeldBy L → Type 0 = λ g. SeesConn words table g o in
     let distinct : AreDistinct (numbers_of hs fs) = distinct_more h.number (numbers_of r.conns.items fs) others apart in
-    let all = sighted_conns words table faults hs fs distinct (own_more h r.conns.items none own) in (
+    let all = sighted_conns words table binds hs fs distinct (own_more h r.conns.items none own) in (
       o,
       record {
         conns = All-tail S h r.conns.items all;
-        offers = sighted_offers words table faults hs fs distinct;
+        offers = sighted_offers words table binds hs fs distinct;
         ended = subst P (sym ended) (All-head S h r.conns.items all);
-        faults_are = refl;
+        binds_are = refl;
       },
     )
 

@@ -26,7 +26,7 @@ use Rattle.mq_actor.specs.Goes.{Goes}
 use Rattle.mq_actor.specs.Holds.{IsWorker, AreHeld, AreDistinct, numbers_of}
 use Rattle.mq_actor.specs.Passing.{Tried, Acts, LeavesRing}
 use Rattle.mq_actor.specs.Seen.{Words, Moment, SeesRing}
-use Rattle.mq_actor.specs.Steps.{AllCounted, sight}
+use Rattle.mq_actor.specs.Steps.{sight}
 use Rattle.mq_actor.proofs.Acted.{mapped_some, mapped_none}
 use Rattle.mq_actor.proofs.Apart.{tunnel_of_seat, goes_apart}
 use Rattle.mq_actor.proofs.Between.{apart_of, numbers_passed}
@@ -47,13 +47,13 @@ no_seats most table (x ∷ seats) are = absurd are
 
 module _ {L Q : Type 0} (words : Words L Q) (r m : Ring L) (old mid new : Moment L Q) (boxes boxes_now : Option Boxes) (count : ℕ)
     (tried : Tried) (offers_tried inbox_tried : Type 0) (so : SoFar words r m old mid boxes boxes_now count tried offers_tried inbox_tried) (begins : r.ended ≡ None)
-    (o : Outside) (sees : SeesRing words old.table old.faults r o) (x : Worker) (is : IsWorker words.most old.table r x) (counted : AllCounted x)
+    (o : Outside) (sees : SeesRing words old.table old.binds r o) (x : Worker) (is : IsWorker words.most old.table r x)
     (known : Known (sight o old.seen boxes) x) (place : ℕ) (was now : HeldBy L) (at : slice_get mid.conns place ≡ Some was) (untried : tried place was.number → ⊥) (s : Ring L) where
   apart : AreApart x.conns
   apart = apart_of words.most old.table r x is
 
-  acting : Here words r m old mid new boxes boxes_now count tried offers_tried inbox_tried so o o sees x is counted place was now at
-  acting = here words r m old mid new boxes boxes_now count tried offers_tried inbox_tried so o o sees x is counted place was now at untried
+  acting : Here words r m old mid new boxes boxes_now count tried offers_tried inbox_tried so o o sees x is place was now at
+  acting = here words r m old mid new boxes boxes_now count tried offers_tried inbox_tried so o o sees x is place was now at untried
 
   stand : AreHeld words.most mid.table mid.conns x.conns
   stand =
@@ -72,17 +72,17 @@ module _ {L Q : Type 0} (words : Words L Q) (r m : Ring L) (old mid new : Moment
 
   -- what the step of the connection gives, as an outside sees it alone
   given : (stepped : Result Stepped NoMemory) → Acts words m.setup mid new stepped was now
-      → Gives x.setup tries_of Anything o (lone_sight words new.faults new.table now) old.seen new.seen (IsHeld words.most new.table now) acting.s stepped
+      → Gives x.setup tries_of Anything o (lone_sight words new.binds new.table now) old.seen new.seen (IsHeld words.most new.table now) acting.s stepped
   given stepped acts =
-      let n : Outside = lone_sight words new.faults new.table now in
+      let n : Outside = lone_sight words new.binds new.table now in
       let S : Setup → Type 0 = λ z. Gives z tries_of Anything o n mid.seen new.seen (IsHeld words.most new.table now) acting.s stepped in
       let E : Seen → Type 0 = λ z. Gives x.setup tries_of Anything o n z new.seen (IsHeld words.most new.table now) acting.s stepped in
       let setup : m.setup ≡ x.setup = ap (λ (z : Ring L). z.setup) so.ring ∙ sym is.setup in
-      let before : Sees words.link words.link_counts words.port words.port_counts mid.faults mid.table was o = record {
+      let before : Sees words.link words.link_counts words.port words.port_counts mid.binds mid.table was o = record {
         of_link = acting.seen.of_link;
-        of_table = record { ports = acting.seen.of_ports; faults_are = sees.faults_are ∙ sym so.passed.faults };
+        of_table = record { ports = acting.seen.of_ports; binds_are = sees.binds_are ∙ sym so.passed.binds };
       } in
-      subst E so.passed.seen (subst S setup (acts.gives o n before (sight_whole words new.faults new.table now acts.few) acting.s acting.stands acting.counted_are))
+      subst E so.passed.seen (subst S setup (acts.gives o n before (sight_whole words new.binds new.table now acts.few) acting.s acting.stands))
 
   -- its tunnels are none of the others'
   tunnels_set : (t : Held) (sh after : Shared) → length now.ports.items ≤ 1 → IsHeld words.most new.table now t → Goes acting.s.conn sh t.conn.tunnels after → SeesBook old.seen sh.book
@@ -97,12 +97,12 @@ module _ {L Q : Type 0} (words : Words L Q) (r m : Ring L) (old mid new : Moment
         λ same. differ (v.3 ∙ same ∙ sym u.3)
 
   set_seen : (t : Held) (sh after : Shared) → length now.ports.items ≤ 1 → IsHeld words.most new.table now t → Goes acting.s.conn sh t.conn.tunnels after → SeesBook old.seen sh.book
-      → now.number ≡ was.number → s.conns.items ≡ slice_set mid.conns place now → s.ended ≡ None → s.offered.items ≡ r.offered.items → (n : Outside) × SeesRing words new.table new.faults s n
+      → now.number ≡ was.number → s.conns.items ≡ slice_set mid.conns place now → s.ended ≡ None → s.offered.items ≡ r.offered.items → (n : Outside) × SeesRing words new.table new.binds s n
   set_seen t sh after few held goes book number items ended offered =
       let T : List (HeldBy L) → Type 0 = λ hs. HaveOwnTunnels hs in
       let A : List (HeldBy L) → Type 0 = λ hs. AreDistinct (numbers_of hs r.offered.items) in
       let N : List (OfferBy L) → Type 0 = λ fs. AreDistinct (numbers_of s.conns.items fs) in
-      sighted words new.table new.faults s ended (subst N (sym offered) (subst A (sym items) (numbers_set mid.conns r.offered.items place was now at number numbers_mid)))
+      sighted words new.table new.binds s ended (subst N (sym offered) (subst A (sym items) (numbers_set mid.conns r.offered.items place was now at number numbers_mid)))
       (subst T (sym items) (tunnels_set t sh after few held goes book))
 
   no_orders : Orders
@@ -110,12 +110,12 @@ module _ {L Q : Type 0} (words : Words L Q) (r m : Ring L) (old mid new : Moment
 
   -- whatever it came to
   pub acted_seen : (stepped : Result Stepped NoMemory) (result : Result (Option Note) NoMemory) → Acts words m.setup mid new stepped was now
-      → LeavesRing place was now mid.conns m s stepped result → (n : Outside) × SeesRing words new.table new.faults s n
+      → LeavesRing place was now mid.conns m s stepped result → (n : Outside) × SeesRing words new.table new.binds s n
   acted_seen (Ok Quiet) result acts leaves = absurd leaves
   acted_seen (Ok (Did said)) result acts leaves =
       let gives = given (Ok (Did said)) acts so.mail.boxes no_orders in
       let d = gives.1 in
-      let n : Outside = lone_sight words new.faults new.table now in
+      let n : Outside = lone_sight words new.binds new.table now in
       let F : Held → Held = with_prepared n d.answer in
       let b = mapped_some F d.became gives.0 d.then in
       let N : Option Held → Type 0 = λ z. TryNext x.setup (filled o d.found acting.s) d.sh d.try d.answer said z d.after in
@@ -129,7 +129,7 @@ module _ {L Q : Type 0} (words : Words L Q) (r m : Ring L) (old mid new : Moment
       (ap (λ (z : Ring L). z.offered.items) leaves.2 ∙ ap (λ (z : Ring L). z.offered.items) so.ring)
   acted_seen (Ok (Ended said)) result acts leaves =
       let d = given (Ok (Ended said)) acts so.mail.boxes no_orders in
-      let n : Outside = lone_sight words new.faults new.table now in
+      let n : Outside = lone_sight words new.binds new.table now in
       let N : Option Held → Type 0 = λ z. TryNext x.setup (filled o d.found acting.s) d.sh d.try d.answer said z d.after in
       let bare = try_ends x.setup was.conn (filled o d.found acting.s) d.sh d.after d.try d.answer said acting.stands.conn d.is (subst N (mapped_none (with_prepared n d.answer) d.became d.then) d.next) in
       let none = served_none acting.s.conn.ending acting.s.conn.tunnels acting.s.ports bare.0 acting.stands.served in
@@ -142,7 +142,7 @@ module _ {L Q : Type 0} (words : Words L Q) (r m : Ring L) (old mid new : Moment
       let offered = ap (λ (z : Ring L). z.offered.items) leaves.2 ∙ ap (λ (z : Ring L). z.offered.items) so.ring in
       let NO : List (OfferBy L) → Type 0 = λ fs. AreDistinct (numbers_of s.conns.items fs) in
       let FO : List (OfferBy L) → Type 0 = λ fs. All (λ k. k ≢ now.number) (numbers_of s.conns.items fs) in
-      sighted_ended words new.table new.faults s now (ap (λ (z : Ring L). z.ended) leaves.2) seats
+      sighted_ended words new.table new.binds s now (ap (λ (z : Ring L). z.ended) leaves.2) seats
       (subst FO (sym offered) (subst F (sym leaves.1) (subst W (sym acts.number) (number_freed mid.conns r.offered.items place was at numbers_mid))))
       (subst NO (sym offered) (subst A (sym leaves.1) (numbers_removed mid.conns r.offered.items place (within mid.conns place was at) numbers_mid)))
       (subst T (sym leaves.1) (own_tunnels_removed mid.conns place own))

@@ -1,6 +1,6 @@
 -- Whose turn it is in a worker that has what is told of links and ports, or else what was found there.
 use Rattle.std.proofs.Common.{◌≡◌, inl, inr, ◌⊎◌, ℕ, ◌+◌, ◌<◌, ◌≤◌, Bool, true, false, not, List, [], ◌∷◌, map, length, All, nat_lt, slice_get, find}
-use Rattle.std.proofs.Common.{take_while, Option, Some, is_some, refl, sym, ap, subst, ◌∙◌, arith}
+use Rattle.std.proofs.Common.{take_while, Option, Some, None, is_some, refl, sym, ap, subst, ◌∙◌, arith}
 use Rattle.std.specs.Prelude.{◌&&◌, option_and_then}
 use Rattle.std.proofs.lemmas.Bool.{cases_eq, lt-ltb, le-ltb}
 use Rattle.mq_talk.specs.declared.place.Parcel.{Parcel}
@@ -9,8 +9,9 @@ use Rattle.mq_machine.specs.Turn.{Try, try_of, Seat, Offers, Inbox, Of, place_of
 use Rattle.mq_machine.specs.Acting.{Outside, ConnWaited, SeatWaited, seats_before}
 use Rattle.mq_step.specs.Sights.{Found, idle}
 use Rattle.mq_step.specs.Whole.{filled}
+use Rattle.mq_actor.specs.Passing.{PassedOver}
 use Rattle.mq_actor.proofs.Cores.{AreApart}
-use Rattle.mq_actor.proofs.InRing.{Precedes, first_in_ring, before_in_ring, all_at}
+use Rattle.mq_actor.proofs.InRing.{Precedes, first_in_ring, none_in_ring, before_in_ring, all_at}
 use Rattle.mq_actor.proofs.Lists.{get_map, seat_at, at_seat, found_at, at_found, apart_map}
 use Rattle.mq_actor.proofs.Refilled.{found_for, refilled, reoffered, refill, found_here, found_else, waited_filled}
 use Rattle.mq_actor.proofs.SoFar.{Vain}
@@ -168,6 +169,29 @@ turn_is o n x box number found k seat apart at found_there can vain =
     subst Turns (sym (seats_same o x number found))
     (first_in_ring (can_act (refill o number found x) box) x.next_seat (seats_of x) k seat at can
     (cannot_before o n x box number found k seat apart at found_there vain))
+
+-- no seat has a turn where each was passed over
+pub no_turn : (o n : Outside) (x : Worker) (box : List Parcel) → AreApart x.conns → (x.offered ≡ []) ⊎ (most_live ≤ length x.conns) → box ≡ []
+    → ((i : ℕ) (h : Held) → slice_get x.conns i ≡ Some h → PassedOver o n h) → turn_of (refill o 0 idle x) box ≡ None
+no_turn o n x box apart offers empty over =
+    let Quiet : List Seat → Type 0 = λ seats. find (can_act (refill o 0 idle x) box) (ring_from x.next_seat seats) ≡ None in
+    subst Quiet (sym (seats_same o x 0 idle)) (none_in_ring (can_act (refill o 0 idle x) box) x.next_seat (seats_of x) (λ a z at. by_case a z (at_seat x a z at))) where
+      Cannot : Seat → Type 0
+      Cannot z = can_act (refill o 0 idle x) box z ≡ false
+
+      conn_cannot : (i : ℕ) (h : Held) → slice_get x.conns i ≡ Some h → Cannot (Of h.conn.number)
+      conn_cannot i h at =
+          can_refilled o x box 0 idle i h apart at
+          ∙ ap {B = Bool} (λ (f : Found). is_some (try_of (filled o f h))) (nothing_found 0 h.conn.number idle (λ same. refl))
+          ∙ ap {B = Bool} (λ (t : Option Try). is_some t) (over i h at).none
+
+      by_case : (a : ℕ) (z : Seat)
+          → ((a ≡ 0) × (z ≡ Offers)) ⊎
+          (((a ≡ 1) × (z ≡ Inbox)) ⊎
+          ((i : ℕ) × (h : Held) × (a ≡ i + 2) × (slice_get x.conns i ≡ Some h) × (z ≡ Of h.conn.number))) → Cannot z
+      by_case a z (inl (place, is)) = subst Cannot (sym is) (offers_cannot o x box 0 idle offers)
+      by_case a z (inr (inl (place, is))) = subst Cannot (sym is) (ap {B = Bool} (λ (parcels : List Parcel). nat_lt 0 (length parcels)) empty)
+      by_case a z (inr (inr (i, h, place, at, is))) = subst Cannot (sym is) (conn_cannot i h at)
 
 -- those before it were passed over
 pub before_waited : (o n : Outside) (x : Worker) (box : List Parcel) (number : ℕ) (found : Found) (k : ℕ) (seat : Seat) → AreApart x.conns

@@ -1,8 +1,9 @@
 pub mod Goes
 pub mod Holds
 pub mod Seen
+pub mod Told
 pub mod Passing
 pub mod Seats
 pub mod Steps
-pub mod Around
+pub mod Plain
 pub mod Ended

@@ -13,7 +13,7 @@ use Rattle.mq_step.specs.declared.stepped.Stepped.{Stepped}
 use Rattle.mq_step.specs.declared.stepped.Stepped.TheVariants.{Quiet, Did, Ended}
 use Rattle.mq_step.specs.Sights.{idle}
 use Rattle.mq_step.specs.Whole.{Sees, filled}
-use Rattle.mq_step.specs.Holds.{IsHeld, IsKnown, AreCounted, KeepsOthers}
+use Rattle.mq_step.specs.Holds.{IsHeld, IsKnown, KeepsOthers}
 use Rattle.mq_step.specs.Gives.{Gives, Anything}
 use Rattle.mq_actor.specs.declared.ring.Ring.{Ring}
 use Rattle.mq_actor.specs.Seen.{Words, Moment, SeesConn}
@@ -59,10 +59,10 @@ pub record PassedAt {L Q : Type 0} (words : Words L Q) (old new : Moment L Q) (t
   pub number : now.number ≡ h.number
   pub stands : (s : Held) → IsHeld words.most old.table h s → IsHeld words.most new.table now s
   pub told : (o n : Outside) → SeesConn words old.table h o → SeesConn words new.table now n
-      → (s : Held) → IsHeld words.most old.table h s → AreCounted s.ports → TellsSame o n s
+      → (s : Held) → IsHeld words.most old.table h s → TellsSame o n s
   pub over : tried place h.number
       → (o n : Outside) → SeesConn words old.table h o → SeesConn words new.table now n
-      → (s : Held) → IsHeld words.most old.table h s → AreCounted s.ports → PassedOver o n s
+      → (s : Held) → IsHeld words.most old.table h s → PassedOver o n s
   pub still : (tried place h.number → ⊥) → (now ≡ h) × PortsStay old.table new.table h
 
 pub record Passed {L Q : Type 0} (words : Words L Q) (old new : Moment L Q) (tried : Tried) : Type 0 where
@@ -70,7 +70,7 @@ pub record Passed {L Q : Type 0} (words : Words L Q) (old new : Moment L Q) (tri
   pub at : (place : ℕ) (h : HeldBy L) → slice_get old.conns place ≡ Some h
       → PassedAt words old new tried place h
   pub seen : new.seen ≡ old.seen
-  pub faults : new.faults ≡ old.faults
+  pub binds : new.binds ≡ old.binds
 
 -- ---- one that acted
 
@@ -80,15 +80,15 @@ pub record Acts {L Q : Type 0} (words : Words L Q) (setup : Setup) (old new : Mo
   pub number : now.number ≡ was.number
   pub others : KeepsOthers was now old.table new.table
   pub stays : stepped ≡ Ok Quiet → now.ports.items ≡ was.ports.items
-  pub calm : stepped ≡ Ok Quiet → (new.seen ≡ old.seen) × (new.faults ≡ old.faults)
+  pub calm : stepped ≡ Ok Quiet → (new.seen ≡ old.seen) × (new.binds ≡ old.binds)
   pub few : length now.ports.items ≤ 1
   pub ends : (said : Note) → stepped ≡ Ok (Ended said) → now.ports.items ≡ was.ports.items
   pub still : stepped ≡ Ok Quiet
       → (s : Held) → IsHeld words.most old.table was s → IsHeld words.most new.table now s
   pub gives : (o n : Outside)
-      → Sees words.link words.link_counts words.port words.port_counts old.faults old.table was o
-      → Sees words.link words.link_counts words.port words.port_counts new.faults new.table now n
-      → (s : Held) → IsHeld words.most old.table was s → AreCounted s.ports
+      → Sees words.link words.link_counts words.port words.port_counts old.binds old.table was o
+      → Sees words.link words.link_counts words.port words.port_counts new.binds new.table now n
+      → (s : Held) → IsHeld words.most old.table was s
       → Gives setup tries_of Anything o n old.seen new.seen (IsHeld words.most new.table now) s stepped
 
 -- How it leaves the ring: one that is over is no longer in it. The next search begins behind its seat.

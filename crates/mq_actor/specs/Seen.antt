@@ -5,7 +5,7 @@ use Rattle.mq_outside.specs.Counts.{LinkCounts, PortCounts}
 use Rattle.mq_outside.specs.Ports.{PortHolds}
 use Rattle.mq_talk.specs.Offices.{Seen}
 use Rattle.mq_machine.specs.State.{Link}
-use Rattle.mq_machine.specs.Acting.{Outside}
+use Rattle.mq_machine.specs.Acting.{Outside, Binder}
 use Rattle.mq_held.specs.declared.held.Held.{Held as HeldBy}
 use Rattle.mq_step.specs.Sights.{SeesPorts}
 use Rattle.mq_step.specs.Whole.{SeesLink}
@@ -20,11 +20,11 @@ pub record Words (L Q : Type 0) : Type 0 where
   pub port : Q → Option PortHolds
   pub port_counts : Q → PortCounts
 
--- connections and their ports at one moment, the failures of what binds those, and what the office has seen
+-- connections and their ports at one moment, what binds those, and what the office has seen
 pub record Moment (L Q : Type 0) : Type 0 where
   pub conns : List (HeldBy L)
   pub table : Slab Q
-  pub faults : ℕ
+  pub binds : Binder
   pub seen : Seen
 
 -- the outside tells what a connection's link and ports tell
@@ -36,9 +36,9 @@ abbrev pub SeesOffer : {L Q : Type 0} → Words L Q → Outside → OfferBy L �
 SeesOffer words o f = o.link f.number ≡ words.link f.link
 
 -- and that of all connections and offered links, and of the connection that the last step ended
-pub record SeesRing {L Q : Type 0} (words : Words L Q) (table : Slab Q) (faults : ℕ) (r : Ring L) (o : Outside)
+pub record SeesRing {L Q : Type 0} (words : Words L Q) (table : Slab Q) (binds : Binder) (r : Ring L) (o : Outside)
     : Type 0 where
   pub conns : All (λ h. SeesConn words table h o) r.conns.items
   pub offers : All (SeesOffer words o) r.offered.items
   pub ended : MatchOption r.ended ⊤ (λ h. SeesConn words table h o)
-  pub faults_are : o.bind_faults ≡ faults
+  pub binds_are : o.binds ≡ binds

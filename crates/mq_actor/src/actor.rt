@@ -1,14 +1,17 @@
 //! A worker.
-ghost use Rattle.std.specs.Prelude.{◌≡◌, ◌≢◌, ◌+◌, None, IfOk, OnOk, IfErr, MatchOption, All, [], length};
+ghost use Rattle.std.specs.Prelude.{◌≡◌, ◌≢◌, ◌+◌, true, Some, None, IfOk, OnOk, IfErr, MatchOption, All, [], length};
 ghost use Rattle.mq_addr.specs.declared.kind.Kind.TheVariants as kind;
+ghost use Rattle.mq_talk.specs.Mails.{Boxes};
 ghost use Rattle.mq_machine.specs.State as machine;
-ghost use Rattle.mq_machine.specs.Acting.{Outside, Known, Steps};
+ghost use Rattle.mq_machine.specs.State.{Orders, new_worker, with_offer};
+ghost use Rattle.mq_machine.specs.Acting.{Outside, Known, Writes, Steps, binder};
 ghost use Rattle.mq_ports.specs.Tables.{IsBalanced};
-ghost use Rattle.mq_actor.specs.Around.{new_worker, with_offer};
 ghost use Rattle.mq_actor.specs.Ended.{numbers_in, AreLeft};
 ghost use Rattle.mq_actor.specs.Holds.{IsWorker, numbers_of};
+ghost use Rattle.mq_actor.specs.Plain.{AlwaysTells, PlainStep};
 ghost use Rattle.mq_actor.specs.Seen.{SeesRing};
-ghost use Rattle.mq_actor.specs.Steps.{sight, AllCounted};
+ghost use Rattle.mq_actor.specs.Steps.{sight};
+ghost use Rattle.mq_actor.specs.Told.{TellsRing};
 
 use crate::offer::Offer;
 use crate::ring::Ring;
@@ -87,12 +90,18 @@ impl<L: WriteReady, P: Ports> Actor<L, P> {
         requires office { (O.seen office.old).actor ≡ self.old.ring.id }
         requires mail { M.actor mail.old ≡ self.old.ring.id }
         requires inboxes { M.count mail.old ≡ (O.seen office.old).config.workers + 1 }
-        ensures gives { (o n : Outside) → SeesRing (record { most = P.P.most; link = L.holds; link_counts = L.counts; port = P.P.holds; port_counts = P.P.counts }) self.old.table.table (P.faults self.old.table.ports) (record self.old.ring { ended = None }) o
-            → SeesRing (record { most = P.P.most; link = L.holds; link_counts = L.counts; port = P.P.holds; port_counts = P.P.counts }) self.new.table.table (P.faults self.new.table.ports) self.new.ring n
-            → Steps (λ w. IsWorker P.P.most self.old.table.table self.old.ring w × AllCounted w) (IsWorker P.P.most self.new.table.table self.new.ring)
+        ensures gives { (o n : Outside) → SeesRing (record { most = P.P.most; link = L.holds; link_counts = L.counts; port = P.P.holds; port_counts = P.P.counts }) self.old.table.table (binder P.holds P.faults self.old.table.ports) (record self.old.ring { ended = None }) o
+            → SeesRing (record { most = P.P.most; link = L.holds; link_counts = L.counts; port = P.P.holds; port_counts = P.P.counts }) self.new.table.table (binder P.holds P.faults self.new.table.ports) self.new.ring n
+            → Steps (IsWorker P.P.most self.old.table.table self.old.ring) (IsWorker P.P.most self.new.table.table self.new.ring)
             (sight o (O.seen office.old) (M.boxes mail.old)) (sight n (O.seen office.new) (M.boxes mail.new)) result }
-        ensures stands { (o : Outside) (w : machine.Worker) → IsWorker P.P.most self.old.table.table self.old.ring w → AllCounted w → Known (sight o (O.seen office.old) (M.boxes mail.old)) w
-            → (t : machine.Worker) × IsWorker P.P.most self.new.table.table self.new.ring t × Known (sight o (O.seen office.new) (M.boxes mail.new)) t }
+        ensures stands { (o : Outside) (w : machine.Worker) → IsWorker P.P.most self.old.table.table self.old.ring w → Known (sight o (O.seen office.old) (M.boxes mail.old)) w
+            → (t : machine.Worker) × IsWorker P.P.most self.new.table.table self.new.ring t × Known (sight o (O.seen office.new) (M.boxes mail.new)) t × Writes (O.seen office.old) (O.seen office.new) self.old.ring.id }
+        ensures plain { AlwaysTells L.holds → AlwaysTells P.P.holds → (o : Outside) (w : machine.Worker) (boxes : Boxes) (orders : Orders)
+            → IsWorker P.P.most self.old.table.table self.old.ring w → TellsRing (record { most = P.P.most; link = L.holds; link_counts = L.counts; port = P.P.holds; port_counts = P.P.counts }) self.old.table.table self.old.ring w
+            → Known (sight o (O.seen office.old) (M.boxes mail.old)) w → (O.seen office.old).is_whole ≡ true → M.boxes mail.old ≡ Some boxes
+            → PlainStep (record { most = P.P.most; link = L.holds; link_counts = L.counts; port = P.P.holds; port_counts = P.P.counts }) orders boxes
+            (record { ring = self.old.ring; table = self.old.table.table; binds = binder P.holds P.faults self.old.table.ports; seen = O.seen office.old; boxes = M.boxes mail.old })
+            (record { ring = self.new.ring; table = self.new.table.table; binds = binder P.holds P.faults self.new.table.ports; seen = O.seen office.new; boxes = M.boxes mail.new }) w result }
         ensures ring { (self.new.alloc ≡ self.old.alloc) × (self.new.ring.id ≡ self.old.ring.id) × (self.new.ring.setup ≡ self.old.ring.setup) }
         ensures left { AreLeft (numbers_in self.old.ring) self.new.ring }
         ensures office { (O.seen office.new).actor ≡ (O.seen office.old).actor }

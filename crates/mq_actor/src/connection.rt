@@ -2,6 +2,7 @@
 ghost use Rattle.std.specs.Prelude.{◌≡◌, ◌<◌};
 ghost use Rattle.std.specs.Vec.{vec_len};
 ghost use Rattle.mq_addr.specs.declared.kind.Kind.TheVariants as kind;
+ghost use Rattle.mq_machine.specs.Acting.{binder};
 ghost use Rattle.mq_ports.specs.Tables.{IsBalanced};
 ghost use Rattle.mq_step.specs.Rooms.{HasRooms};
 ghost use Rattle.mq_actor.specs.Holds.{HaveOwnPorts};
@@ -27,12 +28,12 @@ impl<L: WriteReady> Ring<L> {
     ) -> Result<Stepped, NoMemory>
     where
         P::P: ReceiveReady,
-        requires known { AreKnown (record { most = P.P.most; link = L.holds; link_counts = L.counts; port = P.P.holds; port_counts = P.P.counts }) (record { conns = self.old.conns.items; table = table.old.table; faults = P.faults table.old.ports; seen = O.seen office.old }) }
+        requires known { AreKnown (record { most = P.P.most; link = L.holds; link_counts = L.counts; port = P.P.holds; port_counts = P.P.counts }) (record { conns = self.old.conns.items; table = table.old.table; binds = binder P.holds P.faults table.old.ports; seen = O.seen office.old }) }
         requires ports { HaveOwnPorts self.old.conns.items }
         requires rooms { HasRooms self.old.rooms }
         requires udp { self.old.setup.udp.kind ≡ kind.Udp }
         requires place { place < vec_len self.old.conns }
-        ensures turns { TurnsAt (record { most = P.P.most; link = L.holds; link_counts = L.counts; port = P.P.holds; port_counts = P.P.counts }) self.old.setup place (record { conns = self.old.conns.items; table = table.old.table; faults = P.faults table.old.ports; seen = O.seen office.old }) (record { conns = self.new.conns.items; table = table.new.table; faults = P.faults table.new.ports; seen = O.seen office.new }) result }
+        ensures turns { TurnsAt (record { most = P.P.most; link = L.holds; link_counts = L.counts; port = P.P.holds; port_counts = P.P.counts }) self.old.setup place (record { conns = self.old.conns.items; table = table.old.table; binds = binder P.holds P.faults table.old.ports; seen = O.seen office.old }) (record { conns = self.new.conns.items; table = table.new.table; binds = binder P.holds P.faults table.new.ports; seen = O.seen office.new }) result }
         ensures rest { self.new ≡ record self.old { conns = self.new.conns; rooms = self.new.rooms } }
         ensures ports { HaveOwnPorts self.new.conns.items }
         ensures rooms { HasRooms self.new.rooms }
@@ -55,13 +56,13 @@ impl<L: WriteReady> Ring<L> {
     ) -> Result<Option<Note>, NoMemory>
     where
         P::P: ReceiveReady,
-        requires known { AreKnown (record { most = P.P.most; link = L.holds; link_counts = L.counts; port = P.P.holds; port_counts = P.P.counts }) (record { conns = self.old.conns.items; table = table.old.table; faults = P.faults table.old.ports; seen = O.seen office.old }) }
+        requires known { AreKnown (record { most = P.P.most; link = L.holds; link_counts = L.counts; port = P.P.holds; port_counts = P.P.counts }) (record { conns = self.old.conns.items; table = table.old.table; binds = binder P.holds P.faults table.old.ports; seen = O.seen office.old }) }
         requires ports { HaveOwnPorts self.old.conns.items }
         requires rooms { HasRooms self.old.rooms }
         requires udp { self.old.setup.udp.kind ≡ kind.Udp }
         requires place { place < vec_len self.old.conns }
         ensures ring { (self.new.id ≡ self.old.id) × (self.new.setup ≡ self.old.setup) }
-        ensures gives { TryGives (record { most = P.P.most; link = L.holds; link_counts = L.counts; port = P.P.holds; port_counts = P.P.counts }) upper place self.old self.new (record { conns = self.old.conns.items; table = table.old.table; faults = P.faults table.old.ports; seen = O.seen office.old }) (record { conns = self.new.conns.items; table = table.new.table; faults = P.faults table.new.ports; seen = O.seen office.new }) result }
+        ensures gives { TryGives (record { most = P.P.most; link = L.holds; link_counts = L.counts; port = P.P.holds; port_counts = P.P.counts }) upper place self.old self.new (record { conns = self.old.conns.items; table = table.old.table; binds = binder P.holds P.faults table.old.ports; seen = O.seen office.old }) (record { conns = self.new.conns.items; table = table.new.table; binds = binder P.holds P.faults table.new.ports; seen = O.seen office.new }) result }
         ensures ports { HaveOwnPorts self.new.conns.items }
         ensures rooms { HasRooms self.new.rooms }
         ensures actor { (O.seen office.new).actor ≡ (O.seen office.old).actor }

@@ -1,12 +1,12 @@
 //! One step of a worker.
 ghost use Rattle.std.specs.Prelude.{◌≡◌, ◌+◌};
 ghost use Rattle.mq_machine.specs.State.{Worker};
-ghost use Rattle.mq_machine.specs.Acting.{Outside, Known, Steps};
+ghost use Rattle.mq_machine.specs.Acting.{Outside, Known, Steps, binder};
 ghost use Rattle.mq_ports.specs.Tables.{IsBalanced};
 ghost use Rattle.mq_actor.specs.Ended.{numbers_in, AreLeft};
 ghost use Rattle.mq_actor.specs.Holds.{IsWorker};
 ghost use Rattle.mq_actor.specs.Seen.{SeesRing};
-ghost use Rattle.mq_actor.specs.Steps.{sight, AllCounted};
+ghost use Rattle.mq_actor.specs.Steps.{sight};
 
 use crate::ring::Ring;
 use mq_held::{ReceiveReady, WriteReady};
@@ -32,12 +32,12 @@ impl<L: WriteReady> Ring<L> {
         requires office { (O.seen office.old).actor ≡ self.old.id }
         requires mail { M.actor mail.old ≡ self.old.id }
         requires inboxes { M.count mail.old ≡ (O.seen office.old).config.workers + 1 }
-        ensures gives { (o n : Outside) → SeesRing (record { most = P.P.most; link = L.holds; link_counts = L.counts; port = P.P.holds; port_counts = P.P.counts }) table.old.table (P.faults table.old.ports) (record self.old { ended = None }) o
-            → SeesRing (record { most = P.P.most; link = L.holds; link_counts = L.counts; port = P.P.holds; port_counts = P.P.counts }) table.new.table (P.faults table.new.ports) self.new n
-            → Steps (λ w. IsWorker P.P.most table.old.table self.old w × AllCounted w) (IsWorker P.P.most table.new.table self.new)
+        ensures gives { (o n : Outside) → SeesRing (record { most = P.P.most; link = L.holds; link_counts = L.counts; port = P.P.holds; port_counts = P.P.counts }) table.old.table (binder P.holds P.faults table.old.ports) (record self.old { ended = None }) o
+            → SeesRing (record { most = P.P.most; link = L.holds; link_counts = L.counts; port = P.P.holds; port_counts = P.P.counts }) table.new.table (binder P.holds P.faults table.new.ports) self.new n
+            → Steps (IsWorker P.P.most table.old.table self.old) (IsWorker P.P.most table.new.table self.new)
             (sight o (O.seen office.old) (M.boxes mail.old)) (sight n (O.seen office.new) (M.boxes mail.new)) result }
-        ensures stands { (o : Outside) (w : Worker) → IsWorker P.P.most table.old.table self.old w → AllCounted w → Known (sight o (O.seen office.old) (M.boxes mail.old)) w
-            → (t : Worker) × IsWorker P.P.most table.new.table self.new t × Known (sight o (O.seen office.new) (M.boxes mail.new)) t }
+        ensures sights { (o : Outside) (w : Worker) → IsWorker P.P.most table.old.table self.old w → Known (sight o (O.seen office.old) (M.boxes mail.old)) w
+            → (n : Outside) × SeesRing (record { most = P.P.most; link = L.holds; link_counts = L.counts; port = P.P.holds; port_counts = P.P.counts }) table.new.table (binder P.holds P.faults table.new.ports) self.new n }
         ensures ring { (self.new.id ≡ self.old.id) × (self.new.setup ≡ self.old.setup) }
         ensures left { AreLeft (numbers_in self.old) self.new }
         ensures office { (O.seen office.new).actor ≡ (O.seen office.old).actor }

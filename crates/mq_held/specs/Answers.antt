@@ -3,7 +3,7 @@ use Rattle.std.specs.Prelude.{◌≡◌, ◌≢◌, ⊤, ◌⊎◌, ℕ, true, f
 use Rattle.slab.specs.Slab.{Slab, get}
 use Rattle.mq_wire.specs.declared.NoMemory.{NoMemory}
 use Rattle.mq_addr.specs.declared.addr.Addr.{Addr}
-use Rattle.mq_outside.specs.Counts.{risen, PortCounts, no_port_counts}
+use Rattle.mq_outside.specs.Counts.{PortCounts, no_port_counts}
 use Rattle.mq_outside.specs.Ports.{limit_of}
 use Rattle.mq_talk.specs.declared.book.Call.{Call}
 use Rattle.mq_talk.specs.declared.book.Call.TheVariants as call
@@ -14,6 +14,7 @@ use Rattle.mq_talk.specs.Offices.{Seen, CallOk, CallGives}
 use Rattle.mq_machine.specs.State.{Conn}
 use Rattle.mq_machine.specs.Steps.{starved}
 use Rattle.mq_machine.specs.Want.{Bound, Replied}
+use Rattle.mq_machine.specs.Acting.{Binder, Binds}
 use Rattle.mq_machine.specs.Done.{done}
 use Rattle.mq_conn.specs.declared.conn.Conn.{Conn as Core}
 use Rattle.mq_conn.specs.Conns.{heard, MayHear}
@@ -23,19 +24,19 @@ use Rattle.mq_held.specs.declared.ask.Heard.{Heard}
 -- ---- binds
 
 -- A bind of a port, and the key of the port that was bound. A bind that fails leaves the key and the ports, and is counted.
-pub record PortBound {Q : Type 0} (most : Q → ℕ) (counts : Q → PortCounts) (addr : Addr) (old new : Slab Q) (bound : Option ℕ) (faults faults_after : ℕ) : Type 0 where
+pub record PortBound {Q : Type 0} (most : Q → ℕ) (counts : Q → PortCounts) (addr : Addr) (old new : Slab Q) (bound : Option ℕ) (binds binds_after : Binder) : Type 0 where
   pub key : ℕ
   pub port : Q
   pub adds : Adds old new key port
   pub bound_is : bound ≡ Some key
   pub limit : most port ≡ limit_of addr
   pub unused : counts port ≡ no_port_counts
-  pub faults_are : faults_after ≡ faults
+  pub binds_are : Binds true binds binds_after
 
-pub record NotBound {Q : Type 0} (old new : Slab Q) (before after : Option ℕ) (faults faults_after : ℕ) : Type 0 where
+pub record NotBound {Q : Type 0} (old new : Slab Q) (before after : Option ℕ) (binds binds_after : Binder) : Type 0 where
   pub table : new.slots ≡ old.slots
   pub bound_is : after ≡ before
-  pub faults_are : faults_after ≡ risen faults
+  pub binds_are : Binds false binds binds_after
 
 -- every port that stood in the table stands there
 abbrev pub KeepsPorts : {Q : Type 0} → Slab Q → Slab Q → Type 0
@@ -51,6 +52,11 @@ BindGives stands was_bound not_bound s (Ok said) =
     (was_bound × ((t : Conn) × (done s (Bound true) ≡ Some (said, t)) × stands t))
     ⊎ (not_bound × ((t : Conn) × (done s (Bound false) ≡ Some (said, t)) × stands t))
 BindGives stands was_bound not_bound s (Err refused) = stands (starved s)
+
+-- nothing was bound yet
+pub record NothingBound (before after : Option ℕ) (binds binds_after : Binder) : Type 0 where
+  pub bound_is : after ≡ before
+  pub binds_are : binds_after ≡ binds
 
 -- ---- the book
 

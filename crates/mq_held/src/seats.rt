@@ -2,7 +2,7 @@
 ghost use Rattle.std.specs.Prelude.{◌≡◌, ◌<◌, ◌++◌, ◌∷◌, [], ℕ, ⊤, remove, MatchOption, Some, None, slice_get, slice_set};
 ghost use Rattle.std.specs.Vec.{vec_len, vec_capacity};
 ghost use Rattle.slab.specs.Slab.{get, Updates};
-ghost use Rattle.mq_outside.specs.Counts.{risen_by};
+ghost use Rattle.mq_machine.specs.Acting.{binder, handed_back};
 ghost use Rattle.mq_ports.specs.Tables.{IsBalanced};
 ghost use Rattle.mq_held.specs.Seats.{IsSeatOf, HasNoSeat, counted};
 ghost use Rattle.mq_held.specs.declared.held.PortSeat.{PortSeat};
@@ -47,8 +47,9 @@ impl<L> Held<L> {
     pub fn retire<P: Ports>(&mut self, tunnel: u32, table: &mut PortTable<P>)
         ensures seat { (place : ℕ) (seat : PortSeat) → IsSeatOf self.old.ports.items tunnel place seat
             → (self.new.ports.items ≡ remove self.old.ports.items place) × Updates table.old.table table.new.table seat.key None
-            × MatchOption (get table.old.table seat.key) (P.faults table.new.ports ≡ P.faults table.old.ports) (λ port. P.faults table.new.ports ≡ risen_by (P.P.counts port).faults (P.faults table.old.ports)) }
+            × MatchOption (get table.old.table seat.key) (binder P.holds P.faults table.new.ports ≡ binder P.holds P.faults table.old.ports) (λ port. binder P.holds P.faults table.new.ports ≡ handed_back (P.P.counts port).faults (binder P.holds P.faults table.old.ports)) }
         ensures none { HasNoSeat self.old.ports.items tunnel → (self.new ≡ self.old) × (table.new ≡ table.old) }
+        ensures holds { P.holds table.new.ports ≡ P.holds table.old.ports }
         ensures rest { self.new ≡ record self.old { ports = self.new.ports } }
         ensures balanced { IsBalanced P.P.place (P.past table.old.ports) table.old.table.slots → IsBalanced P.P.place (P.past table.new.ports) table.new.table.slots }
     {
@@ -61,6 +62,9 @@ impl<L> Held<L> {
     /// Hands back a port whose tunnel didn't open.
     pub fn retire_bound<P: Ports>(&mut self, table: &mut PortTable<P>)
         ensures bound { MatchOption self.old.bound (table.new ≡ table.old) (λ key. Updates table.old.table table.new.table key None) }
+        ensures back { MatchOption self.old.bound (table.new ≡ table.old) (λ key. MatchOption (get table.old.table key) (binder P.holds P.faults table.new.ports ≡ binder P.holds P.faults table.old.ports)
+            (λ port. binder P.holds P.faults table.new.ports ≡ handed_back (P.P.counts port).faults (binder P.holds P.faults table.old.ports))) }
+        ensures holds { P.holds table.new.ports ≡ P.holds table.old.ports }
         ensures rest { self.new ≡ record self.old { bound = None } }
         ensures balanced { IsBalanced P.P.place (P.past table.old.ports) table.old.table.slots → IsBalanced P.P.place (P.past table.new.ports) table.new.table.slots }
     {

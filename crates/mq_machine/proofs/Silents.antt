@@ -66,7 +66,7 @@ one_conn old sh one number reached k l a b s t p q x y o r =
 one_seat : (old : Worker) (sh : Shared) → SaysOne sh.config sh.book → (seat : Seat) (reached : Reached) (k l : Answer) (a b : Worker) (s t : Shared) (p q : Orders)
     → SeatStarves old sh seat reached k a s → SeatStarves old sh seat reached l b t → Ordered sh.orders k p → Ordered sh.orders l q → Same a b s t k l
 one_seat old sh one Offers reached k l a b s t p q x y o r = (x.2 ∙ sym y.2, x.3 ∙ sym y.3, x.1 ∙ sym y.1)
-one_seat old sh one Inbox reached k l a b s t p q x y o r = (x.2 ∙ sym y.2, x.3 ∙ sym y.3, x.1 ∙ sym y.1)
+one_seat old sh one Inbox reached k l a b s t p q x y o r = absurd x
 one_seat old sh one (Of conn) reached k l a b s t p q x y o r = one_conn old sh one conn reached k l a b s t p q x y o r
 
 one_silent : (old : State) → SaysOne old.shared.config old.shared.book → (number : ℕ) (reached : Reached) (a b : State) → WorkerSilent old number reached a → WorkerSilent old number reached b → a ≡ b

@@ -1,15 +1,17 @@
--- Where all is told, no other contents fit than the state's.
-use Rattle.std.proofs.Common.{◌≡◌, ℕ, true, List, [], ◌∷◌, ◌++◌, map, Option, Some, refl, ap, subst, ◌∙◌, slice_get, append-nil}
+-- Where all is told, no other contents fit than the state's, so that a step is the machine's.
+use Rattle.std.proofs.Common.{◌≡◌, ℕ, true, List, [], ◌∷◌, ◌++◌, map, Option, Some, None, Result, Ok, Err, refl, sym, ap, subst, ◌∙◌, slice_get, append-nil}
 use Rattle.mq_machine.specs.declared.setup.Setup.{Setup}
+use Rattle.mq_wire.specs.declared.NoMemory.{NoMemory}
+use Rattle.mq_talk.specs.declared.book.Config.{Config}
 use Rattle.mq_talk.specs.declared.book.Entry.{Entry}
 use Rattle.mq_talk.specs.declared.note.Note.{Note}
 use Rattle.mq_talk.specs.declared.place.Parcel.{Parcel}
 use Rattle.mq_outside.specs.Ports.{PortHolds}
-use Rattle.mq_machine.specs.State.{Conn, Link, new_link, Port, Offer, Held, Worker, Shared}
-use Rattle.mq_machine.specs.Want.{Answer}
-use Rattle.mq_machine.specs.Acting.{Outside, Sight, PortsTold, ConnsTold, OffersTold, PortsTell, ConnsTell, OffersTell, TellsAll, holds_of, holding, with_prepared, bare_port, bare_held, Refills, WasInbox, StepDone}
+use Rattle.mq_machine.specs.State.{Conn, Link, new_link, Port, Offer, Held, Worker, Orders, Shared}
+use Rattle.mq_machine.specs.Acting.{Outside, Sight, PortsTold, ConnsTold, OffersTold, PortsTell, ConnsTell, OffersTell, TellsAll, holds_of, holding, bare_port, bare_held, Refills, WasInbox, Meets, Leaves, shared_of, StepGives, PlainGives}
 use Rattle.mq_talk.specs.Mails.{IsTold}
-use Rattle.mq_machine.specs.Turn.{WorkerTurn}
+use Rattle.mq_machine.specs.Silent.{WorkerStarves}
+use Rattle.mq_machine.specs.Turn.{WorkerTurn, turn_of}
 
 -- what is told is what is there
 told_same : {A : Type 0} (o : Option A) (a b : A) → o ≡ Some b → IsTold o a → a ≡ b
@@ -85,22 +87,69 @@ same_worker o s t tells r =
 no_more : (more entries : List Entry) → more ≡ [] → entries ++ more ≡ entries
 no_more more entries h = ap (λ (m : List Entry). entries ++ m) h ∙ append-nil entries
 
-pub told : (old new : Sight) (s t : Worker) (note : Note) (boxes : List (List Parcel)) → TellsAll old.outside s → old.seen.is_whole ≡ true
-    → old.boxes ≡ Some boxes → StepDone old new s note t
-    → (answer : Answer) × (box : List Parcel) × (sh : Shared) × (after : Shared) × (slice_get boxes s.id ≡ Some box) × (sh.book ≡ old.seen.entries)
-    × (sh.boxes ≡ boxes) × (became : Worker) × WorkerTurn s box sh answer note became after × (t ≡ with_prepared new.outside answer became)
-told old new s t note boxes tells whole mail x =
+-- the book is what was seen, and what is shared is told
+shares : (orders : Orders) (old new : Sight) (boxes : List (List Parcel)) (sh after : Shared) → old.seen.is_whole ≡ true → old.boxes ≡ Some boxes
+    → Meets orders old new sh after → sh ≡ shared_of old.seen boxes orders
+shares orders old new boxes sh after whole mail x =
+    let book = x.book.goes_on ∙ no_more x.book.more old.seen.entries (x.book.whole whole) in
+    let boxes_are = told_same old.boxes sh.boxes boxes mail x.boxes in
+    ap (λ (c : Config). record sh { config = c }) x.config
+    ∙ ap (λ (b : List Entry). record sh { config = old.seen.config; book = b }) book
+    ∙ ap (λ (b : List (List Parcel)). record sh { config = old.seen.config; book = old.seen.entries; boxes = b }) boxes_are
+    ∙ ap (λ (o : Orders). shared_of old.seen boxes o) x.orders_are
+
+leaves : (orders : Orders) (old new : Sight) (sh after : Shared) → Meets orders old new sh after → Leaves old new after
+leaves orders old new sh after x = record { same = x.same; wrote = x.wrote; boxes = x.boxes_after }
+
+-- the inbox of this number, where the mail tells
+box_was : (boxes : List (List Parcel)) (o : Option (List (List Parcel))) (id : ℕ) (box : List Parcel) → o ≡ Some boxes → WasInbox o id box → slice_get boxes id ≡ Some box
+box_was boxes o id box mail was = let P : Option (List (List Parcel)) → Type 0 = λ o. WasInbox o id box in subst P mail was
+
+pub told : (orders : Orders) (old new : Sight) (boxes : List (List Parcel)) (s t : Worker) (result : Result (Option Note) NoMemory)
+    → TellsAll old.outside s → old.seen.is_whole ≡ true → old.boxes ≡ Some boxes
+    → StepGives orders old new s result t → PlainGives orders old new boxes s result t
+told orders old new boxes s t (Ok (Some note)) tells whole mail x =
     let now = same_worker old.outside s x.now tells x.refills in
-    let P : Option (List (List Parcel)) → Type 0 = λ o. WasInbox o s.id x.box in
-    let Q : Worker → Type 0 = λ w. WorkerTurn w x.box x.sh x.answer note x.became x.after in (
-      x.answer,
-      x.box,
-      x.sh,
-      x.after,
-      subst P mail x.was,
-      x.meets.book.goes_on ∙ no_more x.meets.book.more old.seen.entries (x.meets.book.whole whole),
-      told_same old.boxes x.sh.boxes boxes mail x.meets.boxes,
-      x.became,
-      subst Q now (record { seat = x.seat; turn = x.turn; next = x.next }),
-      x.is,
-    )
+    let sh = shares orders old new boxes x.sh x.after whole mail x.meets in
+    let Q : Worker → Type 0 = λ w. WorkerTurn w x.box x.sh x.answer note x.became x.after in
+    let R : Shared → Type 0 = λ sh. WorkerTurn s x.box sh x.answer note x.became x.after in
+    record {
+      box = x.box;
+      answer = x.answer;
+      after = x.after;
+      became = x.became;
+      was = box_was boxes old.boxes s.id x.box mail x.was;
+      turn = subst R sh (subst Q now (record { seat = x.seat; turn = x.turn; next = x.next }));
+      leaves = leaves orders old new x.sh x.after x.meets;
+      binds = x.binds;
+      is = x.is;
+    }
+told orders old new boxes s t (Ok None) tells whole mail x =
+    let now = same_worker old.outside s x.now tells x.refills in
+    let same = told_same old.boxes x.boxes boxes mail x.told in
+    let T : List (List Parcel) → Type 0 = λ b. IsTold new.boxes b in
+    record {
+      box = x.box;
+      was = box_was boxes old.boxes s.id x.box mail x.was;
+      none = sym (ap (λ (w : Worker). turn_of w x.box) now) ∙ x.none;
+      seen = x.seen;
+      boxes_after = subst T same x.tells;
+      binds = x.binds;
+      outside = x.outside;
+      same = x.same;
+    }
+told orders old new boxes s t (Err fault) tells whole mail x =
+    let now = same_worker old.outside s x.now tells x.refills in
+    let sh = shares orders old new boxes x.sh x.after whole mail x.meets in
+    let Q : Worker → Type 0 = λ w. WorkerStarves w x.box x.sh x.reached x.answer t x.after in
+    let R : Shared → Type 0 = λ sh. WorkerStarves s x.box sh x.reached x.answer t x.after in
+    record {
+      box = x.box;
+      answer = x.answer;
+      after = x.after;
+      reached = x.reached;
+      was = box_was boxes old.boxes s.id x.box mail x.was;
+      starves = subst R sh (subst Q now x.starves);
+      leaves = leaves orders old new x.sh x.after x.meets;
+      binds = x.binds;
+    }

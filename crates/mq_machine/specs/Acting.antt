@@ -1,5 +1,5 @@
 -- The contract of a worker's step over any office, any mail, and links and ports that may tell nothing.
-use Rattle.std.specs.Prelude.{◌≡◌, ◌≢◌, ◌↔◌, ◌⊎◌, ⊤, ℕ, ◌+◌, ◌<◌, ◌≤◌, ◌||◌, true, false, not, List, [], ◌∷◌, map, length, All, Contains, take_while, slice_get, Option, Some, None, Result, Ok, Err}
+use Rattle.std.specs.Prelude.{◌≡◌, ◌≢◌, ◌↔◌, ◌⊎◌, ⊤, ℕ, ◌+◌, ◌<◌, ◌≤◌, ◌||◌, Bool, true, false, not, List, [], ◌∷◌, ◌++◌, map, length, All, Contains, take_while, slice_get, Option, Some, None, Result, Ok, Err}
 use Rattle.mq_wire.specs.declared.NoMemory.{NoMemory}
 use Rattle.mq_talk.specs.declared.book.Call.TheVariants as call
 use Rattle.mq_talk.specs.declared.book.Reply.TheVariants as reply
@@ -9,15 +9,15 @@ use Rattle.mq_talk.specs.declared.note.Note.{Note}
 use Rattle.mq_talk.specs.declared.place.Parcel.{Parcel}
 use Rattle.mq_talk.specs.Book.{is_live}
 use Rattle.mq_talk.specs.Mails.{box_at, IsTold}
-use Rattle.mq_talk.specs.Offices.{Seen, Sees}
+use Rattle.mq_talk.specs.Offices.{Seen, Sees, IsSame}
 use Rattle.mq_outside.specs.Counts.{last_count, risen, risen_by, LinkCounts, PortCounts}
-use Rattle.mq_outside.specs.Ports.{PortHolds, empty_port}
-use Rattle.mq_machine.specs.State.{Tunnel, Link, new_link, Port, Net, new_net, Offer, Held, Worker, Pump, Shared, owed, held_of}
+use Rattle.mq_outside.specs.Ports.{PortHolds, empty_port, PortsHolds, next_port, ports_behind}
+use Rattle.mq_machine.specs.State.{Tunnel, Link, new_link, Port, Net, new_net, Offer, Held, Worker, Pump, Orders, Shared, owed, held_of}
 use Rattle.mq_machine.specs.Shared.{at_port}
 use Rattle.mq_machine.specs.Want.{Want, Nothing, Send, Answer, Bound, Replied, want_of}
 use Rattle.mq_machine.specs.Steps.{can_read, framed}
 use Rattle.mq_machine.specs.Silent.{Reached, WorkerStarves}
-use Rattle.mq_machine.specs.Turn.{Seat, Offers, Inbox, Of, can_act, ring_from, seats_of, turn_of, most_live, SeatNext, PumpTurn, last_of}
+use Rattle.mq_machine.specs.Turn.{Seat, Offers, Inbox, Of, can_act, ring_from, seats_of, turn_of, most_live, SeatNext, WorkerTurn, PumpTurn, last_of}
 
 -- ---- what an actor sees of the outside
 
@@ -28,14 +28,21 @@ holds_of p = record { arrived = p.arrived; send_fails = p.send_fails; send_waits
 abbrev pub holding : PortHolds → Port → Port
 holding holds p = record p { arrived = holds.arrived; send_fails = holds.send_fails; send_waits = holds.send_waits; receive_fails = holds.receive_fails }
 
+-- what binds ports: what it holds, where it tells that, and its failures with those of the ports that were handed back
+pub record Binder : Type 0 where
+  pub holds : Option PortsHolds
+  pub faults : ℕ
+
+abbrev pub binder : {P : Type 0} → (P → Option PortsHolds) → (P → ℕ) → P → Binder
+binder holds faults ports = record { holds = holds ports; faults = faults ports }
+
 -- what the links of connections and the ports of tunnels hold, where they tell it, and their counts
 pub record Outside : Type 0 where
   pub link : (conn : ℕ) → Option Link
   pub link_counts : (conn : ℕ) → LinkCounts
   pub port : (tunnel : ℕ) → Option PortHolds
   pub port_counts : (tunnel : ℕ) → PortCounts
-  -- the failures of binds, and those of the ports that were handed back
-  pub bind_faults : ℕ
+  pub binds : Binder
 
 -- what an actor sees of the outside, its office and its mail
 pub record Sight : Type 0 where
@@ -104,14 +111,17 @@ with_prepared o answer w = w
 
 -- ---- what is shared
 
--- What is shared before and after a step fits what office and mail tell: the office has then seen the book that the step left.
-pub record Meets (old new : Sight) (sh after : Shared) : Type 0 where
+-- What is shared before and after a step fits what office and mail tell, and what was ordered. The office has then seen the book
+-- that the step left.
+pub record Meets (orders : Orders) (old new : Sight) (sh after : Shared) : Type 0 where
   pub config : sh.config ≡ old.seen.config
+  pub same : IsSame old.seen new.seen
   pub book : Sees old.seen sh.book
   pub wrote : new.seen.entries ≡ after.book
   pub boxes : IsTold old.boxes sh.boxes
   pub count : length sh.boxes ≡ sh.config.workers + 1
   pub boxes_after : IsTold new.boxes after.boxes
+  pub orders_are : sh.orders ≡ orders
 
 -- what the inbox had when it was tried, which is what sh has where the mail tells
 abbrev pub WasInbox : Option (List (List Parcel)) → ℕ → List Parcel → Type 0
@@ -148,22 +158,42 @@ SeatWaited old new w box (Of conn) = (h : Held) → held_of w conn ≡ Some h �
 abbrev pub seats_before : Worker → List Parcel → List Seat
 seats_before w box = take_while (λ seat. not (can_act w box seat)) (ring_from w.next_seat (seats_of w))
 
+-- what binds ports, where a port was handed back that failed so often
+abbrev pub handed_back : ℕ → Binder → Binder
+handed_back failures old = record old { faults = risen_by failures old.faults }
+
 -- a port failed: its faults rose, or it was handed back with one more
 abbrev pub PortFailed : Outside → Outside → ℕ → Type 0
 PortFailed old new tunnel =
     Rose (old.port_counts tunnel).faults (new.port_counts tunnel).faults
-    ⊎ (new.bind_faults ≡ risen_by (risen (old.port_counts tunnel).faults) old.bind_faults)
+    ⊎ (new.binds ≡ handed_back (risen (old.port_counts tunnel).faults) old.binds)
 
 -- a link or a port that tells nothing fails only where it failed in this step
 pub record FaultsFit (old new : Outside) (w : Worker) : Type 0 where
   pub links : All (λ (h : Held). old.link h.conn.number ≡ None → h.link.read_fails || h.link.write_fails ≡ true → Rose (old.link_counts h.conn.number).faults (new.link_counts h.conn.number).faults) w.conns
   pub ports : All (λ (h : Held). All (λ (p : Port). old.port p.tunnel ≡ None → p.send_fails || p.receive_fails ≡ true → PortFailed old new p.tunnel) h.ports) w.conns
 
--- a bind is answered as the ports failed
+-- what is told of binds allows that one is done, or fails, and what is told then
+abbrev pub BindTold : Bool → Option PortsHolds → Option PortsHolds → Type 0
+BindTold done None after = after ≡ None
+BindTold true (Some holds) after =
+    (holds.bind_fails ≡ false) × (after ≡ Some (record holds { ports = ports_behind holds.ports }))
+BindTold false (Some holds) after =
+    ((holds.bind_fails ≡ true) ⊎ (next_port holds.ports ≡ None)) × (after ≡ Some (record holds { bind_fails = false }))
+
+-- one bind: its failure is counted
+abbrev pub failures_of : Bool → ℕ → ℕ
+failures_of true faults = faults
+failures_of false faults = risen faults
+
+pub record Binds (done : Bool) (old new : Binder) : Type 0 where
+  pub told : BindTold done old.holds new.holds
+  pub faults : new.faults ≡ failures_of done old.faults
+
+-- a bind is answered as that is told and counted, and nothing else changes what binds hold
 abbrev pub BindFits : Outside → Outside → Answer → Type 0
-BindFits old new (Bound true) = new.bind_faults ≡ old.bind_faults
-BindFits old new (Bound false) = Rose old.bind_faults new.bind_faults
-BindFits old new answer = ⊤
+BindFits old new (Bound done) = Binds done old.binds new.binds
+BindFits old new answer = new.binds.holds ≡ old.binds.holds
 
 -- ---- what ties a worker to its office
 
@@ -194,10 +224,26 @@ pub record Known (sight : Sight) (w : Worker) : Type 0 where
   pub last : All (λ (h : Held). h.conn.next_tunnel ≤ length sight.seen.entries) w.conns
   pub boxes : (boxes : List (List Parcel)) → sight.boxes ≡ Some boxes → length boxes ≡ sight.seen.config.workers + 1
 
+-- ---- what a step writes
+
+-- an entry that this actor wrote: a tunnel that it closes is one that it opened
+pub record IsOwn (book : List Entry) (actor : ℕ) (e : Entry) : Type 0 where
+  pub by : e.actor ≡ actor
+  pub keeps : (tunnel : ℕ) → e.call ≡ call.Close tunnel → (opener : Entry) × (slice_get book tunnel ≡ Some opener) × (opener.actor ≡ actor)
+
+-- Others wrote what the office had not seen, and behind that this actor wrote one entry at most.
+pub record Writes (old new : Seen) (actor : ℕ) : Type 0 where
+  pub book : List Entry
+  pub own : List Entry
+  pub sees : Sees old book
+  pub wrote : new.entries ≡ book ++ own
+  pub few : length own ≤ 1
+  pub mine : All (IsOwn book actor) own
+
 -- ---- the step
 
 -- The step gave this note: of the worker with contents with which what the outside answered fits, it is the turn.
-pub record StepDone (old new : Sight) (s : Worker) (note : Note) (t : Worker) : Type 0 where
+pub record StepDone (orders : Orders) (old new : Sight) (s : Worker) (note : Note) (t : Worker) : Type 0 where
   pub now : Worker
   pub box : List Parcel
   pub seat : Seat
@@ -206,7 +252,7 @@ pub record StepDone (old new : Sight) (s : Worker) (note : Note) (t : Worker) : 
   pub after : Shared
   pub refills : Refills old.outside s now
   pub was : WasInbox old.boxes s.id box
-  pub meets : Meets old new sh after
+  pub meets : Meets orders old new sh after
   pub turn : turn_of now box ≡ Some seat
   pub waited : All (SeatWaited old.outside new.outside now box) (seats_before now box)
   pub faults : FaultsFit old.outside new.outside now
@@ -221,20 +267,25 @@ pub record TellsSame (old new : Outside) (w : Worker) : Type 0 where
   pub ports : All (λ (h : Held). All (λ (p : Port). new.port p.tunnel ≡ old.port p.tunnel) h.ports) w.conns
   pub offers : All (λ (f : Offer). new.link f.number ≡ old.link f.number) w.offered
 
--- The step gave no note: every seat was passed over, the book is the same, and so is all that is told.
+-- The step gave no note: with contents with which what the outside answered fits, no seat has a turn. Each was passed over, the
+-- book is the same, and so is all that is told.
 pub record StepQuiet (old new : Sight) (s : Worker) (t : Worker) : Type 0 where
+  pub now : Worker
   pub box : List Parcel
+  pub refills : Refills old.outside s now
   pub was : WasInbox old.boxes s.id box
+  pub none : turn_of now box ≡ None
   pub waited : All (SeatWaited old.outside new.outside s box) (seats_of s)
-  pub seen : new.seen.entries ≡ old.seen.entries
+  pub seen : new.seen ≡ old.seen
   pub outside : TellsSame old.outside new.outside s
+  pub binds : new.outside.binds ≡ old.outside.binds
   pub boxes : List (List Parcel)
   pub told : IsTold old.boxes boxes
   pub tells : IsTold new.boxes boxes
-  pub refills : bare t ≡ bare s
+  pub same : bare t ≡ bare s
 
 -- The step was refused memory when it had come so far.
-pub record StepSilent (old new : Sight) (s : Worker) (t : Worker) : Type 0 where
+pub record StepSilent (orders : Orders) (old new : Sight) (s : Worker) (t : Worker) : Type 0 where
   pub now : Worker
   pub box : List Parcel
   pub answer : Answer
@@ -243,20 +294,72 @@ pub record StepSilent (old new : Sight) (s : Worker) (t : Worker) : Type 0 where
   pub reached : Reached
   pub refills : Refills old.outside s now
   pub was : WasInbox old.boxes s.id box
-  pub meets : Meets old new sh after
+  pub meets : Meets orders old new sh after
+  pub binds : BindFits old.outside new.outside answer
   pub starves : WorkerStarves now box sh reached answer t after
 
-abbrev pub StepGives : Sight → Sight → Worker → Result (Option Note) NoMemory → Worker → Type 0
-StepGives old new s (Ok (Some note)) t = StepDone old new s note t
-StepGives old new s (Ok None) t = StepQuiet old new s t
-StepGives old new s (Err fault) t = StepSilent old new s t
+abbrev pub StepGives : Orders → Sight → Sight → Worker → Result (Option Note) NoMemory → Worker → Type 0
+StepGives orders old new s (Ok (Some note)) t = StepDone orders old new s note t
+StepGives orders old new s (Ok None) t = StepQuiet old new s t
+StepGives orders old new s (Err fault) t = StepSilent orders old new s t
 
--- What `step` promises of a worker's actor: for each state for which it stood, and whose tunnels the office knows, it stands
--- for one to which this step leads, whose tunnels the office knows. The value's words are `stands`, which leaves out what links
+-- What `step` promises of a worker's actor, whatever was ordered: for each state for which it stood, and whose tunnels the office knows, it stands
+-- for one to which this step leads, whose tunnels the office knows, and what it wrote is its own. The value's words are `stands`, which leaves out what links
 -- and ports hold that don't tell it, and its sight.
 abbrev pub Steps : (before after : Worker → Type 0) (old new : Sight) (result : Result (Option Note) NoMemory) → Type 0
 Steps before after old new result =
-    (s : Worker) → before s → Known old s → (t : Worker) × after t × HasTold new.outside t × Known new t × StepGives old new s result t
+    (orders : Orders) (s : Worker) → before s → Known old s → (t : Worker) × after t × HasTold new.outside t × Known new t × Writes old.seen new.seen s.id × StepGives orders old new s result t
+
+-- ---- where all is told
+
+-- what is shared, where the office sees the whole book and the mail tells its inboxes
+abbrev pub shared_of : Seen → List (List Parcel) → Orders → Shared
+shared_of seen boxes orders = record { config = seen.config; book = seen.entries; boxes = boxes; orders = orders }
+
+-- the office and the mail behind a step
+pub record Leaves (old new : Sight) (after : Shared) : Type 0 where
+  pub same : IsSame old.seen new.seen
+  pub wrote : new.seen.entries ≡ after.book
+  pub boxes : IsTold new.boxes after.boxes
+
+-- The step was the worker's turn.
+pub record PlainDone (orders : Orders) (old new : Sight) (boxes : List (List Parcel)) (s : Worker) (note : Note) (t : Worker) : Type 0 where
+  pub box : List Parcel
+  pub answer : Answer
+  pub after : Shared
+  pub became : Worker
+  pub was : slice_get boxes s.id ≡ Some box
+  pub turn : WorkerTurn s box (shared_of old.seen boxes orders) answer note became after
+  pub leaves : Leaves old new after
+  pub binds : BindFits old.outside new.outside answer
+  pub is : t ≡ with_prepared new.outside answer became
+
+-- The worker had no turn.
+pub record PlainQuiet (old new : Sight) (boxes : List (List Parcel)) (s : Worker) (t : Worker) : Type 0 where
+  pub box : List Parcel
+  pub was : slice_get boxes s.id ≡ Some box
+  pub none : turn_of s box ≡ None
+  pub seen : new.seen ≡ old.seen
+  pub boxes_after : IsTold new.boxes boxes
+  pub binds : new.outside.binds ≡ old.outside.binds
+  pub outside : TellsSame old.outside new.outside s
+  pub same : bare t ≡ bare s
+
+-- Whose turn it was was refused memory.
+pub record PlainSilent (orders : Orders) (old new : Sight) (boxes : List (List Parcel)) (s : Worker) (t : Worker) : Type 0 where
+  pub box : List Parcel
+  pub answer : Answer
+  pub after : Shared
+  pub reached : Reached
+  pub was : slice_get boxes s.id ≡ Some box
+  pub starves : WorkerStarves s box (shared_of old.seen boxes orders) reached answer t after
+  pub leaves : Leaves old new after
+  pub binds : BindFits old.outside new.outside answer
+
+abbrev pub PlainGives : Orders → Sight → Sight → List (List Parcel) → Worker → Result (Option Note) NoMemory → Worker → Type 0
+PlainGives orders old new boxes s (Ok (Some note)) t = PlainDone orders old new boxes s note t
+PlainGives orders old new boxes s (Ok None) t = PlainQuiet old new boxes s t
+PlainGives orders old new boxes s (Err fault) t = PlainSilent orders old new boxes s t
 
 -- ---- the pump
 
@@ -274,7 +377,7 @@ bare_net = new_net
 abbrev pub shared_sight : Outside → PumpSight → Sight
 shared_sight o p = record { outside = o; seen = p.seen; boxes = p.boxes }
 
-pub record PumpGave (o : Outside) (old new : PumpSight) (s : Pump) (note : Note) (t : Pump) : Type 0 where
+pub record PumpGave (orders : Orders) (o : Outside) (old new : PumpSight) (s : Pump) (note : Note) (t : Pump) : Type 0 where
   pub now : Pump
   pub box : List Parcel
   pub sh : Shared
@@ -282,7 +385,7 @@ pub record PumpGave (o : Outside) (old new : PumpSight) (s : Pump) (note : Note)
   pub refills : record now { net = bare_net } ≡ record s { net = bare_net }
   pub told : IsTold old.net now.net
   pub was : WasInbox old.boxes (last_of sh.boxes) box
-  pub meets : Meets (shared_sight o old) (shared_sight o new) sh after
+  pub meets : Meets orders (shared_sight o old) (shared_sight o new) sh after
   pub fails : now.net.send_fails || now.net.receive_fails ≡ true → old.net ≡ None → Rose old.counts.faults new.counts.faults
   pub turn : PumpTurn now box sh note t after
 
@@ -298,7 +401,7 @@ pub record PumpQuiet (old new : PumpSight) (s t : Pump) : Type 0 where
   pub seen : new.seen.entries ≡ old.seen.entries
   pub refills : record t { net = bare_net } ≡ record s { net = bare_net }
 
-abbrev pub PumpGives : Outside → PumpSight → PumpSight → Pump → Result (Option Note) NoMemory → Pump → Type 0
-PumpGives o old new s (Ok (Some note)) t = PumpGave o old new s note t
-PumpGives o old new s (Ok None) t = PumpQuiet old new s t
-PumpGives o old new s (Err fault) t = record t { net = bare_net } ≡ record s { net = bare_net }
+abbrev pub PumpGives : Orders → Outside → PumpSight → PumpSight → Pump → Result (Option Note) NoMemory → Pump → Type 0
+PumpGives orders o old new s (Ok (Some note)) t = PumpGave orders o old new s note t
+PumpGives orders o old new s (Ok None) t = PumpQuiet old new s t
+PumpGives orders o old new s (Err fault) t = record t { net = bare_net } ≡ record s { net = bare_net }

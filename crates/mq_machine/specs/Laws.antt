@@ -1,5 +1,6 @@
 -- What is one, whatever the state.
-use Rattle.std.specs.Prelude.{slice_get, ◌≡◌, ⊤, ℕ, true, List, [], ◌∷◌, Some}
+use Rattle.std.specs.Prelude.{slice_get, ◌≡◌, ⊤, ℕ, true, List, [], ◌∷◌, Option, Some, Result}
+use Rattle.mq_wire.specs.declared.NoMemory.{NoMemory}
 use Rattle.mq_talk.specs.declared.book.Call.{Call}
 use Rattle.mq_talk.specs.declared.book.Reply.{Reply}
 use Rattle.mq_talk.specs.declared.note.Note.{Note}
@@ -14,14 +15,14 @@ use Rattle.mq_machine.specs.declared.setup.Setup.{Setup}
 use Rattle.mq_talk.specs.Answers.{IsAnswer}
 use Rattle.mq_talk.specs.Judging.{IsJudged}
 use Rattle.mq_machine.specs.Settle.{settle}
-use Rattle.mq_machine.specs.State.{Conn, Held, held_of, Worker, Shared, State}
+use Rattle.mq_machine.specs.State.{Conn, Held, held_of, Worker, Orders, Shared, State}
 use Rattle.mq_machine.specs.Want.{Answer}
 use Rattle.mq_machine.specs.Done.{done}
 use Rattle.mq_machine.specs.Steps.{can_read}
 use Rattle.mq_target.specs.Template.{IsTemplate}
 use Rattle.mq_machine.specs.Reading.{TookNext}
 use Rattle.mq_machine.specs.Silent.{Reached, ConnStarves, SilentTurn}
-use Rattle.mq_machine.specs.Acting.{Sight, TellsAll, StepDone, with_prepared}
+use Rattle.mq_machine.specs.Acting.{Sight, TellsAll, StepGives, PlainGives}
 use Rattle.mq_machine.specs.Turn.{WorkerTurn, Actor, Turn, Quiet}
 use Rattle.mq_talk.specs.declared.book.Config.{Config}
 use Rattle.mq_talk.specs.declared.book.Entry.{Entry}
@@ -88,12 +89,12 @@ HasOneSilentTurn = (old : State) (actor : Actor) (reached : Reached) (a b : Stat
 abbrev pub IsSilentOrQuiet : Type 0
 IsSilentOrQuiet = (old new : State) (actor : Actor) (reached : Reached) → SilentTurn old actor reached new → Quiet old actor → ⊥
 
--- where links, ports, office and mail tell all, a step that gave a note is the worker's turn, and a port that it opened is prepared
-abbrev pub IsToldTurn : Type 0
-IsToldTurn = (old new : Sight) (s t : Worker) (note : Note) (boxes : List (List Parcel)) → TellsAll old.outside s → old.seen.is_whole ≡ true
-    → old.boxes ≡ Some boxes → StepDone old new s note t
-    → (answer : Answer) × (box : List Parcel) × (sh : Shared) × (after : Shared) × (slice_get boxes s.id ≡ Some box) × (sh.book ≡ old.seen.entries)
-    × (sh.boxes ≡ boxes) × (became : Worker) × WorkerTurn s box sh answer note became after × (t ≡ with_prepared new.outside answer became)
+-- Where links, ports, office and mail tell all, a step that gave a note is the worker's turn, and a port that it opened is
+-- prepared; where it gave none the worker had no turn; and else it was refused memory at that turn.
+abbrev pub IsToldStep : Type 0
+IsToldStep = (orders : Orders) (old new : Sight) (boxes : List (List Parcel)) (s t : Worker) (result : Result (Option Note) NoMemory)
+    → TellsAll old.outside s → old.seen.is_whole ≡ true → old.boxes ≡ Some boxes
+    → StepGives orders old new s result t → PlainGives orders old new boxes s result t
 
 -- the template of tunnels for UDP is one that a text tells
 pub record IsToldSetup (setup : Setup) : Type 0 where

@@ -68,11 +68,11 @@ pub record ConnStarves (old : Worker) (sh : Shared) (number : ℕ) (reached : Re
     })) old.conns;
   }
 
--- an accept, or a packet from the inbox, that was refused memory changes nothing
+-- an accept that was refused memory changes nothing; to take a packet from the inbox takes none
 abbrev pub SeatStarves : Worker → Shared → Seat → Reached → Answer → Worker → Shared → Type 0
 SeatStarves old sh (Of number) reached answer new after = ConnStarves old sh number reached answer new after
 SeatStarves old sh Offers reached answer new after = (reached ≡ record { took = false; asked = false }) × (answer ≡ Said) × (new ≡ old) × (after ≡ sh)
-SeatStarves old sh Inbox reached answer new after = (reached ≡ record { took = false; asked = false }) × (answer ≡ Said) × (new ≡ old) × (after ≡ sh)
+SeatStarves old sh Inbox reached answer new after = ⊥
 
 -- the seat whose turn it was was refused memory
 pub record WorkerStarves (old : Worker) (box : List Parcel) (sh : Shared) (reached : Reached) (answer : Answer) (new : Worker) (after : Shared) : Type 0 where

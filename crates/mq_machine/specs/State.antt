@@ -1,5 +1,5 @@
 -- The states of the machine: workers with their links and connections, the pump with the network, and what they share.
-use Rattle.std.specs.Prelude.{ℕ, ◌==◌, Bool, true, false, not, List, [], drop, length, filter, find, sum_by, Option, None}
+use Rattle.std.specs.Prelude.{ℕ, ◌==◌, Bool, true, false, not, List, [], ◌∷◌, ◌++◌, drop, length, filter, find, sum_by, Option, None}
 use Rattle.mq_addr.specs.declared.addr.Addr.{Addr}
 use Rattle.mq_addr.specs.declared.kind.Kind.{Kind}
 use Rattle.mq_addr.specs.declared.kind.Kind.TheVariants as kind
@@ -169,6 +169,14 @@ pub record Worker : Type 0 where
   pub conns : List Held
   -- the seat from which the search begins: the one after the seat that last acted
   pub next_seat : ℕ
+
+-- a worker at its beginning
+abbrev pub new_worker : ℕ → Setup → Worker
+new_worker id setup = record { id = id; setup = setup; offered = []; conns = []; next_seat = 0 }
+
+-- the link of this number is offered last
+abbrev pub with_offer : ℕ → Link → Worker → Worker
+with_offer number link w = record w { offered = w.offered ++ record { number = number; link = link } ∷ [] }
 
 abbrev pub held_of : Worker → ℕ → Option Held
 held_of w number = find (λ (h : Held). h.conn.number == number) w.conns

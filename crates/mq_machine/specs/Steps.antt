@@ -1,6 +1,7 @@
 -- What a connection does beside its wants: frames, writes, the end of its link, and what comes to a tunnel.
-use Rattle.std.specs.Prelude.{ℕ, ◌+◌, ◌==◌, Bool, true, false, not, ◌&&◌, ◌||◌, List, [], ◌∷◌, ◌++◌, take, drop, length, filter, find, nat_lt, nat_le, if◌then◌else◌, Option, Some, None, option_map, option_and_then, is_some}
+use Rattle.std.specs.Prelude.{ℕ, ◌+◌, ◌==◌, Bool, true, false, not, ◌&&◌, ◌||◌, List, [], ◌∷◌, ◌++◌, take, drop, length, filter, find, min, nat_lt, nat_le, if◌then◌else◌, Option, Some, None, option_map, option_and_then, is_some}
 use Rattle.mq_capsule.specs.Writing.{capsule_text, datagram}
+use Rattle.mq_outside.specs.Counts.{last_count}
 use Rattle.mq_talk.specs.declared.note.End.{End}
 use Rattle.mq_talk.specs.declared.note.End.TheVariants as end
 use Rattle.mq_talk.specs.declared.note.From.{From}
@@ -143,8 +144,9 @@ can_receive c p = is_some (tunnel_of c p.tunnel) && (p.receive_fails || nat_lt 0
 abbrev pub received : Conn → Port → List ℕ → Option (Note × Conn)
 received c p datagram = option_map (λ (t : Tunnel). settled_note (queued c t (source.Port p.tunnel) p.received datagram)) (tunnel_of c p.tunnel)
 
+-- one more was received, while that can be counted
 abbrev pub port_received : Port → Port
-port_received p = record p { arrived = drop 1 p.arrived; received = p.received + 1 }
+port_received p = record p { arrived = drop 1 p.arrived; received = min (p.received + 1) last_count }
 
 -- the port failed: its tunnel is to close
 abbrev pub port_failed : Conn → Tunnel → Conn

@@ -1,5 +1,5 @@
 //! Laws of the machine's definitions, each the contract of a function without a body.
-ghost use Rattle.mq_machine.specs.Laws.{StarvesOnce, BringsOnce, IsToldTurn, HasOneSilentTurn, IsSilentOrQuiet, HasOneTurn, HasOneWorkerTurn, IsDoneOnce, IsQuietOrTurn, IsTurnOrQuiet, SettlesNothing};
+ghost use Rattle.mq_machine.specs.Laws.{StarvesOnce, BringsOnce, IsToldStep, HasOneSilentTurn, IsSilentOrQuiet, HasOneTurn, HasOneWorkerTurn, IsDoneOnce, IsQuietOrTurn, IsTurnOrQuiet, SettlesNothing};
 
 use mq_capsule::is_read_once;
 use mq_head::one_answer;
@@ -46,9 +46,9 @@ pub fn silent_or_quiet()
     ensures { IsSilentOrQuiet }
 {}
 
-/// Where all is told, a step that gave a note is the worker's turn.
-pub fn told_turn()
-    ensures { IsToldTurn }
+/// Where all is told, a step is the worker's turn, or it had none, or was refused memory at it.
+pub fn told_step()
+    ensures { IsToldStep }
 {}
 
 /// A read brings one thing.

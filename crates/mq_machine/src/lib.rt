@@ -38,6 +38,6 @@ pub use act::{Act, Due, StreamAct};
 pub use event::Event;
 pub use laws::{
     brings_once, done_once, one_silent_turn, one_turn, one_worker_turn, quiet_or_turn,
-    settles_nothing, silent_or_quiet, starves_once, told_turn, turn_or_quiet,
+    settles_nothing, silent_or_quiet, starves_once, told_step, turn_or_quiet,
 };
 pub use setup::Setup;

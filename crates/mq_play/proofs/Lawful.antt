@@ -332,7 +332,7 @@ plain_heard true old sh try answer tunnels after h k x = plain_answers old.conn.
 
 plain_starves : (old : Worker) (sh : Shared) (seat : Seat) (reached : Reached) (answer : Answer) (new : Worker) (after : Shared) → PlainWorker old → PlainBook sh.book → SeatStarves old sh seat reached answer new after → PlainTurn new after
 plain_starves old sh Offers reached answer new after h k x = record { worker = subst PlainWorker (sym x.2) h; book = book_as sh after x.3 k }
-plain_starves old sh Inbox reached answer new after h k x = record { worker = subst PlainWorker (sym x.2) h; book = book_as sh after x.3 k }
+plain_starves old sh Inbox reached answer new after h k x = absurd x
 plain_starves old sh (Of n) reached answer new after h k x =
     let held = each_found PlainHeld (λ (g : Held). g.conn.number == n) old.conns x.held h.conns x.has in
     let starved_so : Held = record x.held { link = record x.held.link { pieces = x.pieces }; conn = record (starved x.held.conn) { tunnels = x.tunnels } } in

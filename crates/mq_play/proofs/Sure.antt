@@ -21,11 +21,11 @@ use Rattle.mq_talk.specs.declared.place.Verdict.TheVariants as verdict
 use Rattle.mq_talk.specs.Book.{assigned, accepted, held, ranges, is_given, last_list, Owns}
 use Rattle.mq_talk.specs.Judging.{IsJudged}
 use Rattle.mq_machine.specs.declared.setup.Setup.{Setup}
-use Rattle.mq_machine.specs.State.{State}
+use Rattle.mq_machine.specs.State.{State, new_worker}
 use Rattle.mq_machine.specs.Laws.{BringsOnce, ReadsOnceIn, SaysOne}
 use Rattle.mq_play.specs.declared.line.SettingLine.{SettingLine}
 use Rattle.mq_play.specs.Settings.{plan_of}
-use Rattle.mq_play.specs.Events.{new_worker, new_workers}
+use Rattle.mq_play.specs.Events.{new_workers}
 use Rattle.mq_play.specs.Play.{Stage, Settings, Running, opened}
 use Rattle.mq_play.proofs.Plans.{IsKept, none_kept, kept_plan}
 use Rattle.mq_play.proofs.Lists.{each_append, each_at}
@@ -109,7 +109,7 @@ plain_of lines h =
 
 plain_new : (setup : Setup) (n : ℕ) → PlainSetup setup → AllByRecursion PlainWorker (new_workers setup n)
 plain_new setup zero p = tt
-plain_new setup (suc n) p = each_append PlainWorker (new_workers setup n) (new_worker setup n ∷ []) (plain_new setup n p) (record { setup = p; conns = tt }, tt)
+plain_new setup (suc n) p = each_append PlainWorker (new_workers setup n) (new_worker n setup ∷ []) (plain_new setup n p) (record { setup = p; conns = tt }, tt)
 
 pub lawful_opened : (s : Stage) → LawfulStage s → Lawful (opened s)
 lawful_opened (Settings lines) p = record { workers = plain_new (plan_of lines).setup (plan_of lines).workers (plain_of lines p); book = tt }

@@ -7,19 +7,16 @@ use Rattle.mq_talk.specs.declared.goal.Goal.TheVariants as goal
 use Rattle.mq_machine.specs.declared.event.Event.{Event}
 use Rattle.mq_machine.specs.declared.event.Event.TheVariants as event
 use Rattle.mq_machine.specs.declared.setup.Setup.{Setup}
-use Rattle.mq_machine.specs.State.{Link, new_link, Port, Net, new_net, Offer, Held, Worker, Told, State}
+use Rattle.mq_machine.specs.State.{Link, new_link, Port, Net, new_net, Offer, Held, Worker, new_worker, with_offer, Told, State}
 use Rattle.mq_machine.specs.Shared.{at_port}
 use Rattle.mq_play.specs.declared.plan.Plan.{Plan}
 
 -- ---- the beginning
 
-abbrev pub new_worker : Setup → ℕ → Worker
-new_worker setup number = record { id = number; setup = setup; offered = []; conns = []; next_seat = 0 }
-
 -- so many workers, numbered from 0
 abbrev pub new_workers : Setup → ℕ → List Worker
 new_workers setup zero = []
-new_workers setup (suc count) = new_workers setup count ++ new_worker setup count ∷ []
+new_workers setup (suc count) = new_workers setup count ++ new_worker count setup ∷ []
 
 -- no link was offered, and every inbox is empty: one for each worker, and the pump's
 abbrev pub state_of : Plan → State
@@ -61,7 +58,7 @@ with_net change s = record s { pump = record s.pump { net = change s.pump.net } 
 -- a new link is offered
 abbrev pub offered_to : ℕ → ℕ → List Worker → List Worker
 offered_to actor number [] = []
-offered_to zero number (w ∷ ws) = record w { offered = w.offered ++ record { number = number; link = new_link } ∷ [] } ∷ ws
+offered_to zero number (w ∷ ws) = with_offer number new_link w ∷ ws
 offered_to (suc actor) number (w ∷ ws) = w ∷ offered_to actor number ws
 
 -- what the script said of a link

@@ -143,8 +143,8 @@ pub record Closes (actor : ℕ) (seen seen_after : Seen) (s : Held) (tunnel : �
 
 pub close_done : {Q : Type 0} (most : Q → ℕ) (table : Slab Q) (c : Core) (seats : List PortSeat) (o n : Outside) (actor : ℕ) (seen seen_after : Seen) (boxes : List (List Parcel)) (orders : Orders)
     (s : Held) (tunnel : ℕ) (said : Note) (t : Conn) → IsConn c s.conn → ArePorts most table seats s.ports → AreServed s.conn.ending s.conn.tunnels s.ports → s.conn.actor ≡ actor
-    → want_of s.conn ≡ Ask (call.Close tunnel) → Closes actor seen seen_after s tunnel said t → WantDone o n seen seen_after boxes orders s said (Some (closed_left o s t))
-close_done most table c seats o n actor seen seen_after boxes orders s tunnel said t conn are served mine want closes =
+    → want_of s.conn ≡ Ask (call.Close tunnel) → Closes actor seen seen_after s tunnel said t → n.binds.holds ≡ o.binds.holds → WantDone o n seen seen_after boxes orders s said (Some (closed_left o s t))
+close_done most table c seats o n actor seen seen_after boxes orders s tunnel said t conn are served mine want closes same =
     let a = close_alone c s.conn tunnel conn want in
     let P : List Tunnel → Type 0 = λ ts. AreServed s.conn.ending ts s.ports in
     let port = port_at most table seats s.ports s.conn.ending a.0 (subst P a.1 served) are in
@@ -170,7 +170,7 @@ close_done most table c seats o n actor seen seen_after boxes orders s tunnel sa
       can = ap (λ (w : Want). can_do h.ports w) want;
       shares = record { config = refl; book = ok.sees; wrote = subst R closed ok.seen; same = ok.same; boxes_are = refl; boxes_after = refl; orders_are = refl };
       faults = none_fails o n idle s.ports idle_works;
-      binds = tt;
+      binds = same;
       next = record {
         answers = subst A (sym want) (subst B (sym mine) (record { said = reply.Closed; is = tt; reply_is = refl; after_is = refl }));
         ports = subst Q (sym want) tt;

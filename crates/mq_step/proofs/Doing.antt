@@ -12,7 +12,7 @@ use Rattle.mq_machine.specs.Want.{Want, Answer, want_of}
 use Rattle.mq_machine.specs.Done.{done}
 use Rattle.mq_machine.specs.Shared.{Answers, PortsAnswer, ports_after}
 use Rattle.mq_machine.specs.Turn.{can_do}
-use Rattle.mq_machine.specs.Acting.{Outside, BindFits, PortsTold}
+use Rattle.mq_machine.specs.Acting.{Outside, BindFits, PortsTold, Binder}
 use Rattle.mq_conn.specs.Conns.{IsConn}
 use Rattle.mq_held.specs.declared.held.Held.{Held as HeldBy}
 use Rattle.mq_held.specs.declared.held.PortSeat.{PortSeat}
@@ -82,9 +82,9 @@ left_stands most table after h g o s t held keeps seats number bound served kept
       serves e ts us same served = let P : List Tunnel → Type 0 = λ xs. AreServed e xs (map (filled_port o idle) s.ports) in subst P same (served_filled o idle e ts s.ports served)
 
 -- and what is told of its ports
-pub left_told : {L Q : Type 0} (most : Q → ℕ) (holds : Q → Option PortHolds) (counts : Q → PortCounts) (faults faults_after : ℕ) (table after : Slab Q) (h g : HeldBy L) (o n : Outside) (s : Held) (t : Conn)
-    → IsHeld most table h s → KeepsPorts table after → g.ports.items ≡ h.ports.items → SeesTable holds counts faults table h.ports.items o → SeesTable holds counts faults_after after g.ports.items n
+pub left_told : {L Q : Type 0} (most : Q → ℕ) (holds : Q → Option PortHolds) (counts : Q → PortCounts) (binds binds_after : Binder) (table after : Slab Q) (h g : HeldBy L) (o n : Outside) (s : Held) (t : Conn)
+    → IsHeld most table h s → KeepsPorts table after → g.ports.items ≡ h.ports.items → SeesTable holds counts binds table h.ports.items o → SeesTable holds counts binds_after after g.ports.items n
     → PortsTold n (left o s t).ports
-left_told most holds counts faults faults_after table after h g o n s t held keeps seats so sn =
+left_told most holds counts binds binds_after table after h g o n s t held keeps seats so sn =
     let P : List PortSeat → Type 0 = λ xs. SeesPorts holds counts after n xs in
     filled_told o n idle s.ports (stay_told most holds counts table after o n h.ports.items s.ports keeps so.ports (subst P seats sn.ports) held.ports)

@@ -104,9 +104,9 @@ abbrev pub drained : Outside → Found → Held → List (List ℕ) → Held
 drained o f s pieces = whole o f s (starved s.conn) (record (filled o f s).link { pieces = pieces })
 
 pub drains : (tries : Tries) (vain : InVain) (o n : Outside) (seen : Seen) (boxes : List (List Parcel)) (orders : Orders) (s : Held) (f : Found) (t : Try) (took : Bool) (pieces : List (List ℕ))
-    → vain f → first_of tries (filled o f s) ≡ Some t → (t ≡ Act → s.conn.ending ≡ None) → Leaves took t (filled o f s).link.pieces pieces
+    → vain f → first_of tries (filled o f s) ≡ Some t → (t ≡ Act → s.conn.ending ≡ None) → Leaves took t (filled o f s).link.pieces pieces → n.binds.holds ≡ o.binds.holds
     → Starved tries vain o n seen seen boxes orders s (drained o f s pieces)
-drains tries vain o n seen boxes orders s f t took pieces vain_is is alive leaves =
+drains tries vain o n seen boxes orders s f t took pieces vain_is is alive leaves same =
     let sh : Shared = shared_by seen seen.entries boxes orders in
     record {
       found = f;
@@ -123,14 +123,15 @@ drains tries vain o n seen boxes orders s f t took pieces vain_is is alive leave
       alive = alive;
       leaves = leaves;
       heard = (refl, refl, refl);
+      binds = same;
       then = refl;
     }
 
 -- ---- a frame
 
-pub frame_done : (setup : Setup) (o n : Outside) (seen : Seen) (boxes : List (List Parcel)) (orders : Orders) (s : Held) (said : Note) (t : Conn) → framed s.conn ≡ Some (said, t)
+pub frame_done : (setup : Setup) (o n : Outside) (seen : Seen) (boxes : List (List Parcel)) (orders : Orders) (s : Held) (said : Note) (t : Conn) → framed s.conn ≡ Some (said, t) → n.binds.holds ≡ o.binds.holds
     → Turned setup from_frame SendsWait o n seen seen boxes orders s said (Some (whole o idle s t (filled o idle s).link))
-frame_done setup o n seen boxes orders s said t is =
+frame_done setup o n seen boxes orders s said t is same =
     let h : Held = filled o idle s in
     let sh : Shared = shared_by seen seen.entries boxes orders in
     record {
@@ -144,7 +145,7 @@ frame_done setup o n seen boxes orders s said t is =
       is = first_true h Frame (from_write h) (ap (λ (d : Option (Note × Conn)). is_some d) is);
       shares = shares_same seen seen boxes orders refl;
       faults = whole_fits o n idle s refl refl idle_works;
-      binds = tt;
+      binds = same;
       next = record { said = refl; is = ap (λ (d : Option (Note × Conn)). option_map (with_conn h) d) is; after_is = refl };
       then = refl;
     }

@@ -143,9 +143,9 @@ written o s found =
     let link : Link = link_if (o.link s.conn.number) found in
     record link { room = room_left link.room (taken_of link.room (length (owed s.conn))) }
 
-pub write_does_turn : (setup : Setup) (o n : Outside) (c : Calls) (seen : Seen) (boxes : List (List Parcel)) (orders : Orders) (s : Held) (said : Note) (t : Conn) → LinkSeen o c s → (d : WriteDoes c s.conn said t)
+pub write_does_turn : (setup : Setup) (o n : Outside) (c : Calls) (seen : Seen) (boxes : List (List Parcel)) (orders : Orders) (s : Held) (said : Note) (t : Conn) → LinkSeen o c s → (d : WriteDoes c s.conn said t) → n.binds.holds ≡ o.binds.holds
     → Turned setup from_write SendsWait o n seen seen boxes orders s said (Some (whole o (on_link (roomy d.link.room)) s t (written o s (roomy d.link.room))))
-write_does_turn setup o n c seen boxes orders s said t sees d =
+write_does_turn setup o n c seen boxes orders s said t sees d same =
     let f : Found = on_link (roomy d.link.room) in
     let h : Held = filled o f s in
     let x = took_some o c s said t sees d in
@@ -171,7 +171,7 @@ write_does_turn setup o n c seen boxes orders s said t sees d =
         link = λ none is. fits_link (o.link s.conn.number) (roomy d.link.room) (Rose (o.link_counts s.conn.number).faults (n.link_counts s.conn.number).faults) refl refl none is;
         ports = none_fails o n f s.ports (record { sends = λ tunnel. refl; receives = λ tunnel. refl });
       };
-      binds = tt;
+      binds = same;
       next = subst W (sym x.works) (record { said = refl; is = is; after_is = refl });
       then = refl;
     } where

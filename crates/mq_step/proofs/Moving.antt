@@ -17,7 +17,7 @@ use Rattle.mq_machine.specs.State.{Conn, Link, new_link, Held, owed}
 use Rattle.mq_machine.specs.Want.{want_of}
 use Rattle.mq_machine.specs.Steps.{failed, starved, wrote}
 use Rattle.mq_machine.specs.Turn.{Write, Read, can_try, has_room_for, WriteNext}
-use Rattle.mq_machine.specs.Acting.{Outside, Rose}
+use Rattle.mq_machine.specs.Acting.{Outside, Rose, Binder}
 use Rattle.mq_conn.specs.Conns.{IsConn}
 use Rattle.mq_conn.specs.Frames.{waits}
 use Rattle.mq_held.specs.declared.held.Held.{Held as HeldBy}
@@ -52,12 +52,12 @@ gives_err setup tries vain o n seen seen_after stands_for s (Err refused) is giv
 
 -- a connection whose link was called and nothing else
 pub record Moves {L Q : Type 0} (link : L → Option Link) (past : L → LinkPast) (counts : L → LinkCounts) (most : Q → ℕ) (holds : Q → Option PortHolds) (port_counts : Q → PortCounts)
-    (faults : ℕ) (table : Slab Q) (old new : HeldBy L) (o n : Outside) (s : Held) : Type 0 where
+    (binds : Binder) (table : Slab Q) (old new : HeldBy L) (o n : Outside) (s : Held) : Type 0 where
   pub held : IsHeld most table old s
   pub wait : waits (want_of s.conn) ≡ true
   pub rest : new ≡ record old { conn = new.conn; link = new.link }
-  pub sees : Sees link counts holds port_counts faults table old o
-  pub sees_after : Sees link counts holds port_counts faults table new n
+  pub sees : Sees link counts holds port_counts binds table old o
+  pub sees_after : Sees link counts holds port_counts binds table new n
 
 pub moved_held : {L Q : Type 0} (most : Q → ℕ) (table : Slab Q) (old new : HeldBy L) (s : Held) → IsHeld most table old s → waits (want_of s.conn) ≡ true
     → new ≡ record old { conn = new.conn; link = new.link } → IsConn new.conn s.conn → IsHeld most table new s
@@ -81,45 +81,49 @@ moved_known most table old new s seen actor held known wait rest conn =
     (fallen s s.link, fallen_held most table old new s s.link held wait rest conn, record { worker = known.worker; actor_is = known.actor_is; tunnels = known.tunnels })
 
 -- what the outside tells of it, once its link was asked in vain
-pub moved_sight : {L Q : Type 0} (link : L → Option Link) (past : L → LinkPast) (counts : L → LinkCounts) (holds : Q → Option PortHolds) (port_counts : Q → PortCounts) (faults : ℕ) (table : Slab Q) (old new : HeldBy L)
-    (o : Outside) → Sees link counts holds port_counts faults table old o → new ≡ record old { conn = new.conn; link = new.link } → link new.link ≡ link old.link
-    → Sees link counts holds port_counts faults table new (mid o (λ i. counts new.link) o.port_counts)
-moved_sight link past counts holds port_counts faults table old new o sees rest same =
+pub moved_sight : {L Q : Type 0} (link : L → Option Link) (past : L → LinkPast) (counts : L → LinkCounts) (holds : Q → Option PortHolds) (port_counts : Q → PortCounts) (binds : Binder) (table : Slab Q) (old new : HeldBy L)
+    (o : Outside) → Sees link counts holds port_counts binds table old o → new ≡ record old { conn = new.conn; link = new.link } → link new.link ≡ link old.link
+    → Sees link counts holds port_counts binds table new (mid o (λ i. counts new.link) o.port_counts)
+moved_sight link past counts holds port_counts binds table old new o sees rest same =
     let P : List PortSeat → Type 0 = λ xs. SeesPorts holds port_counts table o xs in
     record {
       of_link = record { link_is = ap o.link (ap (λ h. h.number) rest) ∙ sees.of_link.link_is ∙ sym same; counts_are = refl };
-      of_table = record { ports = subst P (sym (ap (λ h. h.ports.items) rest)) sees.of_table.ports; faults_are = sees.of_table.faults_are };
+      of_table = record { ports = subst P (sym (ap (λ h. h.ports.items) rest)) sees.of_table.ports; binds_are = sees.of_table.binds_are };
     }
 
 pub link_seen : {L : Type 0} (link : L → Option Link) (past : L → LinkPast) (counts : L → LinkCounts) (old new : HeldBy L) (o : Outside) (s : Held) → s.conn.number ≡ old.number → SeesLink link counts old o
     → LinkSeen o (calls_of link past counts old.link new.link) s
 link_seen link past counts old new o s number sees = record { link = ap o.link number ∙ sees.link_is; counts = ap o.link_counts number ∙ sees.counts_are }
 
-module _ {L Q : Type 0} (link : L → Option Link) (past : L → LinkPast) (counts : L → LinkCounts) (most : Q → ℕ) (holds : Q → Option PortHolds) (port_counts : Q → PortCounts) (faults : ℕ) (table : Slab Q)
+module _ {L Q : Type 0} (link : L → Option Link) (past : L → LinkPast) (counts : L → LinkCounts) (most : Q → ℕ) (holds : Q → Option PortHolds) (port_counts : Q → PortCounts) (binds : Binder) (table : Slab Q)
     (old new : HeldBy L) (o n : Outside) (s : Held) where
-  pub stay_all : Moves link past counts most holds port_counts faults table old new o n s → All (StaysTold o n) s.ports
+  pub stay_all : Moves link past counts most holds port_counts binds table old new o n s → All (StaysTold o n) s.ports
   stay_all x =
       let P : List PortSeat → Type 0 = λ xs. SeesPorts holds port_counts table n xs in
       stay_told most holds port_counts table table o n old.ports.items s.ports (none_changed table) x.sees.of_table.ports (subst P (ap (λ h. h.ports.items) x.rest) x.sees_after.of_table.ports) x.held.ports
 
-  pub seen_link : Moves link past counts most holds port_counts faults table old new o n s → LinkSeen o (calls_of link past counts old.link new.link) s
+  pub seen_link : Moves link past counts most holds port_counts binds table old new o n s → LinkSeen o (calls_of link past counts old.link new.link) s
   seen_link x = link_seen link past counts old new o s x.held.number x.sees.of_link
 
+  -- nothing was bound
+  pub same_binds : Moves link past counts most holds port_counts binds table old new o n s → n.binds.holds ≡ o.binds.holds
+  same_binds x = ap (λ (b : Binder). b.holds) (x.sees_after.of_table.binds_are ∙ sym x.sees.of_table.binds_are)
+
   -- what the outside tells behind the call
-  pub link_behind : Moves link past counts most holds port_counts faults table old new o n s → n.link s.conn.number ≡ link new.link
+  pub link_behind : Moves link past counts most holds port_counts binds table old new o n s → n.link s.conn.number ≡ link new.link
   link_behind x = ap n.link (x.held.number ∙ sym (ap (λ h. h.number) x.rest)) ∙ x.sees_after.of_link.link_is
 
-  pub bound_none : Moves link past counts most holds port_counts faults table old new o n s → new.bound ≡ None
+  pub bound_none : Moves link past counts most holds port_counts binds table old new o n s → new.bound ≡ None
   bound_none x = ap (λ h. h.bound) x.rest ∙ still_bound most table old s x.held x.wait
 
-  pub drained_stands : (x : Moves link past counts most holds port_counts faults table old new o n s) (f : Found) (pieces : List (List ℕ)) → IsConn new.conn (starved s.conn) → IsHeld most table new (drained o f s pieces)
+  pub drained_stands : (x : Moves link past counts most holds port_counts binds table old new o n s) (f : Found) (pieces : List (List ℕ)) → IsConn new.conn (starved s.conn) → IsHeld most table new (drained o f s pieces)
   drained_stands x f pieces conn =
       whole_stands most table table old new o f s (starved s.conn) (record (filled o f s).link { pieces = pieces }) x.held (none_changed table) (ap (λ h. h.ports.items) x.rest) (ap (λ h. h.number) x.rest) (bound_none x)
       refl no_opens_nil (served_ending s.conn.ending end.NoMemory s.conn.tunnels s.ports x.held.served) conn
 
   -- ---- writes
 
-  pub write_starves : (x : Moves link past counts most holds port_counts faults table old new o n s) (setup : Setup) (seen : Seen) (refused : NoMemory)
+  pub write_starves : (x : Moves link past counts most holds port_counts binds table old new o n s) (setup : Setup) (seen : Seen) (refused : NoMemory)
       → WriteGives (calls_of link past counts old.link new.link) (IsConn new.conn) s.conn (Err refused)
       → Gives setup from_write SendsWait o n seen seen (IsHeld most table new) s (Err refused)
   write_starves x setup seen refused gives = λ boxes orders.
@@ -128,11 +132,11 @@ module _ {L Q : Type 0} (link : L → Option Link) (past : L → LinkPast) (coun
       let can = write_could o (calls_of link past counts old.link new.link) s (seen_link x) gives.0 gives.1 in
       let same : n.link s.conn.number ≡ o.link s.conn.number = link_behind x ∙ gives.2.holds ∙ sym (seen_link x).link in (
         drained o f s h.link.pieces,
-        drains from_write SendsWait o n seen boxes orders s f Write false h.link.pieces (λ tunnel. (refl, refl)) (first_true h Write (from_read h) can) (λ is. absurd cc) refl,
+        drains from_write SendsWait o n seen boxes orders s f Write false h.link.pieces (λ tunnel. (refl, refl)) (first_true h Write (from_read h) can) (λ is. absurd cc) refl (same_binds x),
         (drained_stands x f h.link.pieces gives.3, whole_told o n f s (starved s.conn) h.link refl (same_link o n s new_link same) (stay_all x)),
       )
 
-  pub wrote_gives : (x : Moves link past counts most holds port_counts faults table old new o n s) (setup : Setup) (seen : Seen) (said : Note)
+  pub wrote_gives : (x : Moves link past counts most holds port_counts binds table old new o n s) (setup : Setup) (seen : Seen) (said : Note)
       → WriteGives (calls_of link past counts old.link new.link) (IsConn new.conn) s.conn (Ok (went.Did said))
       → Gives setup from_write SendsWait o n seen seen (IsHeld most table new) s (Ok (Did said))
   wrote_gives x setup seen said gives = λ boxes orders.
@@ -148,7 +152,7 @@ module _ {L Q : Type 0} (link : L → Option Link) (past : L → LinkPast) (coun
       let O : Conn → Type 0 = λ y. NoOpens y.due in
       let S : Conn → Type 0 = λ y. AreServed y.ending y.tunnels s.ports in (
         whole o f s t (written o s (roomy d.link.room)),
-        write_does_turn setup o n c seen boxes orders s said t (seen_link x) d,
+        write_does_turn setup o n c seen boxes orders s said t (seen_link x) d (same_binds x),
         (
           whole_stands most table table old new o f s t (written o s (roomy d.link.room)) x.held (none_changed table) (ap (λ h. h.ports.items) x.rest) (ap (λ h. h.number) x.rest) (bound_none x)
               (ap (λ (y : Conn). y.number) same) (subst O (sym same) (still_opens old.conn s.conn x.held.conn x.wait)) (subst S (sym same) x.held.served) gives.2,
@@ -157,11 +161,11 @@ module _ {L Q : Type 0} (link : L → Option Link) (past : L → LinkPast) (coun
       )
 
 -- the outside tells of the ports behind the call what it told
-pub moved_table : {L Q : Type 0} (holds : Q → Option PortHolds) (port_counts : Q → PortCounts) (faults : ℕ) (table : Slab Q) (old new : HeldBy L) (o : Outside) → SeesTable holds port_counts faults table old.ports.items o
-    → new ≡ record old { conn = new.conn; link = new.link } → SeesTable holds port_counts faults table new.ports.items o
-moved_table holds port_counts faults table old new o sees rest =
+pub moved_table : {L Q : Type 0} (holds : Q → Option PortHolds) (port_counts : Q → PortCounts) (binds : Binder) (table : Slab Q) (old new : HeldBy L) (o : Outside) → SeesTable holds port_counts binds table old.ports.items o
+    → new ≡ record old { conn = new.conn; link = new.link } → SeesTable holds port_counts binds table new.ports.items o
+moved_table holds port_counts binds table old new o sees rest =
     let P : List PortSeat → Type 0 = λ xs. SeesPorts holds port_counts table o xs in
-    record { ports = subst P (sym (ap (λ h. h.ports.items) rest)) sees.ports; faults_are = sees.faults_are }
+    record { ports = subst P (sym (ap (λ h. h.ports.items) rest)) sees.ports; binds_are = sees.binds_are }
 
 -- ---- a write failed
 
@@ -172,10 +176,10 @@ fails_write : (told after : Option Link) → FailsWrite told after → ((link_if
 fails_write None after fails = let P : Option Link → Type 0 = λ a. IsTold a (record broken { write_fails = false }) in (refl, subst P (sym fails) tt)
 fails_write (Some l) after fails = let P : Option Link → Type 0 = λ a. IsTold a (record l { write_fails = false }) in (fails.0, subst P (sym fails.1) refl)
 
-module _ {L Q : Type 0} (link : L → Option Link) (past : L → LinkPast) (counts : L → LinkCounts) (most : Q → ℕ) (holds : Q → Option PortHolds) (port_counts : Q → PortCounts) (faults faults_after : ℕ) (table after : Slab Q)
+module _ {L Q : Type 0} (link : L → Option Link) (past : L → LinkPast) (counts : L → LinkCounts) (most : Q → ℕ) (holds : Q → Option PortHolds) (port_counts : Q → PortCounts) (binds binds_after : Binder) (table after : Slab Q)
     (old new fin : HeldBy L) (o n : Outside) (s : Held) where
   -- what is told of the link in the end
-  pub told_end : IsHeld most table old s → new ≡ record old { conn = new.conn; link = new.link } → fin ≡ record new { conn = fin.conn; ports = fin.ports; bound = fin.bound } → Sees link counts holds port_counts faults_after after fin n
+  pub told_end : IsHeld most table old s → new ≡ record old { conn = new.conn; link = new.link } → fin ≡ record new { conn = fin.conn; ports = fin.ports; bound = fin.bound } → Sees link counts holds port_counts binds_after after fin n
       → (l : Link) → IsTold (link new.link) l → (t : Held) → IsHeld most after fin t → t.link ≡ l → IsTold (n.link t.conn.number) t.link
   told_end held rest acts sees l told t stands_for same =
       let P : Option Link → Type 0 = λ a. IsTold a l in
@@ -185,7 +189,7 @@ module _ {L Q : Type 0} (link : L → Option Link) (past : L → LinkPast) (coun
 
   -- the link's faults in the end
   pub faults_end : IsHeld most table old s → new ≡ record old { conn = new.conn; link = new.link } → fin ≡ record new { conn = fin.conn; ports = fin.ports; bound = fin.bound } → SeesLink link counts old o
-      → Sees link counts holds port_counts faults_after after fin n → counts new.link ≡ record (counts old.link) { faults = risen (counts old.link).faults }
+      → Sees link counts holds port_counts binds_after after fin n → counts new.link ≡ record (counts old.link) { faults = risen (counts old.link).faults }
       → Rose (o.link_counts s.conn.number).faults (n.link_counts s.conn.number).faults
   faults_end held rest acts before sees is =
       let a : o.link_counts s.conn.number ≡ counts old.link = ap o.link_counts held.number ∙ before.counts_are in
@@ -195,7 +199,7 @@ module _ {L Q : Type 0} (link : L → Option Link) (past : L → LinkPast) (coun
       (ap (λ (x : LinkCounts). x.faults) (b ∙ is) ∙ ap (λ (x : LinkCounts). risen x.faults) (sym a))
 
   pub write_fails_gives : (setup : Setup) (seen seen_after : Seen) (r : Result Stepped NoMemory) → IsHeld most table old s → waits (want_of s.conn) ≡ true
-      → Sees link counts holds port_counts faults table old o → Sees link counts holds port_counts faults_after after fin n
+      → Sees link counts holds port_counts binds table old o → Sees link counts holds port_counts binds_after after fin n
       → new ≡ record old { conn = new.conn; link = new.link } → fin ≡ record new { conn = fin.conn; ports = fin.ports; bound = fin.bound }
       → WriteGives (calls_of link past counts old.link new.link) (IsConn new.conn) s.conn (Ok went.Failed)
       → ((l : Link) → IsHeld most table new (fallen s l) → ActGives o n seen seen_after (IsHeld most after fin) (fallen s l) r)

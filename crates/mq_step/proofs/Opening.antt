@@ -100,9 +100,9 @@ opened_left o n s conn id names addr number tunnel routes t =
 open_done : (o n : Outside) (actor : ℕ) (seen seen_after : Seen) (boxes : List (List Parcel)) (orders : Orders) (s : Held) (conn id names number tunnel : ℕ) (addr : Addr) (routes : List Range) (said : Note) (t : Conn)
     → s.conn.actor ≡ actor → want_of s.conn ≡ Ask (call.Open conn id names (goal.Udp addr number))
     → (ok : CallOk actor seen (call.Open conn id names (goal.Udp addr number)) (reply.Opened tunnel routes) seen_after)
-    → done s.conn (Replied (reply.Opened tunnel routes)) ≡ Some (said, t)
+    → done s.conn (Replied (reply.Opened tunnel routes)) ≡ Some (said, t) → n.binds.holds ≡ o.binds.holds
     → WantDone o n seen seen_after boxes orders s said (Some (opened_left o n s conn id names addr number tunnel routes t))
-open_done o n actor seen seen_after boxes orders s conn id names number tunnel addr routes said t mine want ok does =
+open_done o n actor seen seen_after boxes orders s conn id names number tunnel addr routes said t mine want ok does same =
     let h : Held = ported o idle s in
     let asked : Call = call.Open conn id names (goal.Udp addr number) in
     let answer : Answer = Replied (reply.Opened tunnel routes) in
@@ -121,7 +121,7 @@ open_done o n actor seen seen_after boxes orders s conn id names number tunnel a
       can = ap (λ (w : Want). can_do h.ports w) want;
       shares = record { config = refl; book = ok.sees; wrote = ok.seen; same = ok.same; boxes_are = refl; boxes_after = refl; orders_are = refl };
       faults = none_fails o n idle s.ports idle_works;
-      binds = tt;
+      binds = same;
       next = record {
         answers = subst A (sym want) (subst B (sym mine) (record { said = reply.Opened tunnel routes; is = ok.reply_is; reply_is = refl; after_is = refl }));
         ports = subst Q (sym want) tt;
@@ -167,7 +167,7 @@ pub record Comes {L Q : Type 0} (most : Q → ℕ) (after : Slab Q) (g : HeldBy 
   pub told_is : PortsTold n left_is.ports
 
 -- what is known where the book replied to an opening
-pub record Opens {L Q : Type 0} (most : Q → ℕ) (table after : Slab Q) (h g : HeldBy L) (actor : ℕ) (seen seen_after : Seen) (s : Held) (asked : Call) (said : HeardBy) (t : Conn) : Type 0 where
+pub record Opens {L Q : Type 0} (most : Q → ℕ) (table after : Slab Q) (h g : HeldBy L) (o n : Outside) (actor : ℕ) (seen seen_after : Seen) (s : Held) (asked : Call) (said : HeardBy) (t : Conn) : Type 0 where
   pub held : IsHeld most table h s
   pub mine : s.conn.actor ≡ actor
   pub want : want_of s.conn ≡ Ask asked
@@ -177,6 +177,7 @@ pub record Opens {L Q : Type 0} (most : Q → ℕ) (table after : Slab Q) (h g :
   pub seats : Seats said.opened h.ports.items h.bound g.ports.items
   pub bound : g.bound ≡ None
   pub table_is : (tunnel : ℕ) → said.opened ≡ Some tunnel → after ≡ table
+  pub binds : n.binds.holds ≡ o.binds.holds
 
 pub none_before : {L Q : Type 0} (most : Q → ℕ) (table : Slab Q) (h : HeldBy L) (s : Held) (conn id names : ℕ) (goal : Goal) → IsHeld most table h s → want_of s.conn ≡ Ask (call.Open conn id names goal)
     → (s.ports ≡ []) × (h.ports.items ≡ [])
@@ -189,7 +190,7 @@ seat_first tunnel key seats after none is = is ∙ ap (λ (xs : List PortSeat). 
 
 comes_open : {L Q : Type 0} (most : Q → ℕ) (table after : Slab Q) (h g : HeldBy L) (o n : Outside) (actor : ℕ) (seen seen_after : Seen) (boxes : List (List Parcel)) (orders : Orders) (s : Held)
     (conn id names number : ℕ) (addr : Addr) (said : HeardBy) (t : Conn) (tunnel : ℕ) (routes : List Range) (bound : Option ℕ)
-    → Opens most table after h g actor seen seen_after s (call.Open conn id names (goal.Udp addr number)) said t
+    → Opens most table after h g o n actor seen seen_after s (call.Open conn id names (goal.Udp addr number)) said t
     → CallOk actor seen (call.Open conn id names (goal.Udp addr number)) (reply.Opened tunnel routes) seen_after → done s.conn (Replied (reply.Opened tunnel routes)) ≡ Some (said.note, t)
     → said.opened ≡ Some tunnel → h.bound ≡ bound → IsBound most table h.ports.items (Ask (call.Open conn id names (goal.Udp addr number))) bound
     → Comes most after g o n seen seen_after boxes orders s said.note
@@ -203,7 +204,7 @@ comes_open {L} {Q} most table after h g o n actor seen seen_after boxes orders s
     let ready = subst R (sym (opens.table_is tunnel opened)) is in
     record {
       left_is = opened_left o n s conn id names addr number tunnel routes t;
-      done_is = open_done o n actor seen seen_after boxes orders s conn id names number tunnel addr routes said.note t opens.mine opens.want ok does;
+      done_is = open_done o n actor seen seen_after boxes orders s conn id names number tunnel addr routes said.note t opens.mine opens.want ok does opens.binds;
       stands_for = open_stands most after h.conn g o n s conn id names number tunnel key addr routes said.note t h.ports.items opens.held.conn opens.want none.0 ready opens.number seats opens.bound does opens.conn;
       told_is = open_told o n s conn id names number tunnel addr routes t none.0;
     }
@@ -213,7 +214,7 @@ full_needs n conn id names number entries live addr = record { lives = tt; can =
 
 comes_full : {L Q : Type 0} (most : Q → ℕ) (table after : Slab Q) (h g : HeldBy L) (o n : Outside) (actor : ℕ) (seen seen_after : Seen) (boxes : List (List Parcel)) (orders : Orders) (s : Held)
     (conn id names number : ℕ) (addr : Addr) (said : HeardBy) (t : Conn) (entries live : ℕ)
-    → Opens most table after h g actor seen seen_after s (call.Open conn id names (goal.Udp addr number)) said t
+    → Opens most table after h g o n actor seen seen_after s (call.Open conn id names (goal.Udp addr number)) said t
     → CallOk actor seen (call.Open conn id names (goal.Udp addr number)) (reply.HistoryFull entries live) seen_after → done s.conn (Replied (reply.HistoryFull entries live)) ≡ Some (said.note, t)
     → said.opened ≡ None → Comes most after g o n seen seen_after boxes orders s said.note
 comes_full {L} {Q} most table after h g o n actor seen seen_after boxes orders s conn id names number addr said t entries live opens ok does opened =
@@ -232,13 +233,13 @@ comes_full {L} {Q} most table after h g o n actor seen seen_after boxes orders s
       left_is = left o s t;
       done_is = want_done o n seen seen_after boxes orders s (Ask asked) (Replied full) said.note t sh sh opens.want (full_needs n conn id names number entries live addr) does
           (subst B (sym opens.mine) (record { said = full; is = ok.reply_is; reply_is = refl; after_is = refl }))
-          (record { config = refl; book = ok.sees; wrote = ok.seen; same = ok.same; boxes_are = refl; boxes_after = refl; orders_are = refl }) tt;
+          (record { config = refl; book = ok.sees; wrote = ok.seen; same = ok.same; boxes_are = refl; boxes_after = refl; orders_are = refl }) opens.binds;
       stands_for = stands most after g (left o s t) opens.conn (k.number ∙ opens.number) (no_are most after o g.ports.items s.ports none.0 empty) (served_any t.ending t.tunnels (map (filled_port o idle) s.ports) served) k.opens opens.bound;
       told_is = no_told o n s.ports none.0;
     }
 
 pub comes : {L Q : Type 0} (most : Q → ℕ) (table after : Slab Q) (h g : HeldBy L) (o n : Outside) (actor : ℕ) (seen seen_after : Seen) (boxes : List (List Parcel)) (orders : Orders) (s : Held)
-    (asked : Call) (said : HeardBy) (t : Conn) → ((tunnel : ℕ) → asked ≢ call.Close tunnel) → Opens most table after h g actor seen seen_after s asked said t
+    (asked : Call) (said : HeardBy) (t : Conn) → ((tunnel : ℕ) → asked ≢ call.Close tunnel) → Opens most table after h g o n actor seen seen_after s asked said t
     → Comes most after g o n seen seen_after boxes orders s said.note
 comes most table after h g o n actor seen seen_after boxes orders s (call.Close tunnel) said t not opens = absurd (not tunnel refl)
 comes most table after h g o n actor seen seen_after boxes orders s (call.Assign tunnel list) said t not opens =

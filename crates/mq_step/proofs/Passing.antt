@@ -115,6 +115,7 @@ module _ {L Q : Type 0} (most : Q → ℕ) (holds : Q → Option PortHolds) (cou
     alive = d.alive;
     leaves = d.leaves;
     heard = d.heard;
+    binds = d.binds;
     then = d.then;
   }
 
@@ -150,7 +151,7 @@ err_gives setup o n seen seen_after stand s refused (Err why) is gives = gives
 -- ---- without a seat
 
 pub none_waited : {L Q : Type 0} (most : Q → ℕ) (link : L → Option Link) (link_counts : L → LinkCounts) (table : Slab Q) (h : HeldBy L) (o n : Outside) (s : Held) (seen : Seen) → IsHeld most table h s
-    → h.ports.items ≡ [] → SeesLink link link_counts h o → SeesLink link link_counts h n → n.bind_faults ≡ o.bind_faults
+    → h.ports.items ≡ [] → SeesLink link link_counts h o → SeesLink link link_counts h n → n.binds ≡ o.binds
     → Waited receives_of o n seen seen s
 none_waited most link link_counts table h o n s seen held none so sn faults =
     let A : List PortSeat → Type 0 = λ xs. ArePorts most table xs s.ports in
@@ -165,6 +166,6 @@ none_waited most link link_counts table h o n s seen held none so sn faults =
       none = ap (λ (ps : List Port). find (can_try (filled o idle s)) (map (λ (p : Port). Receive p.tunnel) (map (filled_port o idle) ps))) ports;
       asked = subst T (sym ports) (All-nil (Asked o n s));
       grows = record { link = link_grows o n h.number s.conn.number stay held.number; ports = subst LG (sym ports) (All-nil G) };
-      told = record { link = ap n.link held.number ∙ stay.link ∙ ap o.link (sym held.number); ports = subst LE (sym ports) (All-nil E); faults = faults };
+      told = record { link = ap n.link held.number ∙ stay.link ∙ ap o.link (sym held.number); ports = subst LE (sym ports) (All-nil E); binds = faults };
       seen_is = refl;
     }

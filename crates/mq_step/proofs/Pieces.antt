@@ -116,10 +116,10 @@ pub reads_wait : (link : Link) → link.write_fails ≡ false → link.room ≡ 
 reads_wait link works room = record { sends = λ tunnel. (refl, refl); works = works; room = room }
 
 pub piece_turn : (setup : Setup) (o n : Outside) (c : Calls) (seen : Seen) (boxes : List (List Parcel)) (orders : Orders) (s : Held) (piece : List ℕ) (t : Conn) → LinkSeen o c s → (d : TakesPiece c piece)
-    → can_read s.conn ≡ true → TookNext setup s.conn piece t
+    → can_read s.conn ≡ true → TookNext setup s.conn piece t → n.binds.holds ≡ o.binds.holds
     → Turned setup from_read WritesWait o n seen seen boxes orders s (note.Took s.conn.number (length piece))
     (Some (whole o (on_link (with_pieces (d.first ∷ d.others))) s t (record (filled o (on_link (with_pieces (d.first ∷ d.others))) s).link { pieces = behind (drop most_read d.first) d.others })))
-piece_turn setup o n c seen boxes orders s piece t sees d can took =
+piece_turn setup o n c seen boxes orders s piece t sees d can took same =
     let link : Link = with_pieces (d.first ∷ d.others) in
     let h : Held = filled o (on_link link) s in
     let x = gave_piece o c s piece sees d in
@@ -149,7 +149,7 @@ piece_turn setup o n c seen boxes orders s piece t sees d can took =
         link = λ none is. fits_link (o.link s.conn.number) link (Rose (o.link_counts s.conn.number).faults (n.link_counts s.conn.number).faults) refl refl none is;
         ports = none_fails o n (on_link link) s.ports (record { sends = λ tunnel. refl; receives = λ tunnel. refl });
       };
-      binds = tt;
+      binds = same;
       next = subst R (sym x.works) (refl, subst P (sym x.pieces) next, refl);
       then = refl;
     }
@@ -192,9 +192,9 @@ takes_end false e pieces is = by_case (nat_lt 0 (length pieces)) where
   by_case false = is
 
 pub end_turn : (setup : Setup) (o n : Outside) (c : Calls) (seen : Seen) (boxes : List (List Parcel)) (orders : Orders) (s : Held) (said : Note) (t : Conn) (inside : Bool) → LinkSeen o c s → TakesEnd c
-    → can_read s.conn ≡ true → EndsThere s.conn inside → finished s.conn inside ≡ (said, t)
+    → can_read s.conn ≡ true → EndsThere s.conn inside → finished s.conn inside ≡ (said, t) → n.binds.holds ≡ o.binds.holds
     → Turned setup from_read WritesWait o n seen seen boxes orders s said (Some (whole o (on_link ended_link) s t (filled o (on_link ended_link) s).link))
-end_turn setup o n c seen boxes orders s said t inside sees d can ends does =
+end_turn setup o n c seen boxes orders s said t inside sees d can ends does same =
     let h : Held = filled o (on_link ended_link) s in
     let x = end_over o c s sees d in
     let sh : Shared = shared_by seen seen.entries boxes orders in
@@ -216,7 +216,7 @@ end_turn setup o n c seen boxes orders s said t inside sees d can ends does =
         link = λ none is. fits_link (o.link s.conn.number) ended_link (Rose (o.link_counts s.conn.number).faults (n.link_counts s.conn.number).faults) refl refl none is;
         ports = none_fails o n (on_link ended_link) s.ports (record { sends = λ tunnel. refl; receives = λ tunnel. refl });
       };
-      binds = tt;
+      binds = same;
       next = subst R (sym x.works) (refl, subst P (sym x.pieces) next, refl);
       then = refl;
     }

@@ -6,7 +6,7 @@ use Rattle.std.proofs.lemmas.List.Elements.{All-cons, All-nil}
 use Rattle.std.specs.Result.{IsErr}
 use Rattle.slab.specs.Slab.{Slab}
 use Rattle.mq_wire.specs.declared.NoMemory.{NoMemory}
-use Rattle.mq_outside.specs.Counts.{risen, risen_by, PortCounts, no_port_counts, no_link_counts}
+use Rattle.mq_outside.specs.Counts.{risen, PortCounts, no_port_counts, no_link_counts}
 use Rattle.mq_outside.specs.Ports.{PortHolds, PortPast}
 use Rattle.mq_talk.specs.declared.book.Call.TheVariants as call
 use Rattle.mq_talk.specs.declared.book.Reply.TheVariants as reply
@@ -22,7 +22,7 @@ use Rattle.mq_machine.specs.Want.{Want, Ask, Replied, want_of, want_by, tunnel_w
 use Rattle.mq_machine.specs.Steps.{port_failed}
 use Rattle.mq_machine.specs.Shared.{PortsAnswer, without_port}
 use Rattle.mq_machine.specs.Turn.{Receive, ActNext, PortNext, ReceiveNext, receive_failed}
-use Rattle.mq_machine.specs.Acting.{Outside, holding}
+use Rattle.mq_machine.specs.Acting.{Outside, holding, Binder, handed_back}
 use Rattle.mq_conn.specs.Conns.{IsConn}
 use Rattle.mq_held.specs.Ready.{may_give}
 use Rattle.mq_held.specs.declared.held.Held.{Held as HeldBy}
@@ -65,7 +65,7 @@ failing_known seen actor s t known = record { worker = known.worker; actor_is = 
 -- ---- an outside that tells nothing
 
 abbrev pub blind : Outside
-blind = record { link = λ conn. None; link_counts = λ conn. no_link_counts; port = λ tunnel. None; port_counts = λ tunnel. no_port_counts; bind_faults = 0 }
+blind = record { link = λ conn. None; link_counts = λ conn. no_link_counts; port = λ tunnel. None; port_counts = λ tunnel. no_port_counts; binds = record { holds = None; faults = 0 } }
 
 pub blind_sees : {Q : Type 0} (table : Slab Q) (seats : List PortSeat) → SeesPorts (λ (port : Q). None) (λ (port : Q). no_port_counts) table blind seats
 blind_sees {Q} table [] = All-nil (SeesPort (λ (port : Q). None) (λ (port : Q). no_port_counts) table blind)
@@ -94,12 +94,12 @@ module _ {L Q : Type 0} (most : Q → ℕ) (holds : Q → Option PortHolds) (pas
       (unbound most holds past counts table after h mid o n s seat x b)
 
   -- where nothing is told, the port was handed back with one failure more
-  failed_faults : (x : Live most holds counts table h o s seat) (n : Outside) → n.bind_faults ≡ risen_by (risen (o.port_counts seat.tunnel).faults) o.bind_faults
+  failed_faults : (x : Live most holds counts table h o s seat) (n : Outside) → n.binds ≡ handed_back (risen (o.port_counts seat.tunnel).faults) o.binds
       → PortsFit o n (filled o (found_by failing_port) s).ports
   failed_faults x n faults =
       let q : Port = holding (held_then most holds counts table h o s seat x failing_port) x.p in
       let P : List Port → Type 0 = λ ps. PortsFit o n ps in
-      let F : ℕ → Type 0 = λ i. n.bind_faults ≡ risen_by (risen (o.port_counts i).faults) o.bind_faults in
+      let F : ℕ → Type 0 = λ i. n.binds ≡ handed_back (risen (o.port_counts i).faults) o.binds in
       let fits : PortFits o n q = λ none fails. inr (subst F (sym x.of_port) faults) in
       subst P (sym (filled_one most holds counts table h o s seat x (found_by failing_port))) (All-cons (PortFits o n) q [] fits (All-nil (PortFits o n)))
 
@@ -111,7 +111,7 @@ module _ {L Q : Type 0} (most : Q → ℕ) (holds : Q → Option PortHolds) (pas
       ∙ ap {B = List Port} (λ (b : Bool). if not b then q ∷ [] else []) (eq-eqb q.tunnel seat.tunnel x.of_port)
 
   pub failed_done : (x : Live most holds counts table h o s seat) (n : Outside) (setup : Setup) (seen seen_after : Seen) (boxes : List (List Parcel)) (orders : Orders) (said : Note) (stand : Held → Type 0)
-      → FailsReceive (holds x.is.port) → (closed : Closed seen seen_after boxes orders stand (failing s x.t) said) → n.bind_faults ≡ risen_by (risen (o.port_counts seat.tunnel).faults) o.bind_faults
+      → FailsReceive (holds x.is.port) → (closed : Closed seen seen_after boxes orders stand (failing s x.t) said) → n.binds ≡ handed_back (risen (o.port_counts seat.tunnel).faults) o.binds
       → Turned setup (receive_alone seat.tunnel) ReadsWait o n seen seen_after boxes orders s said (Some (failed_left o s closed.conn))
   failed_done x n setup seen seen_after boxes orders said stand fails closed faults =
       let f : Found = found_by failing_port in
@@ -145,7 +145,7 @@ module _ {L Q : Type 0} (most : Q → ℕ) (holds : Q → Option PortHolds) (pas
         is = first_is most holds counts table h o s seat x f true (fails_then H fail);
         shares = closed.shares;
         faults = record { link = link_fits (o.link s.conn.number) _; ports = failed_faults x n faults };
-        binds = tt;
+        binds = ap (λ (b : Binder). b.holds) faults;
         next = subst P (sym (port_is most holds counts table h o s seat x f)) (subst R (sym fail) (subst A (sym live) acts));
         then = refl;
       }

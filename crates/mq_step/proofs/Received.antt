@@ -26,7 +26,7 @@ use Rattle.mq_held.specs.declared.held.Held.{Held as HeldBy}
 use Rattle.mq_held.specs.declared.held.PortSeat.{PortSeat}
 use Rattle.mq_held.specs.Ports.{receive_calls, GivesNone, ReceiveWaits, TakesDatagram, IsIdle}
 use Rattle.mq_held.specs.Seats.{counted}
-use Rattle.mq_step.specs.Holds.{IsPort, ArePorts, IsHeld, AreCounted, tunnels_of, numbers_of}
+use Rattle.mq_step.specs.Holds.{IsPort, ArePorts, IsHeld, tunnels_of, numbers_of}
 use Rattle.mq_step.specs.Sights.{Found, SeesPorts, port_if, idle, idle_port, PortGrows}
 use Rattle.mq_step.specs.Whole.{SeesLink, filled, IsAsTold}
 use Rattle.mq_step.specs.Gives.{Asked, Waited, Turned, Starved, ReadsWait, receive_alone}
@@ -159,8 +159,8 @@ module _ {L Q : Type 0} (most : Q → ℕ) (holds : Q → Option PortHolds) (pas
   -- ---- it waits
 
   pub received_waits : (x : Live most holds counts table h o s seat) (b : Behind most holds counts after h g o n seat x.is.port) (seen : Seen)
-      → ReceiveWaits (receive_calls holds past counts x.is.port b.now) → n.bind_faults ≡ o.bind_faults → Waited (receive_alone seat.tunnel) o n seen seen s
-  received_waits x b seen w bind_faults =
+      → ReceiveWaits (receive_calls holds past counts x.is.port b.now) → n.binds ≡ o.binds → Waited (receive_alone seat.tunnel) o n seen seen s
+  received_waits x b seen w binds =
       let counts_are : n.port_counts seat.tunnel ≡ record (o.port_counts seat.tunnel) { receive_waits = risen (o.port_counts seat.tunnel).receive_waits } =
       b.sees.1 ∙ w.counts ∙ ap (λ (c : PortCounts). record c { receive_waits = risen c.receive_waits }) (sym x.sees.1) in
       let G : Port → Type 0 = λ p. PortGrows (o.port_counts p.tunnel) (n.port_counts p.tunnel) in
@@ -187,7 +187,7 @@ module _ {L Q : Type 0} (most : Q → ℕ) (holds : Q → Option PortHolds) (pas
         told = record {
           link = ap n.link x.held.number ∙ b.link.link ∙ ap o.link (sym x.held.number);
           ports = subst LE (sym x.ports_are) (All-cons E x.p [] (subst J (sym x.of_port) (b.sees.0 ∙ w.after ∙ sym x.sees.0)) (All-nil E));
-          faults = bind_faults;
+          binds = binds;
         };
         seen_is = refl;
       }
@@ -198,9 +198,9 @@ module _ {L Q : Type 0} (most : Q → ℕ) (holds : Q → Option PortHolds) (pas
 
   -- ---- memory was refused
 
-  pub received_starves : (x : Live most holds counts table h o s seat) (seen : Seen) (boxes : List (List Parcel)) (orders : Orders) → CanGive (holds x.is.port)
+  pub received_starves : (x : Live most holds counts table h o s seat) (seen : Seen) (boxes : List (List Parcel)) (orders : Orders) → CanGive (holds x.is.port) → n.binds.holds ≡ o.binds.holds
       → Starved (receive_alone seat.tunnel) ReadsWait o n seen seen boxes orders s (sunk_then o s)
-  received_starves x seen boxes orders can = record {
+  received_starves x seen boxes orders can same = record {
     found = found_by (with_one []);
     vain_is = reads_wait (with_one []) refl refl;
     try = Receive seat.tunnel;
@@ -215,6 +215,7 @@ module _ {L Q : Type 0} (most : Q → ℕ) (holds : Q → Option PortHolds) (pas
     alive = λ same. absurd cc;
     leaves = refl;
     heard = (refl, refl, refl);
+    binds = same;
     then = refl;
   }
 
@@ -271,9 +272,9 @@ module _ {L Q : Type 0} (most : Q → ℕ) (holds : Q → Option PortHolds) (pas
       ∙ ap {B = HeldDone} (λ (k : Note). Some (k, Some (received_left o s seat x.t datagram))) (sym says)
 
   pub received_done : (x : Live most holds counts table h o s seat) (b : Behind most holds counts after h g o n seat x.is.port) (setup : Setup) (seen : Seen) (boxes : List (List Parcel)) (orders : Orders) (datagram : List ℕ) (said : Note)
-      → TakesDatagram (receive_calls holds past counts x.is.port b.now) datagram → said ≡ (came s x.t seat.received datagram).0
+      → TakesDatagram (receive_calls holds past counts x.is.port b.now) datagram → said ≡ (came s x.t seat.received datagram).0 → n.binds.holds ≡ o.binds.holds
       → Turned setup (receive_alone seat.tunnel) ReadsWait o n seen seen boxes orders s said (Some (received_left o s seat x.t datagram))
-  received_done x b setup seen boxes orders datagram said d says =
+  received_done x b setup seen boxes orders datagram said d says same =
       let d_is = takes x b datagram d in
       let f : Found = found_by (with_one datagram) in
       let H : PortHolds = held_then most holds counts table h o s seat x (with_one datagram) in
@@ -295,7 +296,7 @@ module _ {L Q : Type 0} (most : Q → ℕ) (holds : Q → Option PortHolds) (pas
         is = first_is most holds counts table h o s seat x f true (gives_then H datagram d_is.others d_is.works d_is.arrived);
         shares = shares_same seen seen boxes orders refl;
         faults = none_faults o n s (with_one datagram) refl refl;
-        binds = tt;
+        binds = same;
         next = subst P (sym (port_is most holds counts table h o s seat x f)) (subst R (sym d_is.works) own);
         then = refl;
       }
@@ -306,15 +307,12 @@ module _ {L Q : Type 0} (most : Q → ℕ) (holds : Q → Option PortHolds) (pas
       ap (λ (ps : List Port). at_port seat.tunnel port_received ps) (filled_one most holds counts table h o s seat x (found_by (with_one datagram)))
       ∙ first_changed (holding (held_then most holds counts table h o s seat x (with_one datagram)) x.p) seat.tunnel port_received x.of_port
 
-  counts_one : (x : Live most holds counts table h o s seat) → AreCounted s.ports → x.p.received + 1 ≡ counted seat.received
-  counts_one x few =
-      let P : List Port → Type 0 = λ ps. AreCounted ps in
-      let lt = All-head (λ (p : Port). p.received < last_count) x.p [] (subst P x.ports_are few) in
-      sym (min-eq_left (omega (arith, lt))) ∙ ap {B = ℕ} (λ (k : ℕ). min (k + 1) last_count) x.is.received
+  counts_one : (x : Live most holds counts table h o s seat) → min (x.p.received + 1) last_count ≡ counted seat.received
+  counts_one x = ap {B = ℕ} (λ (k : ℕ). min (k + 1) last_count) x.is.received
 
-  pub received_stands : (x : Live most holds counts table h o s seat) (b : Behind most holds counts after h g o n seat x.is.port) (datagram : List ℕ) → AreCounted s.ports
+  pub received_stands : (x : Live most holds counts table h o s seat) (b : Behind most holds counts after h g o n seat x.is.port) (datagram : List ℕ)
       → g.ports.items ≡ record seat { received = counted seat.received } ∷ [] → IsConn g.conn (came s x.t seat.received datagram).1 → IsHeld most after g (received_left o s seat x.t datagram)
-  received_stands x b datagram few seats conn =
+  received_stands x b datagram seats conn =
       let H : PortHolds = held_then most holds counts table h o s seat x (with_one datagram) in
       let q : Port = port_received (holding H x.p) in
       let new : PortSeat = record seat { received = counted seat.received } in
@@ -323,7 +321,7 @@ module _ {L Q : Type 0} (most : Q → ℕ) (holds : Q → Option PortHolds) (pas
       let ports = left_ports x datagram in
       let P : List PortSeat → Type 0 = λ xs. ArePorts most after xs u.ports in
       let R : List Port → Type 0 = λ ps. ArePorts most after (new ∷ []) ps in
-      let is : IsPort most after new q = is_behind x b new q refl x.of_port (counts_one x few) refl in
+      let is : IsPort most after new q = is_behind x b new q refl x.of_port (counts_one x) refl in
       let served : tunnels_of u.ports ≡ numbers_of u.conn.tunnels =
       ap (λ (ps : List Port). tunnels_of ps) ports
       ∙ sym (ap (λ (ps : List Port). tunnels_of ps) x.ports_are)

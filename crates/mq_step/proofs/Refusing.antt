@@ -35,29 +35,30 @@ sunk o s tunnels = record (ported o idle s) { conn = record (starved s.conn) { t
 
 pub record Sinks {L Q : Type 0} (most : Q → ℕ) (after : Slab Q) (g : HeldBy L) (o n : Outside) (seen seen_after : Seen) (boxes : List (List Parcel)) (orders : Orders) (s : Held) : Type 0 where
   pub left_is : Held
-  pub starves : WantStarves seen seen_after boxes orders o s left_is
+  pub starves : WantStarves o n seen seen_after boxes orders s left_is
   pub stands_for : IsHeld most after g left_is
   pub told_is : PortsTold n left_is.ports
 
 -- what is known where the opening was asked in vain
-pub record Fails {L Q : Type 0} (most : Q → ℕ) (table : Slab Q) (h g : HeldBy L) (actor : ℕ) (s : Held) (asked : Call) : Type 0 where
+pub record Fails {L Q : Type 0} (most : Q → ℕ) (table : Slab Q) (h g : HeldBy L) (o n : Outside) (actor : ℕ) (s : Held) (asked : Call) : Type 0 where
   pub held : IsHeld most table h s
   pub mine : s.conn.actor ≡ actor
   pub want : want_of s.conn ≡ Ask asked
   pub number : s.conn.number ≡ g.number
   pub seats : g.ports.items ≡ h.ports.items
   pub bound : g.bound ≡ None
+  pub binds : n.binds.holds ≡ o.binds.holds
 
-sunk_stands : {L Q : Type 0} (most : Q → ℕ) (table after : Slab Q) (h g : HeldBy L) (o : Outside) (actor : ℕ) (s : Held) (conn id names : ℕ) (goal : Goal) (tunnels : List Tunnel)
-    → Fails most table h g actor s (call.Open conn id names goal) → IsConn g.conn (record (starved s.conn) { tunnels = tunnels }) → IsHeld most after g (sunk o s tunnels)
-sunk_stands most table after h g o actor s conn id names goal tunnels fails is =
+sunk_stands : {L Q : Type 0} (most : Q → ℕ) (table after : Slab Q) (h g : HeldBy L) (o n : Outside) (actor : ℕ) (s : Held) (conn id names : ℕ) (goal : Goal) (tunnels : List Tunnel)
+    → Fails most table h g o n actor s (call.Open conn id names goal) → IsConn g.conn (record (starved s.conn) { tunnels = tunnels }) → IsHeld most after g (sunk o s tunnels)
+sunk_stands most table after h g o n actor s conn id names goal tunnels fails is =
     let none = none_before most table h s conn id names goal fails.held fails.want in
     stands most after g (sunk o s tunnels) is fails.number (no_are most after o g.ports.items s.ports none.0 (fails.seats ∙ none.1))
     (inl (ap (λ (ps : List Port). map (filled_port o idle) ps) none.0)) no_opens_nil fails.bound
 
 -- the book wrote nothing
 sinks_before : {L Q : Type 0} (most : Q → ℕ) (table after : Slab Q) (h g : HeldBy L) (o n : Outside) (actor : ℕ) (seen seen_after : Seen) (boxes : List (List Parcel)) (orders : Orders) (s : Held)
-    (conn id names : ℕ) (goal : Goal) → Fails most table h g actor s (call.Open conn id names goal) → Sees seen seen_after.entries → IsSame seen seen_after → IsConn g.conn (starved s.conn)
+    (conn id names : ℕ) (goal : Goal) → Fails most table h g o n actor s (call.Open conn id names goal) → Sees seen seen_after.entries → IsSame seen seen_after → IsConn g.conn (starved s.conn)
     → Sinks most after g o n seen seen_after boxes orders s
 sinks_before most table after h g o n actor seen seen_after boxes orders s conn id names goal fails sees same is =
     let none = none_before most table h s conn id names goal fails.held fails.want in
@@ -76,15 +77,16 @@ sinks_before most table after h g o n actor seen seen_after boxes orders s conn 
         alive = a.1;
         shares = record { config = refl; book = sees; wrote = refl; same = same; boxes_are = refl; boxes_after = refl; orders_are = refl };
         heard = (refl, refl, refl);
+        binds = fails.binds;
         then = refl;
       };
-      stands_for = sunk_stands most table after h g o actor s conn id names goal s.conn.tunnels fails is;
+      stands_for = sunk_stands most table after h g o n actor s conn id names goal s.conn.tunnels fails is;
       told_is = no_told o n s.ports none.0;
     }
 
 -- what the book wrote, and the connection didn't hear
 sinks_behind : {L Q : Type 0} (most : Q → ℕ) (table after : Slab Q) (h g : HeldBy L) (o n : Outside) (actor : ℕ) (seen seen_after : Seen) (boxes : List (List Parcel)) (orders : Orders) (s : Held)
-    (conn id names : ℕ) (goal : Goal) (said : Reply) (book : List Entry) → Fails most table h g actor s (call.Open conn id names goal)
+    (conn id names : ℕ) (goal : Goal) (said : Reply) (book : List Entry) → Fails most table h g o n actor s (call.Open conn id names goal)
     → (ok : CallOk actor seen (call.Open conn id names goal) said seen_after) → said ≢ reply.Closed → IsConn g.conn (heard s.conn said)
     → Asks (shared_by seen ok.book boxes orders) actor (call.Open conn id names goal) said (shared_by seen seen_after.entries boxes orders)
     → Sinks most after g o n seen seen_after boxes orders s
@@ -115,9 +117,10 @@ sinks_behind most table after h g o n actor seen seen_after boxes orders s conn 
           answers = subst A (sym fails.want) (subst B (sym fails.mine) asks);
           tunnels_are = refl;
         };
+        binds = fails.binds;
         then = refl;
       };
-      stands_for = sunk_stands most table after h g o actor s conn id names goal tunnels fails is;
+      stands_for = sunk_stands most table after h g o n actor s conn id names goal tunnels fails is;
       told_is = no_told o n s.ports none.0;
     } where
       same_reply : (a b : Reply) → Replied a ≡ Replied b → a ≡ b
@@ -135,7 +138,7 @@ asks_open seen boxes orders actor conn id names goal (reply.Accepted accepts at)
 asks_open seen boxes orders actor conn id names goal reply.Closed seen_after ok = absurd ok.reply_is
 
 pub sinks : {L Q : Type 0} (most : Q → ℕ) (table after : Slab Q) (h g : HeldBy L) (o n : Outside) (actor : ℕ) (seen seen_after : Seen) (boxes : List (List Parcel)) (orders : Orders) (s : Held)
-    (asked : Call) (refused : NoMemory) → ((tunnel : ℕ) → asked ≢ call.Close tunnel) → Fails most table h g actor s asked
+    (asked : Call) (refused : NoMemory) → ((tunnel : ℕ) → asked ≢ call.Close tunnel) → Fails most table h g o n actor s asked
     → AskGives actor seen asked seen_after (IsConn g.conn) s.conn (Err refused) → Sinks most after g o n seen seen_after boxes orders s
 sinks most table after h g o n actor seen seen_after boxes orders s (call.Close tunnel) refused not fails gives = absurd (not tunnel refl)
 sinks most table after h g o n actor seen seen_after boxes orders s (call.Assign tunnel list) refused not fails gives =

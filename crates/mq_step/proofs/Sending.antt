@@ -168,9 +168,9 @@ module _ {L Q : Type 0} (most : Q → ℕ) (holds : Q → Option PortHolds) (cou
       subst P (sym (sent_ports x d.holds d.told)) (All-cons (PortFits o n) q [] fails (All-nil (PortFits o n)))
 
   pub sent_done : (seen : Seen) (boxes : List (List Parcel)) (orders : Orders) (x : Sends most holds counts table after h g o n s tunnel k payload) (said : Note) (t : Conn)
-      (d : SendDoes (calls holds counts x.one.is.port x.now) x.one.p s.conn payload said t)
+      (d : SendDoes (calls holds counts x.one.is.port x.now) x.one.p s.conn payload said t) → n.binds.holds ≡ o.binds.holds
       → WantDone o n seen seen boxes orders s said (Some (sent_left o s tunnel payload d.holds t))
-  sent_done seen boxes orders x said t d =
+  sent_done seen boxes orders x said t d same =
       let h_is : Held = ported o (sent_found d.holds) s in
       let q : Port = holding d.holds x.one.p in
       let w : Want = Send tunnel k payload in
@@ -192,7 +192,7 @@ module _ {L Q : Type 0} (most : Q → ℕ) (holds : Q → Option PortHolds) (cou
             ∙ ap (λ (b : Bool). not b) d.goes;
         shares = shares_same seen seen boxes orders refl;
         faults = sent_faults x said t d;
-        binds = tt;
+        binds = same;
         next = record {
           answers = subst A (sym x.want) refl;
           ports = subst B (sym x.want) (ap (λ (p : Option Port). option_map port_answer p) first);
@@ -269,7 +269,7 @@ module _ {L Q : Type 0} (most : Q → ℕ) (holds : Q → Option PortHolds) (cou
       let long : nat_lt q.limit (length payload) ≡ false = ap (λ (l : ℕ). nat_lt l (length payload)) x.one.is.limit ∙ waits.fits in
       ap (λ (v : Want). can_do (ported o f s).ports v) x.want ∙ ap (λ (p : Option Port). not (send_waits p payload)) first ∙ waits_by q.send_waits q.send_fails (nat_lt q.limit (length payload)) w.1 w.0 long
 
-  pub sent_waits : (seen : Seen) (x : Sends most holds counts table after h g o n s tunnel k payload) → SendWaits (calls holds counts x.one.is.port x.now) (most x.one.is.port) payload → n.bind_faults ≡ o.bind_faults
+  pub sent_waits : (seen : Seen) (x : Sends most holds counts table after h g o n s tunnel k payload) → SendWaits (calls holds counts x.one.is.port x.now) (most x.one.is.port) payload → n.binds ≡ o.binds
       → WantWaits o n seen seen s
   sent_waits seen x waits faults =
       let before = one_seen holds counts table o h.ports.items x.one.seat tunnel x.one.is.port x.one.seats_are x.one.of_seat x.one.is.at x.sees in
@@ -297,7 +297,7 @@ module _ {L Q : Type 0} (most : Q → ℕ) (holds : Q → Option PortHolds) (cou
         grows = subst LG (sym x.one.ports_are) (All-cons G x.one.p [] (subst I (sym x.one.of_port) grows) (All-nil G));
         told = subst LT (sym x.one.ports_are) (All-cons T x.one.p [] (subst J (sym x.one.of_port) (behind_is.0 ∙ waits.after ∙ sym before.0)) (All-nil T));
         works = subst LF (sym x.one.ports_are) (All-cons F x.one.p [] (subst K (sym x.one.of_port) (ap (λ (c : PortCounts). c.faults) counts_are)) (All-nil F));
-        faults = faults;
+        binds = faults;
         seen_is = refl;
       }
 

@@ -20,7 +20,7 @@ use Rattle.mq_machine.specs.State.{Conn, Link, Held, Port, Orders}
 use Rattle.mq_machine.specs.Want.{Want, Nothing, Say, Bind, Ask, Judge, Push, Send, Over, want_of}
 use Rattle.mq_machine.specs.Steps.{framed, starved}
 use Rattle.mq_machine.specs.Turn.{Try, Act, Frame, Write, Read, can_do, tries_of}
-use Rattle.mq_machine.specs.Acting.{Outside, Rose, WantWaited}
+use Rattle.mq_machine.specs.Acting.{Outside, Rose, WantWaited, Binder}
 use Rattle.mq_conn.specs.Conns.{IsConn}
 use Rattle.mq_conn.specs.Frames.{waits}
 use Rattle.mq_held.specs.declared.held.Held.{Held as HeldBy}
@@ -38,29 +38,30 @@ use Rattle.mq_step.proofs.Trying.{PortBetween, Between, mid, skip, first_true, r
 use Rattle.mq_step.proofs.Framing.{whole, whole_told, same_link, drained, drains, frame_done, frame_stands, fits_link}
 use Rattle.mq_step.proofs.Linking.{between_link}
 use Rattle.mq_step.proofs.Failing.{became_link}
-use Rattle.mq_step.proofs.Moving.{Moves, stay_all, seen_link, link_behind, drained_stands}
+use Rattle.mq_step.proofs.Moving.{Moves, stay_all, seen_link, same_binds, link_behind, drained_stands}
 
 -- ---- frames
 
-module _ {L Q : Type 0} (link : L → Option Link) (past : L → LinkPast) (counts : L → LinkCounts) (most : Q → ℕ) (holds : Q → Option PortHolds) (port_counts : Q → PortCounts) (faults : ℕ) (table : Slab Q)
+module _ {L Q : Type 0} (link : L → Option Link) (past : L → LinkPast) (counts : L → LinkCounts) (most : Q → ℕ) (holds : Q → Option PortHolds) (port_counts : Q → PortCounts) (binds : Binder) (table : Slab Q)
     (old new : HeldBy L) (o n : Outside) (s : Held) where
-  kept_link : (x : Moves link past counts most holds port_counts faults table old new o n s) → new.link ≡ old.link → n.link s.conn.number ≡ o.link s.conn.number
+  kept_link : (x : Moves link past counts most holds port_counts binds table old new o n s) → new.link ≡ old.link → n.link s.conn.number ≡ o.link s.conn.number
   kept_link x same =
-      link_behind link past counts most holds port_counts faults table old new o n s x ∙ ap link same ∙ sym (seen_link link past counts most holds port_counts faults table old new o n s x).link
+      link_behind link past counts most holds port_counts binds table old new o n s x ∙ ap link same ∙ sym (seen_link link past counts most holds port_counts binds table old new o n s x).link
 
-  pub frame_starves : (x : Moves link past counts most holds port_counts faults table old new o n s) → new.link ≡ old.link → (setup : Setup) (seen : Seen) (refused : NoMemory)
+  pub frame_starves : (x : Moves link past counts most holds port_counts binds table old new o n s) → new.link ≡ old.link → (setup : Setup) (seen : Seen) (refused : NoMemory)
       → FrameGives (IsConn new.conn) s.conn (Err refused) → Gives setup from_frame SendsWait o n seen seen (IsHeld most table new) s (Err refused)
   frame_starves x same setup seen refused gives = λ boxes orders.
       let h : Held = filled o idle s in (
         drained o idle s h.link.pieces,
-        drains from_frame SendsWait o n seen boxes orders s idle Frame false h.link.pieces (λ tunnel. (refl, refl)) (first_true h Frame (from_write h) gives.0) (λ is. absurd cc) refl,
+        drains from_frame SendsWait o n seen boxes orders s idle Frame false h.link.pieces (λ tunnel. (refl, refl)) (first_true h Frame (from_write h) gives.0) (λ is. absurd cc) refl
+            (same_binds link past counts most holds port_counts binds table old new o n s x),
         (
-          drained_stands link past counts most holds port_counts faults table old new o n s x idle h.link.pieces gives.1,
-          whole_told o n idle s (starved s.conn) h.link refl (same_link o n s idle_link (kept_link x same)) (stay_all link past counts most holds port_counts faults table old new o n s x),
+          drained_stands link past counts most holds port_counts binds table old new o n s x idle h.link.pieces gives.1,
+          whole_told o n idle s (starved s.conn) h.link refl (same_link o n s idle_link (kept_link x same)) (stay_all link past counts most holds port_counts binds table old new o n s x),
         ),
       )
 
-  pub framed_gives : (x : Moves link past counts most holds port_counts faults table old new o n s) → new.link ≡ old.link → (setup : Setup) (seen : Seen) (said : Note)
+  pub framed_gives : (x : Moves link past counts most holds port_counts binds table old new o n s) → new.link ≡ old.link → (setup : Setup) (seen : Seen) (said : Note)
       → FrameGives (IsConn new.conn) s.conn (Ok (Some said)) → Gives setup from_frame SendsWait o n seen seen (IsHeld most table new) s (Ok (Did said))
   framed_gives x same setup seen said gives = λ boxes orders.
       let t : Conn = gives.0 in
@@ -68,8 +69,8 @@ module _ {L Q : Type 0} (link : L → Option Link) (past : L → LinkPast) (coun
       let held = frame_stands most table old new o s said t x.held x.wait gives.1 (ap (λ y. y.ports.items) x.rest) (ap (λ y. y.number) x.rest) (ap (λ y. y.bound) x.rest) gives.2 in
       let number : t.number ≡ s.conn.number = held.number ∙ ap (λ y. y.number) x.rest ∙ sym x.held.number in (
         whole o idle s t h.link,
-        frame_done setup o n seen boxes orders s said t gives.1,
-        (held, whole_told o n idle s t h.link number (same_link o n s idle_link (kept_link x same)) (stay_all link past counts most holds port_counts faults table old new o n s x)),
+        frame_done setup o n seen boxes orders s said t gives.1 (same_binds link past counts most holds port_counts binds table old new o n s x),
+        (held, whole_told o n idle s t h.link number (same_link o n s idle_link (kept_link x same)) (stay_all link past counts most holds port_counts binds table old new o n s x)),
       )
 
 same_between : (o : Outside) (s : Held) → Between o o.link_counts o.port_counts s
@@ -100,19 +101,19 @@ abbrev pub there : {Q A : Type 0} → (Q → A) → A → Slab Q → List PortSe
 there f none table [] = none
 there f none table (seat ∷ seats) = unwrap_or (option_map f (get table seat.key)) none
 
-abbrev pub sight_of : {Q : Type 0} → (Q → Option PortHolds) → (Q → PortCounts) → ℕ → Slab Q → List PortSeat → Outside → Outside
-sight_of holds counts faults table seats o = record o { port = λ tunnel. there holds None table seats; port_counts = λ tunnel. there counts no_port_counts table seats; bind_faults = faults }
+abbrev pub sight_of : {Q : Type 0} → (Q → Option PortHolds) → (Q → PortCounts) → Binder → Slab Q → List PortSeat → Outside → Outside
+sight_of holds counts binds table seats o = record o { port = λ tunnel. there holds None table seats; port_counts = λ tunnel. there counts no_port_counts table seats; binds = binds }
 
-pub sight_sees : {Q : Type 0} (holds : Q → Option PortHolds) (counts : Q → PortCounts) (faults : ℕ) (table : Slab Q) (seats : List PortSeat) (o : Outside) → length seats ≤ 1
-    → SeesTable holds counts faults table seats (sight_of holds counts faults table seats o)
-sight_sees holds counts faults table [] o few = record { ports = All-nil (SeesPort holds counts table (sight_of holds counts faults table [] o)); faults_are = refl }
-sight_sees {Q} holds counts faults table (seat ∷ []) o few = record {
-  ports = All-cons (SeesPort holds counts table (sight_of holds counts faults table (seat ∷ []) o)) seat []
+pub sight_sees : {Q : Type 0} (holds : Q → Option PortHolds) (counts : Q → PortCounts) (binds : Binder) (table : Slab Q) (seats : List PortSeat) (o : Outside) → length seats ≤ 1
+    → SeesTable holds counts binds table seats (sight_of holds counts binds table seats o)
+sight_sees holds counts binds table [] o few = record { ports = All-nil (SeesPort holds counts table (sight_of holds counts binds table [] o)); binds_are = refl }
+sight_sees {Q} holds counts binds table (seat ∷ []) o few = record {
+  ports = All-cons (SeesPort holds counts table (sight_of holds counts binds table (seat ∷ []) o)) seat []
       (λ port at. (ap {B = Option PortHolds} (λ (x : Option Q). unwrap_or (option_map holds x) None) at, ap {B = PortCounts} (λ (x : Option Q). unwrap_or (option_map counts x) no_port_counts) at))
-      (All-nil (SeesPort holds counts table (sight_of holds counts faults table (seat ∷ []) o)));
-  faults_are = refl;
+      (All-nil (SeesPort holds counts table (sight_of holds counts binds table (seat ∷ []) o)));
+  binds_are = refl;
 }
-sight_sees holds counts faults table (seat ∷ other ∷ seats) o few = absurd (omega (arith, few))
+sight_sees holds counts binds table (seat ∷ other ∷ seats) o few = absurd (omega (arith, few))
 
 -- ---- what the outside tells once a want was in vain
 
@@ -144,17 +145,17 @@ want_between o n seen seen_after s w = record {
   ports = between_ports o n s.ports w.grows w.works;
 }
 
-pub want_sight : {L Q : Type 0} (link : L → Option Link) (link_counts : L → LinkCounts) (most : Q → ℕ) (holds : Q → Option PortHolds) (counts : Q → PortCounts) (faults faults_after : ℕ) (table after : Slab Q) (old new : HeldBy L)
-    (o n : Outside) (seen seen_after : Seen) (s : Held) → Sees link link_counts holds counts faults table old o → new.number ≡ old.number → new.link ≡ old.link → IsHeld most after new s
-    → WantWaits o n seen seen_after s → SeesTable holds counts faults_after after new.ports.items n → Sees link link_counts holds counts faults_after after new (mid o o.link_counts n.port_counts)
-want_sight link link_counts most holds counts faults faults_after table after old new o n seen seen_after s sees number same held w sn = record {
+pub want_sight : {L Q : Type 0} (link : L → Option Link) (link_counts : L → LinkCounts) (most : Q → ℕ) (holds : Q → Option PortHolds) (counts : Q → PortCounts) (binds binds_after : Binder) (table after : Slab Q) (old new : HeldBy L)
+    (o n : Outside) (seen seen_after : Seen) (s : Held) → Sees link link_counts holds counts binds table old o → new.number ≡ old.number → new.link ≡ old.link → IsHeld most after new s
+    → WantWaits o n seen seen_after s → SeesTable holds counts binds_after after new.ports.items n → Sees link link_counts holds counts binds_after after new (mid o o.link_counts n.port_counts)
+want_sight link link_counts most holds counts binds binds_after table after old new o n seen seen_after s sees number same held w sn = record {
   of_link = record {
     link_is = ap o.link number ∙ sees.of_link.link_is ∙ ap link (sym same);
     counts_are = ap o.link_counts number ∙ sees.of_link.counts_are ∙ ap link_counts (sym same);
   };
   of_table = record {
     ports = told_ports most holds counts after o n o.link_counts new.ports.items s.ports held.ports w.told sn.ports;
-    faults_are = sym w.faults ∙ sn.faults_are;
+    binds_are = sym w.binds ∙ sn.binds_are;
   };
 }
 
@@ -263,6 +264,7 @@ module _ {L Q : Type 0} (most : Q → ℕ) (after : Slab Q) (new : HeldBy L) (o 
           alive = λ is. x.alive;
           leaves = refl;
           heard = x.heard;
+          binds = x.binds;
           then = x.then;
         },
         (d.2, record { link = linked_told d.0 same d.2 (ap (λ (y : Held). y.link) x.then); ports = d.3 }),
@@ -273,13 +275,13 @@ module _ {L Q : Type 0} (most : Q → ℕ) (after : Slab Q) (new : HeldBy L) (o 
 pub link_rest : {L : Type 0} (old new : HeldBy L) → new ≡ record old { conn = new.conn } → new ≡ record old { conn = new.conn; link = new.link }
 link_rest {L} old new rest = rest ∙ ap {B = HeldBy L} (λ (l : L). record old { conn = new.conn; link = l }) (sym (ap (λ h. h.link) rest))
 
-pub same_sight : {L Q : Type 0} (link : L → Option Link) (counts : L → LinkCounts) (holds : Q → Option PortHolds) (port_counts : Q → PortCounts) (faults : ℕ) (table : Slab Q) (old new : HeldBy L) (o : Outside)
-    → Sees link counts holds port_counts faults table old o → new ≡ record old { conn = new.conn } → Sees link counts holds port_counts faults table new o
-same_sight {L} {Q} link counts holds port_counts faults table old new o sees rest =
-    let P : HeldBy L → Type 0 = λ h. Sees link counts holds port_counts faults table h o in
+pub same_sight : {L Q : Type 0} (link : L → Option Link) (counts : L → LinkCounts) (holds : Q → Option PortHolds) (port_counts : Q → PortCounts) (binds : Binder) (table : Slab Q) (old new : HeldBy L) (o : Outside)
+    → Sees link counts holds port_counts binds table old o → new ≡ record old { conn = new.conn } → Sees link counts holds port_counts binds table new o
+same_sight {L} {Q} link counts holds port_counts binds table old new o sees rest =
+    let P : HeldBy L → Type 0 = λ h. Sees link counts holds port_counts binds table h o in
     let here : P (record old { conn = new.conn }) = record {
       of_link = record { link_is = sees.of_link.link_is; counts_are = sees.of_link.counts_are };
-      of_table = record { ports = sees.of_table.ports; faults_are = sees.of_table.faults_are };
+      of_table = record { ports = sees.of_table.ports; binds_are = sees.of_table.binds_are };
     } in
     subst P (sym rest) here
 
@@ -290,7 +292,7 @@ silent = record {
   link_counts = λ conn. no_link_counts;
   port = λ tunnel. None;
   port_counts = λ tunnel. no_port_counts;
-  bind_faults = 0;
+  binds = record { holds = None; faults = 0 };
 }
 
 -- with the link of a state that has what is told of it, it is the same connection

@@ -7,7 +7,7 @@ use Rattle.mq_outside.specs.Ports.{PortHolds}
 use Rattle.mq_talk.specs.Offices.{Seen}
 use Rattle.mq_machine.specs.State.{Held}
 use Rattle.mq_machine.specs.Want.{want_of}
-use Rattle.mq_machine.specs.Acting.{Outside}
+use Rattle.mq_machine.specs.Acting.{Outside, Binder}
 use Rattle.mq_conn.specs.Frames.{waits}
 use Rattle.mq_held.specs.declared.held.Held.{Held as HeldBy}
 use Rattle.mq_held.specs.declared.held.PortSeat.{PortSeat}
@@ -40,50 +40,50 @@ closes_still seen seen_after stand s (Ok (Ended said)) X gives = absurd gives
 closes_still seen seen_after stand s (Err refused) X gives = absurd gives
 
 -- what a want does whatever the outside tells
-abbrev pub Acts : {L Q : Type 0} → (Q → ℕ) → (Q → Option PortHolds) → (Q → PortCounts) → (faults faults_after : ℕ) → (table after : Slab Q)
+abbrev pub Acts : {L Q : Type 0} → (Q → ℕ) → (Q → Option PortHolds) → (Q → PortCounts) → (binds binds_after : Binder) → (table after : Slab Q)
     → (old new : HeldBy L) → (seen seen_after : Seen) → Held → Result Stepped NoMemory → Type 0
-Acts {L} {Q} most holds counts faults faults_after table after old new seen seen_after s r =
-    (o n : Outside) → SeesTable holds counts faults table old.ports.items o → SeesTable holds counts faults_after after new.ports.items n
+Acts {L} {Q} most holds counts binds binds_after table after old new seen seen_after s r =
+    (o n : Outside) → SeesTable holds counts binds table old.ports.items o → SeesTable holds counts binds_after after new.ports.items n
     → ActGives o n seen seen_after (IsHeld most after new) s r
 
-module _ {L Q : Type 0} (most : Q → ℕ) (holds : Q → Option PortHolds) (counts : Q → PortCounts) (faults faults_after : ℕ) (table after : Slab Q)
+module _ {L Q : Type 0} (most : Q → ℕ) (holds : Q → Option PortHolds) (counts : Q → PortCounts) (binds binds_after : Binder) (table after : Slab Q)
     (old new : HeldBy L) (seen seen_after : Seen) (s : Held) where
   -- seen with what its ports tell
   seen_acts : (r : Result Stepped NoMemory) → IsHeld most table old s → new.ports.items ≡ old.ports.items
-      → Acts most holds counts faults faults_after table after old new seen seen_after s r
-      → ActGives (sight_of holds counts faults table old.ports.items silent) (sight_of holds counts faults_after after new.ports.items silent) seen
+      → Acts most holds counts binds binds_after table after old new seen seen_after s r
+      → ActGives (sight_of holds counts binds table old.ports.items silent) (sight_of holds counts binds_after after new.ports.items silent) seen
       seen_after (IsHeld most after new) s r
   seen_acts r held stays acts =
       let few = at_most_one most table old s held in
       let N : List PortSeat → Type 0 = λ xs. length xs ≤ 1 in
-      acts (sight_of holds counts faults table old.ports.items silent) (sight_of holds counts faults_after after new.ports.items silent)
-      (sight_sees holds counts faults table old.ports.items silent few)
-      (sight_sees holds counts faults_after after new.ports.items silent (subst N (sym stays) few))
+      acts (sight_of holds counts binds table old.ports.items silent) (sight_of holds counts binds_after after new.ports.items silent)
+      (sight_sees holds counts binds table old.ports.items silent few)
+      (sight_sees holds counts binds_after after new.ports.items silent (subst N (sym stays) few))
 
   -- a want in vain waits, and changes nothing
   pub quiet_stands : IsHeld most table old s → new.ports.items ≡ old.ports.items
-      → Acts most holds counts faults faults_after table after old new seen seen_after s (Ok Quiet)
+      → Acts most holds counts binds binds_after table after old new seen seen_after s (Ok Quiet)
       → IsHeld most after new s × (waits (want_of s.conn) ≡ true)
   quiet_stands held stays acts =
       let gives = seen_acts (Ok Quiet) held stays acts in (
         gives.1,
-        want_waits (sight_of holds counts faults table old.ports.items silent) (sight_of holds counts faults_after after new.ports.items silent) s seen
+        want_waits (sight_of holds counts binds table old.ports.items silent) (sight_of holds counts binds_after after new.ports.items silent) s seen
             seen_after gives.0,
       )
 
 -- a connection whose link failed is never quiet
-pub fallen_still : {L Q : Type 0} (most : Q → ℕ) (holds : Q → Option PortHolds) (counts : Q → PortCounts) (faults faults_after : ℕ) (table after : Slab Q)
+pub fallen_still : {L Q : Type 0} (most : Q → ℕ) (holds : Q → Option PortHolds) (counts : Q → PortCounts) (binds binds_after : Binder) (table after : Slab Q)
     (old new : HeldBy L) (seen seen_after : Seen) (s : Held) (r : Result Stepped NoMemory) (X : Type 0) → IsHeld most table old (fallen s s.link)
     → IfOk r (λ stepped. stepped ≡ Quiet → new.ports.items ≡ old.ports.items)
-    → Acts most holds counts faults faults_after table after old new seen seen_after (fallen s s.link) r → IfOk r (λ stepped. stepped ≡ Quiet → X)
-fallen_still {L} {Q} most holds counts faults faults_after table after old new seen seen_after s (Ok stepped) X held stays acts = λ is.
-    let o = sight_of holds counts faults table old.ports.items silent in
-    let A : Stepped → Type 0 = λ x. Acts most holds counts faults faults_after table after old new seen seen_after (fallen s s.link) (Ok x) in
-    let gives = seen_acts most holds counts faults faults_after table after old new seen seen_after (fallen s s.link) (Ok Quiet) held
+    → Acts most holds counts binds binds_after table after old new seen seen_after (fallen s s.link) r → IfOk r (λ stepped. stepped ≡ Quiet → X)
+fallen_still {L} {Q} most holds counts binds binds_after table after old new seen seen_after s (Ok stepped) X held stays acts = λ is.
+    let o = sight_of holds counts binds table old.ports.items silent in
+    let A : Stepped → Type 0 = λ x. Acts most holds counts binds binds_after table after old new seen seen_after (fallen s s.link) (Ok x) in
+    let gives = seen_acts most holds counts binds binds_after table after old new seen seen_after (fallen s s.link) (Ok Quiet) held
     (stays is) (subst A is acts) in
     let e : true ≡ false = sym (can_then s.conn (ported o idle (fallen s s.link)).ports) ∙ gives.0.cannot idle (λ tunnel. (refl, refl)) in
     absurd cc
-fallen_still {L} {Q} most holds counts faults faults_after table after old new seen seen_after s (Err refused) X held stays acts = tt
+fallen_still {L} {Q} most holds counts binds binds_after table after old new seen seen_after s (Err refused) X held stays acts = tt
 
 -- a want in vain, and then what is done behind it
 pub still_then : {L Q : Type 0} (most : Q → ℕ) (table between after : Slab Q) (old mid new : HeldBy L) (r : Result Stepped NoMemory)

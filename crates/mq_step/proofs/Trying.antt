@@ -3,13 +3,13 @@ use Rattle.std.proofs.Common.{◌≡◌, inl, inr, ℕ, Bool, true, false, List,
 use Rattle.std.specs.Prelude.{find, if◌then◌else◌}
 use Rattle.std.proofs.lemmas.List.Elements.{All-cons, All-head, All-tail, All-nil}
 use Rattle.mq_wire.specs.declared.NoMemory.{NoMemory}
-use Rattle.mq_outside.specs.Counts.{risen, risen_by, LinkCounts, PortCounts}
+use Rattle.mq_outside.specs.Counts.{risen, LinkCounts, PortCounts}
 use Rattle.mq_talk.specs.Offices.{Seen}
 use Rattle.mq_machine.specs.declared.setup.Setup.{Setup}
 use Rattle.mq_machine.specs.State.{Held, Port}
 use Rattle.mq_machine.specs.Want.{Answer, Said, Bound, Replied, Judged, Pushed, Put}
 use Rattle.mq_machine.specs.Turn.{Try, Write, Read, Receive, can_try}
-use Rattle.mq_machine.specs.Acting.{Outside, Rose, PortFailed, BindFits}
+use Rattle.mq_machine.specs.Acting.{Outside, Rose, PortFailed, BindFits, handed_back}
 use Rattle.mq_step.specs.declared.stepped.Stepped.{Stepped}
 use Rattle.mq_step.specs.declared.stepped.Stepped.TheVariants.{Quiet, Did, Ended}
 use Rattle.mq_step.specs.Sights.{Found, filled_port, idle, PortFits, PortsFit, LinkGrows, PortGrows}
@@ -57,7 +57,7 @@ link_trans a b c x y = record {
 module _ (o n : Outside) (lc : ℕ → LinkCounts) (pc : ℕ → PortCounts) where
   failed_back : (t : ℕ) → (pc t).faults ≡ (o.port_counts t).faults → PortFailed (mid o lc pc) n t → PortFailed o n t
   failed_back t same (inl rose) = let P : ℕ → Type 0 = λ c. Rose c (n.port_counts t).faults in inl (subst P same rose)
-  failed_back t same (inr is) = inr (is ∙ ap (λ (c : ℕ). risen_by (risen c) o.bind_faults) same)
+  failed_back t same (inr is) = inr (is ∙ ap (λ (c : ℕ). handed_back (risen c) o.binds) same)
 
   ports_back : (f : Found) (ports : List Port) → All (PortBetween o pc) ports → PortsFit (mid o lc pc) n (map (filled_port o f) ports) → PortsFit o n (map (filled_port o f) ports)
   ports_back f [] between fit = All-nil (PortFits o n)
@@ -74,13 +74,13 @@ module _ (o n : Outside) (lc : ℕ → LinkCounts) (pc : ℕ → PortCounts) whe
       record { link = λ none is. subst P between.link_faults (fit.link none is); ports = ports_back f s.ports between.ports fit.ports }
 
   binds_back : (a : Answer) → BindFits (mid o lc pc) n a → BindFits o n a
-  binds_back Said fit = tt
+  binds_back Said fit = fit
   binds_back (Bound true) fit = fit
   binds_back (Bound false) fit = fit
-  binds_back (Replied reply) fit = tt
-  binds_back (Judged verdict at) fit = tt
-  binds_back (Pushed done) fit = tt
-  binds_back (Put put limit) fit = tt
+  binds_back (Replied reply) fit = fit
+  binds_back (Judged verdict at) fit = fit
+  binds_back (Pushed done) fit = fit
+  binds_back (Put put limit) fit = fit
 
   ports_grow : (ports : List Port) → All (PortBetween o pc) ports → All (λ (p : Port). PortGrows (pc p.tunnel) (n.port_counts p.tunnel)) ports
       → All (λ (p : Port). PortGrows (o.port_counts p.tunnel) (n.port_counts p.tunnel)) ports
@@ -128,7 +128,7 @@ module _ (o n : Outside) (lc : ℕ → LinkCounts) (pc : ℕ → PortCounts) whe
           none = first_false (filled o idle s) t (tries (filled o idle s)) (cannot idle vain_idle) ∙ w.none;
           asked = All-cons (Asked o n s) t (tries s) (asks w.grows) (back w.asked);
           grows = grows_back s between w.grows;
-          told = record { link = w.told.link; ports = w.told.ports; faults = w.told.faults };
+          told = record { link = w.told.link; ports = w.told.ports; binds = w.told.binds };
           seen_is = w.seen_is;
         },
         gives.1,
@@ -190,6 +190,7 @@ module _ (o n : Outside) (lc : ℕ → LinkCounts) (pc : ℕ → PortCounts) whe
           alive = x.alive;
           leaves = x.leaves;
           heard = x.heard;
+          binds = binds_back x.answer x.binds;
           then = x.then;
         },
         d.2,

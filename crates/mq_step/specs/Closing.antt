@@ -2,7 +2,7 @@
 use Rattle.std.specs.Prelude.{◌≡◌, ℕ, List, [], ◌∷◌, Some, Result, Ok, Err}
 use Rattle.slab.specs.Slab.{Slab, get}
 use Rattle.mq_wire.specs.declared.NoMemory.{NoMemory}
-use Rattle.mq_outside.specs.Counts.{risen_by, PortCounts}
+use Rattle.mq_outside.specs.Counts.{PortCounts}
 use Rattle.mq_talk.specs.declared.book.Reply.TheVariants as reply
 use Rattle.mq_talk.specs.declared.note.Note.{Note}
 use Rattle.mq_talk.specs.declared.place.Parcel.{Parcel}
@@ -11,6 +11,7 @@ use Rattle.mq_machine.specs.State.{Conn, Link, Held, Orders, Shared}
 use Rattle.mq_machine.specs.Want.{Replied, want_of}
 use Rattle.mq_machine.specs.Done.{done}
 use Rattle.mq_machine.specs.Shared.{Answers}
+use Rattle.mq_machine.specs.Acting.{Binder, handed_back}
 use Rattle.mq_held.specs.declared.held.PortSeat.{PortSeat}
 use Rattle.mq_step.specs.declared.stepped.Stepped.{Stepped}
 use Rattle.mq_step.specs.declared.stepped.Stepped.TheVariants.{Quiet, Did, Ended}
@@ -34,6 +35,6 @@ CloseGives seen seen_after stands s (Ok (Ended said)) = ⊥
 CloseGives seen seen_after stands s (Err refused) = ⊥
 
 -- the port of the only seat was handed back, with what it failed
-abbrev pub HandsBack : {Q : Type 0} → (Q → PortCounts) → Slab Q → List PortSeat → (faults faults_after : ℕ) → Type 0
-HandsBack {Q} counts table seats faults faults_after =
-    (seat : PortSeat) (port : Q) → seats ≡ seat ∷ [] → get table seat.key ≡ Some port → faults_after ≡ risen_by (counts port).faults faults
+abbrev pub HandsBack : {Q : Type 0} → (Q → PortCounts) → Slab Q → List PortSeat → (binds binds_after : Binder) → Type 0
+HandsBack {Q} counts table seats binds binds_after =
+    (seat : PortSeat) (port : Q) → seats ≡ seat ∷ [] → get table seat.key ≡ Some port → binds_after ≡ handed_back (counts port).faults binds

@@ -99,6 +99,7 @@ pub record Starved (tries : Tries) (vain : InVain) (old new : Outside) (seen see
   pub alive : try ≡ Act → s.conn.ending ≡ None
   pub leaves : Leaves reached.took try (filled old found s).link.pieces pieces
   pub heard : Heard reached.asked (filled old found s) sh try answer tunnels after
+  pub binds : BindFits old new answer
   pub then : t ≡ record (filled old found s) {
     link = record (filled old found s).link { pieces = pieces };
     conn = record (starved s.conn) { tunnels = tunnels };

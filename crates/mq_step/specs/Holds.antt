@@ -2,7 +2,6 @@
 use Rattle.std.specs.Prelude.{◌≡◌, ◌≢◌, ⊤, ◌⊎◌, ℕ, ◌<◌, ◌≤◌, List, [], ◌∷◌, ◌++◌, map, All, Option, Some, None, MatchOption}
 use Rattle.std.specs.Vec.{vec_len, vec_capacity}
 use Rattle.slab.specs.Slab.{Slab, get}
-use Rattle.mq_outside.specs.Counts.{last_count}
 use Rattle.mq_outside.specs.Ports.{limit_of}
 use Rattle.mq_talk.specs.declared.book.Call.TheVariants as call
 use Rattle.mq_talk.specs.declared.goal.Goal.TheVariants as goal
@@ -88,10 +87,6 @@ pub record IsKnown (seen : Seen) (actor : ℕ) (s : Held) : Type 0 where
   pub worker : actor < seen.config.workers
   pub actor_is : s.conn.actor ≡ actor
   pub tunnels : All (λ (t : Tunnel). IsOpen seen.entries actor t.id s.conn.number t.stream t.goal) s.conn.tunnels
-
--- no port received as many datagrams as are counted
-abbrev pub AreCounted : List Port → Type 0
-AreCounted ports = All (λ (p : Port). p.received < last_count) ports
 
 -- ---- the ports of other connections
 

@@ -4,7 +4,7 @@ use Rattle.slab.specs.Slab.{Slab, get}
 use Rattle.mq_outside.specs.Counts.{LinkCounts, PortCounts}
 use Rattle.mq_outside.specs.Ports.{PortHolds, empty_port}
 use Rattle.mq_machine.specs.State.{Link, new_link, Port}
-use Rattle.mq_machine.specs.Acting.{Outside, PortFailed, holding}
+use Rattle.mq_machine.specs.Acting.{Outside, Binder, PortFailed, holding}
 use Rattle.mq_held.specs.declared.held.PortSeat.{PortSeat}
 
 -- the outside tells of the ports of these seats what the table has
@@ -16,9 +16,9 @@ abbrev pub SeesPorts : {Q : Type 0} → (Q → Option PortHolds) → (Q → Port
 SeesPorts holds counts table o seats = All (SeesPort holds counts table o) seats
 
 -- and what binds ports
-pub record SeesTable {Q : Type 0} (holds : Q → Option PortHolds) (counts : Q → PortCounts) (faults : ℕ) (table : Slab Q) (seats : List PortSeat) (o : Outside) : Type 0 where
+pub record SeesTable {Q : Type 0} (holds : Q → Option PortHolds) (counts : Q → PortCounts) (binds : Binder) (table : Slab Q) (seats : List PortSeat) (o : Outside) : Type 0 where
   pub ports : SeesPorts holds counts table o seats
-  pub faults_are : o.bind_faults ≡ faults
+  pub binds_are : o.binds ≡ binds
 
 -- what was found where nothing is told
 pub record Found : Type 0 where

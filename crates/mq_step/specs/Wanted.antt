@@ -1,5 +1,5 @@
 -- What it gives that a connection does what it wants: on ports that hold what they told, or else what was found.
-use Rattle.std.specs.Prelude.{◌≡◌, ℕ, Bool, true, false, List, All, map, Option, Some, None, option_map, Result, Ok, Err}
+use Rattle.std.specs.Prelude.{◌≡◌, ◌⊎◌, ℕ, Bool, true, false, List, All, map, Option, Some, None, option_map, Result, Ok, Err}
 use Rattle.mq_wire.specs.declared.NoMemory.{NoMemory}
 use Rattle.mq_talk.specs.declared.book.Reply.TheVariants as reply
 use Rattle.mq_talk.specs.declared.note.Note.{Note}
@@ -11,7 +11,7 @@ use Rattle.mq_machine.specs.Shared.{at_port}
 use Rattle.mq_machine.specs.Silent.{Heard}
 use Rattle.mq_machine.specs.Steps.{starved}
 use Rattle.mq_machine.specs.Turn.{Act, can_try, ActNext}
-use Rattle.mq_machine.specs.Acting.{Outside, WantWaited, BindFits, PortsTold, prepared}
+use Rattle.mq_machine.specs.Acting.{Outside, Binder, Binds, WantWaited, BindFits, PortsTold, prepared}
 use Rattle.mq_step.specs.declared.stepped.Stepped.{Stepped}
 use Rattle.mq_step.specs.declared.stepped.Stepped.TheVariants.{Quiet, Did, Ended}
 use Rattle.mq_step.specs.Sights.{Found, filled_port, idle, PortsFit, PortGrows}
@@ -77,11 +77,15 @@ pub record WantWaits (old new : Outside) (seen seen_after : Seen) (s : Held) : T
   pub grows : All (λ (p : Port). PortGrows (old.port_counts p.tunnel) (new.port_counts p.tunnel)) s.ports
   pub told : All (λ (p : Port). new.port p.tunnel ≡ old.port p.tunnel) s.ports
   pub works : All (λ (p : Port). (new.port_counts p.tunnel).faults ≡ (old.port_counts p.tunnel).faults) s.ports
-  pub faults : new.bind_faults ≡ old.bind_faults
+  pub binds : new.binds ≡ old.binds
   pub seen_is : seen_after ≡ seen
 
+-- nothing was bound, or a bind was answered
+abbrev pub MayBind : Binder → Binder → Type 0
+MayBind old new = (new ≡ old) ⊎ ((done : Bool) × Binds done old new)
+
 -- It was refused memory as it did what it wants, which a connection that is ending is never.
-pub record WantStarves (seen seen_after : Seen) (boxes : List (List Parcel)) (orders : Orders) (old : Outside) (s t : Held) : Type 0 where
+pub record WantStarves (old new : Outside) (seen seen_after : Seen) (boxes : List (List Parcel)) (orders : Orders) (s t : Held) : Type 0 where
   pub found : Found
   pub answer : Answer
   pub sh : Shared
@@ -92,6 +96,7 @@ pub record WantStarves (seen seen_after : Seen) (boxes : List (List Parcel)) (or
   pub alive : s.conn.ending ≡ None
   pub shares : Shares seen seen_after boxes orders sh after
   pub heard : Heard asked (ported old found s) sh Act answer tunnels after
+  pub binds : BindFits old new answer
   pub then : t ≡ record (ported old found s) { conn = record (starved s.conn) { tunnels = tunnels } }
 
 abbrev pub ActGives : Outside → Outside → Seen → Seen → (Held → Type 0) → Held → Result Stepped NoMemory → Type 0
@@ -100,4 +105,4 @@ ActGives old new seen seen_after stands s (Ok (Did note)) = (boxes : List (List 
     → (t : Held) × WantDone old new seen seen_after boxes orders s note (Some t) × stands t × PortsTold new t.ports
 ActGives old new seen seen_after stands s (Ok (Ended note)) = (boxes : List (List Parcel)) (orders : Orders) → WantDone old new seen seen_after boxes orders s note None
 ActGives old new seen seen_after stands s (Err refused) = (boxes : List (List Parcel)) (orders : Orders)
-    → (t : Held) × WantStarves seen seen_after boxes orders old s t × stands t × PortsTold new t.ports
+    → (t : Held) × WantStarves old new seen seen_after boxes orders s t × stands t × PortsTold new t.ports

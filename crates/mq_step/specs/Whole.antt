@@ -6,7 +6,7 @@ use Rattle.mq_outside.specs.Counts.{LinkCounts, PortCounts}
 use Rattle.mq_outside.specs.Ports.{PortHolds}
 use Rattle.mq_talk.specs.Mails.{IsTold}
 use Rattle.mq_machine.specs.State.{Link, Port, Held}
-use Rattle.mq_machine.specs.Acting.{Outside, PortsTold, Rose}
+use Rattle.mq_machine.specs.Acting.{Outside, PortsTold, Rose, Binder}
 use Rattle.mq_held.specs.declared.held.Held.{Held as HeldBy}
 use Rattle.mq_step.specs.Sights.{SeesTable, Found, filled_port, PortsFit, LinkGrows, PortGrows}
 
@@ -17,9 +17,9 @@ pub record SeesLink {L : Type 0} (holds : L → Option Link) (counts : L → Lin
 
 -- the outside tells all that of a connection
 pub record Sees {L Q : Type 0} (link : L → Option Link) (link_counts : L → LinkCounts) (port : Q → Option PortHolds) (port_counts : Q → PortCounts)
-    (faults : ℕ) (table : Slab Q) (h : HeldBy L) (o : Outside) : Type 0 where
+    (binds : Binder) (table : Slab Q) (h : HeldBy L) (o : Outside) : Type 0 where
   pub of_link : SeesLink link link_counts h o
-  pub of_table : SeesTable port port_counts faults table h.ports.items o
+  pub of_table : SeesTable port port_counts binds table h.ports.items o
 
 abbrev pub link_if : Option Link → Link → Link
 link_if None found = found
@@ -51,4 +51,4 @@ pub record Grows (old new : Outside) (h : Held) : Type 0 where
 pub record StaysTold (old new : Outside) (h : Held) : Type 0 where
   pub link : new.link h.conn.number ≡ old.link h.conn.number
   pub ports : All (λ (p : Port). new.port p.tunnel ≡ old.port p.tunnel) h.ports
-  pub faults : new.bind_faults ≡ old.bind_faults
+  pub binds : new.binds ≡ old.binds

@@ -3,7 +3,7 @@ ghost use Rattle.std.specs.Prelude.{◌≡◌, ◌≢◌, ◌≤◌, ℕ, MatchO
 ghost use Rattle.slab.specs.Slab.{Updates};
 ghost use Rattle.mq_talk.specs.declared.book.Call.TheVariants.{Close};
 ghost use Rattle.mq_talk.specs.declared.note.Note.{Note as Said};
-ghost use Rattle.mq_machine.specs.Acting.{Outside};
+ghost use Rattle.mq_machine.specs.Acting.{Outside, binder};
 ghost use Rattle.mq_machine.specs.State as machine;
 ghost use Rattle.mq_machine.specs.Want.{want_of, Ask};
 ghost use Rattle.mq_ports.specs.Tables.{IsBalanced};
@@ -25,6 +25,7 @@ fn seat<L, P: Ports>(held: &mut Held<L>, opened: Option<u32>, table: &mut PortTa
     ensures seats { Seats opened held.old.ports.items held.old.bound held.new.ports.items }
     ensures table { MatchOption opened (MatchOption held.old.bound (table.new ≡ table.old) (λ key. Updates table.old.table table.new.table key None)) (λ tunnel. table.new ≡ table.old) }
     ensures rest { held.new ≡ record held.old { ports = held.new.ports; bound = None } }
+    ensures holds { P.holds table.new.ports ≡ P.holds table.old.ports }
     ensures balanced { IsBalanced P.P.place (P.past table.old.ports) table.old.table.slots → IsBalanced P.P.place (P.past table.new.ports) table.new.table.slots }
 {
     match opened {
@@ -42,15 +43,15 @@ fn open<L, P: Ports, O: Office>(
 ) -> Result<Stepped, NoMemory>
     requires known { (s : machine.Held) × IsHeld P.P.most table.old.table held.old s × IsKnown (O.seen office.old) (O.seen office.old).actor s × (want_of s.conn ≡ Ask call) }
     requires opens { (tunnel : ℕ) → call ≢ Close tunnel }
-    ensures gives { (o n : Outside) → SeesTable P.P.holds P.P.counts (P.faults table.old.ports) table.old.table held.old.ports.items o
-        → SeesTable P.P.holds P.P.counts (P.faults table.new.ports) table.new.table held.new.ports.items n
+    ensures gives { (o n : Outside) → SeesTable P.P.holds P.P.counts (binder P.holds P.faults table.old.ports) table.old.table held.old.ports.items o
+        → SeesTable P.P.holds P.P.counts (binder P.holds P.faults table.new.ports) table.new.table held.new.ports.items n
         → (s : machine.Held) → IsHeld P.P.most table.old.table held.old s → want_of s.conn ≡ Ask call
         → ActGives o n (O.seen office.old) (O.seen office.new) (IsHeld P.P.most table.new.table held.new) s result }
     ensures rest { held.new ≡ record held.old { conn = held.new.conn; ports = held.new.ports; bound = held.new.bound } }
     ensures stays { IfOk result (λ stepped. stepped ≡ Stepped.Quiet → held.new.ports.items ≡ held.old.ports.items) }
     ensures few { length held.new.ports.items ≤ 1 }
     ensures ends { IfOk result (λ stepped. (said : Said) → stepped ≡ Stepped.Ended said → held.new.ports.items ≡ held.old.ports.items) }
-    ensures calm { IfOk result (λ stepped. stepped ≡ Stepped.Quiet → (O.seen office.new ≡ O.seen office.old) × (P.faults table.new.ports ≡ P.faults table.old.ports)) }
+    ensures calm { IfOk result (λ stepped. stepped ≡ Stepped.Quiet → (O.seen office.new ≡ O.seen office.old) × (binder P.holds P.faults table.new.ports ≡ binder P.holds P.faults table.old.ports)) }
     ensures actor { (O.seen office.new).actor ≡ (O.seen office.old).actor }
     ensures others { KeepsOthers held.old held.new table.old.table table.new.table }
     ensures balanced { IsBalanced P.P.place (P.past table.old.ports) table.old.table.slots → IsBalanced P.P.place (P.past table.new.ports) table.new.table.slots }
@@ -75,18 +76,18 @@ fn close<L, P: Ports, O: Office>(
     office: &mut O,
 ) -> Result<Stepped, NoMemory>
     requires known { (s : machine.Held) × IsHeld P.P.most table.old.table held.old s × IsKnown (O.seen office.old) (O.seen office.old).actor s × (want_of s.conn ≡ Ask (Close tunnel)) }
-    ensures gives { (o n : Outside) → SeesTable P.P.holds P.P.counts (P.faults table.old.ports) table.old.table held.old.ports.items o
-        → SeesTable P.P.holds P.P.counts (P.faults table.new.ports) table.new.table held.new.ports.items n
+    ensures gives { (o n : Outside) → SeesTable P.P.holds P.P.counts (binder P.holds P.faults table.old.ports) table.old.table held.old.ports.items o
+        → SeesTable P.P.holds P.P.counts (binder P.holds P.faults table.new.ports) table.new.table held.new.ports.items n
         → (s : machine.Held) → IsHeld P.P.most table.old.table held.old s → want_of s.conn ≡ Ask (Close tunnel)
         → ActGives o n (O.seen office.old) (O.seen office.new) (IsHeld P.P.most table.new.table held.new) s result }
     ensures closes { (s : machine.Held) → IsHeld P.P.most table.old.table held.old s → want_of s.conn ≡ Ask (Close tunnel)
         → CloseGives (O.seen office.old) (O.seen office.new) (IsHeld P.P.most table.new.table held.new) s result
-        × HandsBack P.P.counts table.old.table held.old.ports.items (P.faults table.old.ports) (P.faults table.new.ports) }
+        × HandsBack P.P.counts table.old.table held.old.ports.items (binder P.holds P.faults table.old.ports) (binder P.holds P.faults table.new.ports) }
     ensures rest { held.new ≡ record held.old { conn = held.new.conn; ports = held.new.ports } }
     ensures stays { IfOk result (λ stepped. stepped ≡ Stepped.Quiet → held.new.ports.items ≡ held.old.ports.items) }
     ensures few { length held.new.ports.items ≤ 1 }
     ensures ends { IfOk result (λ stepped. (said : Said) → stepped ≡ Stepped.Ended said → held.new.ports.items ≡ held.old.ports.items) }
-    ensures calm { IfOk result (λ stepped. stepped ≡ Stepped.Quiet → (O.seen office.new ≡ O.seen office.old) × (P.faults table.new.ports ≡ P.faults table.old.ports)) }
+    ensures calm { IfOk result (λ stepped. stepped ≡ Stepped.Quiet → (O.seen office.new ≡ O.seen office.old) × (binder P.holds P.faults table.new.ports ≡ binder P.holds P.faults table.old.ports)) }
     ensures actor { (O.seen office.new).actor ≡ (O.seen office.old).actor }
     ensures others { KeepsOthers held.old held.new table.old.table table.new.table }
     ensures balanced { IsBalanced P.P.place (P.past table.old.ports) table.old.table.slots → IsBalanced P.P.place (P.past table.new.ports) table.new.table.slots }
@@ -104,18 +105,18 @@ pub fn ask<L, P: Ports, O: Office>(
     office: &mut O,
 ) -> Result<Stepped, NoMemory>
     requires known { (s : machine.Held) × IsHeld P.P.most table.old.table held.old s × IsKnown (O.seen office.old) (O.seen office.old).actor s × (want_of s.conn ≡ Ask call) }
-    ensures gives { (o n : Outside) → SeesTable P.P.holds P.P.counts (P.faults table.old.ports) table.old.table held.old.ports.items o
-        → SeesTable P.P.holds P.P.counts (P.faults table.new.ports) table.new.table held.new.ports.items n
+    ensures gives { (o n : Outside) → SeesTable P.P.holds P.P.counts (binder P.holds P.faults table.old.ports) table.old.table held.old.ports.items o
+        → SeesTable P.P.holds P.P.counts (binder P.holds P.faults table.new.ports) table.new.table held.new.ports.items n
         → (s : machine.Held) → IsHeld P.P.most table.old.table held.old s → want_of s.conn ≡ Ask call
         → ActGives o n (O.seen office.old) (O.seen office.new) (IsHeld P.P.most table.new.table held.new) s result }
     ensures closes { (s : machine.Held) → IsHeld P.P.most table.old.table held.old s → want_of s.conn ≡ Ask call → (tunnel : ℕ) → call ≡ Close tunnel
         → CloseGives (O.seen office.old) (O.seen office.new) (IsHeld P.P.most table.new.table held.new) s result
-        × HandsBack P.P.counts table.old.table held.old.ports.items (P.faults table.old.ports) (P.faults table.new.ports) }
+        × HandsBack P.P.counts table.old.table held.old.ports.items (binder P.holds P.faults table.old.ports) (binder P.holds P.faults table.new.ports) }
     ensures rest { held.new ≡ record held.old { conn = held.new.conn; ports = held.new.ports; bound = held.new.bound } }
     ensures stays { IfOk result (λ stepped. stepped ≡ Stepped.Quiet → held.new.ports.items ≡ held.old.ports.items) }
     ensures few { length held.new.ports.items ≤ 1 }
     ensures ends { IfOk result (λ stepped. (said : Said) → stepped ≡ Stepped.Ended said → held.new.ports.items ≡ held.old.ports.items) }
-    ensures calm { IfOk result (λ stepped. stepped ≡ Stepped.Quiet → (O.seen office.new ≡ O.seen office.old) × (P.faults table.new.ports ≡ P.faults table.old.ports)) }
+    ensures calm { IfOk result (λ stepped. stepped ≡ Stepped.Quiet → (O.seen office.new ≡ O.seen office.old) × (binder P.holds P.faults table.new.ports ≡ binder P.holds P.faults table.old.ports)) }
     ensures actor { (O.seen office.new).actor ≡ (O.seen office.old).actor }
     ensures others { KeepsOthers held.old held.new table.old.table table.new.table }
     ensures balanced { IsBalanced P.P.place (P.past table.old.ports) table.old.table.slots → IsBalanced P.P.place (P.past table.new.ports) table.new.table.slots }

@@ -2,7 +2,7 @@
 ghost use Rattle.std.specs.Prelude.{◌≡◌, ◌≤◌, ◌∷◌, ℕ, true, slice_get, [], Some, IfOk, length};
 ghost use Rattle.mq_machine.specs.declared.setup.Setup.{Setup};
 ghost use Rattle.mq_talk.specs.declared.note.Note.{Note as Said};
-ghost use Rattle.mq_machine.specs.Acting.{Outside};
+ghost use Rattle.mq_machine.specs.Acting.{Outside, binder};
 ghost use Rattle.mq_machine.specs.State as machine;
 ghost use Rattle.mq_machine.specs.Turn.{Receive};
 ghost use Rattle.mq_machine.specs.Want.{want_of};
@@ -10,7 +10,7 @@ ghost use Rattle.mq_conn.specs.Frames.{waits};
 ghost use Rattle.mq_ports.specs.Tables.{IsBalanced};
 ghost use Rattle.mq_held.specs.declared.held.PortSeat.{PortSeat};
 ghost use Rattle.mq_step.specs.Rooms.{HasRooms};
-ghost use Rattle.mq_step.specs.Holds.{IsHeld, IsKnown, AreCounted, KeepsOthers};
+ghost use Rattle.mq_step.specs.Holds.{IsHeld, IsKnown, KeepsOthers};
 ghost use Rattle.mq_step.specs.Whole.{Sees};
 ghost use Rattle.mq_step.specs.Gives.{Gives, ReadsWait, receives_of, receive_alone};
 
@@ -37,9 +37,9 @@ where
     P::P: ReceiveReady,
     requires known { (s : machine.Held) × IsHeld P.P.most table.old.table held.old s × IsKnown (O.seen office.old) (O.seen office.old).actor s × (waits (want_of s.conn) ≡ true) }
     requires rooms { HasRooms rooms.old }
-    ensures gives { (o n : Outside) → Sees L.holds L.counts P.P.holds P.P.counts (P.faults table.old.ports) table.old.table held.old o
-        → Sees L.holds L.counts P.P.holds P.P.counts (P.faults table.new.ports) table.new.table held.new n
-        → (s : machine.Held) → IsHeld P.P.most table.old.table held.old s → AreCounted s.ports → waits (want_of s.conn) ≡ true
+    ensures gives { (o n : Outside) → Sees L.holds L.counts P.P.holds P.P.counts (binder P.holds P.faults table.old.ports) table.old.table held.old o
+        → Sees L.holds L.counts P.P.holds P.P.counts (binder P.holds P.faults table.new.ports) table.new.table held.new n
+        → (s : machine.Held) → IsHeld P.P.most table.old.table held.old s → waits (want_of s.conn) ≡ true
         → (setup : Setup) (seat : PortSeat) → slice_get held.old.ports.items place ≡ Some seat
         → Gives setup (receive_alone seat.tunnel) ReadsWait o n (O.seen office.old) (O.seen office.new) (IsHeld P.P.most table.new.table held.new) s result }
     ensures rest { held.new ≡ record held.old { conn = held.new.conn; ports = held.new.ports; bound = held.new.bound } }
@@ -48,7 +48,7 @@ where
     ensures still { IfOk result (λ stepped. stepped ≡ Stepped.Quiet → (s : machine.Held) → IsHeld P.P.most table.old.table held.old s → waits (want_of s.conn) ≡ true → IsHeld P.P.most table.new.table held.new s) }
     ensures few { length held.new.ports.items ≤ 1 }
     ensures ends { IfOk result (λ stepped. (said : Said) → stepped ≡ Stepped.Ended said → held.new.ports.items ≡ held.old.ports.items) }
-    ensures calm { IfOk result (λ stepped. stepped ≡ Stepped.Quiet → (O.seen office.new ≡ O.seen office.old) × (P.faults table.new.ports ≡ P.faults table.old.ports)) }
+    ensures calm { IfOk result (λ stepped. stepped ≡ Stepped.Quiet → (O.seen office.new ≡ O.seen office.old) × (binder P.holds P.faults table.new.ports ≡ binder P.holds P.faults table.old.ports)) }
     ensures actor { (O.seen office.new).actor ≡ (O.seen office.old).actor }
     ensures others { KeepsOthers held.old held.new table.old.table table.new.table }
     ensures balanced { IsBalanced P.P.place (P.past table.old.ports) table.old.table.slots → IsBalanced P.P.place (P.past table.new.ports) table.new.table.slots }
@@ -78,9 +78,9 @@ where
     P::P: ReceiveReady,
     requires known { (s : machine.Held) × IsHeld P.P.most table.old.table held.old s × IsKnown (O.seen office.old) (O.seen office.old).actor s × (waits (want_of s.conn) ≡ true) }
     requires rooms { HasRooms rooms.old }
-    ensures gives { (o n : Outside) → Sees L.holds L.counts P.P.holds P.P.counts (P.faults table.old.ports) table.old.table held.old o
-        → Sees L.holds L.counts P.P.holds P.P.counts (P.faults table.new.ports) table.new.table held.new n
-        → (s : machine.Held) → IsHeld P.P.most table.old.table held.old s → AreCounted s.ports → waits (want_of s.conn) ≡ true → (setup : Setup)
+    ensures gives { (o n : Outside) → Sees L.holds L.counts P.P.holds P.P.counts (binder P.holds P.faults table.old.ports) table.old.table held.old o
+        → Sees L.holds L.counts P.P.holds P.P.counts (binder P.holds P.faults table.new.ports) table.new.table held.new n
+        → (s : machine.Held) → IsHeld P.P.most table.old.table held.old s → waits (want_of s.conn) ≡ true → (setup : Setup)
         → Gives setup receives_of ReadsWait o n (O.seen office.old) (O.seen office.new) (IsHeld P.P.most table.new.table held.new) s result }
     ensures rest { held.new ≡ record held.old { conn = held.new.conn; ports = held.new.ports; bound = held.new.bound } }
     ensures rooms { HasRooms rooms.new }
@@ -88,7 +88,7 @@ where
     ensures still { IfOk result (λ stepped. stepped ≡ Stepped.Quiet → (s : machine.Held) → IsHeld P.P.most table.old.table held.old s → waits (want_of s.conn) ≡ true → IsHeld P.P.most table.new.table held.new s) }
     ensures few { length held.new.ports.items ≤ 1 }
     ensures ends { IfOk result (λ stepped. (said : Said) → stepped ≡ Stepped.Ended said → held.new.ports.items ≡ held.old.ports.items) }
-    ensures calm { IfOk result (λ stepped. stepped ≡ Stepped.Quiet → (O.seen office.new ≡ O.seen office.old) × (P.faults table.new.ports ≡ P.faults table.old.ports)) }
+    ensures calm { IfOk result (λ stepped. stepped ≡ Stepped.Quiet → (O.seen office.new ≡ O.seen office.old) × (binder P.holds P.faults table.new.ports ≡ binder P.holds P.faults table.old.ports)) }
     ensures actor { (O.seen office.new).actor ≡ (O.seen office.old).actor }
     ensures others { KeepsOthers held.old held.new table.old.table table.new.table }
     ensures balanced { IsBalanced P.P.place (P.past table.old.ports) table.old.table.slots → IsBalanced P.P.place (P.past table.new.ports) table.new.table.slots }

@@ -1,7 +1,7 @@
 //! A payload goes to the port of its tunnel.
 ghost use Rattle.std.specs.Prelude.{◌≡◌, ℕ, List, Ok};
 ghost use Rattle.mq_talk.specs.Offices.{Seen};
-ghost use Rattle.mq_machine.specs.Acting.{Outside};
+ghost use Rattle.mq_machine.specs.Acting.{Outside, binder};
 ghost use Rattle.mq_machine.specs.State as machine;
 ghost use Rattle.mq_machine.specs.Want.{want_of, Send};
 ghost use Rattle.mq_ports.specs.Tables.{IsBalanced};
@@ -16,8 +16,8 @@ use mq_ports::PortTable;
 
 /// Sends the payload that it wants to send, where the port of its tunnel takes that now.
 pub fn send<L, P: Ports>(held: &mut Held<L>, tunnel: u32, table: &mut PortTable<P>) -> Stepped
-    ensures gives { (o n : Outside) → SeesTable P.P.holds P.P.counts (P.faults table.old.ports) table.old.table held.old.ports.items o
-        → SeesTable P.P.holds P.P.counts (P.faults table.new.ports) table.new.table held.new.ports.items n
+    ensures gives { (o n : Outside) → SeesTable P.P.holds P.P.counts (binder P.holds P.faults table.old.ports) table.old.table held.old.ports.items o
+        → SeesTable P.P.holds P.P.counts (binder P.holds P.faults table.new.ports) table.new.table held.new.ports.items n
         → (seen : Seen) (s : machine.Held) → IsHeld P.P.most table.old.table held.old s → (k : ℕ) (payload : List ℕ) → want_of s.conn ≡ Send tunnel k payload
         → ActGives o n seen seen (IsHeld P.P.most table.new.table held.new) s (Ok result) }
     ensures rest { held.new ≡ record held.old { conn = held.new.conn } }

@@ -1,6 +1,6 @@
 use Rattle.std.proofs.Common.{◌≡◌, ◌≢◌, ◌∙◌, ℕ, List, All, remove, None, MatchOption, sym, ap, subst}
 use Rattle.slab.specs.Slab.{get}
-use Rattle.mq_outside.specs.Counts.{risen_by}
+use Rattle.mq_machine.specs.Acting.{Binder, binder, handed_back}
 use Rattle.mq_talk.specs.declared.book.Call.TheVariants.{Close}
 use Rattle.mq_machine.specs.Want.{Ask, want_of}
 use Rattle.mq_conn.specs.declared.conn.Conn.{Conn as Core}
@@ -45,7 +45,8 @@ returns-clause-gives g c = λ o n so sn s held want boxes orders.
     let C : Core → Type 0 = λ x. IsConn x e.0 in
     let conn = subst C (sym (ap (λ h. h.conn) c.retire.ensures.rest)) e.2 in (
       closed_left o s e.0,
-      close_done g.P.P.Port.most c.args.table.now.table old.conn old.ports.items o n actor seen seen_after boxes orders s c.args.tunnel c.in_ok-heard.heard.note e.0 held.conn held.ports held.served mine want closes,
+      close_done g.P.P.Port.most c.args.table.now.table old.conn old.ports.items o n actor seen seen_after boxes orders s c.args.tunnel c.in_ok-heard.heard.note e.0 held.conn held.ports held.served mine want closes
+          (ap (λ (b : Binder). b.holds) sn.binds_are ∙ c.retire.ensures.holds ∙ sym (ap (λ (b : Binder). b.holds) so.binds_are)),
       close_stands g.P.P.Port.most c.retire.new.table.table old.conn new o s actor seen seen_after c.args.tunnel c.in_ok-heard.heard.note e.0 held.conn want number seats bound closes conn,
       tt,
     )
@@ -89,13 +90,13 @@ returns-clause-closes g c = λ s held want.
     let C : Core → Type 0 = λ x. IsConn x e.0 in
     let conn = subst C (sym (ap (λ h. h.conn) c.retire.ensures.rest)) e.2 in
     let S : List PortSeat → Type 0 = λ xs. (seat : PortSeat) → IsSeatOf xs c.args.tunnel 0 seat → MatchOption (get table seat.key)
-    (g.P.Ports.faults c.retire.new.table.ports ≡ g.P.Ports.faults c.args.table.now.ports)
-    (λ port. g.P.Ports.faults c.retire.new.table.ports ≡ risen_by (g.P.P.Port.counts port).faults (g.P.Ports.faults c.args.table.now.ports)) in
+    (binder g.P.Ports.holds g.P.Ports.faults c.retire.new.table.ports ≡ binder g.P.Ports.holds g.P.Ports.faults c.args.table.now.ports)
+    (λ port. binder g.P.Ports.holds g.P.Ports.faults c.retire.new.table.ports ≡ handed_back (g.P.P.Port.counts port).faults (binder g.P.Ports.holds g.P.Ports.faults c.args.table.now.ports)) in
     let handed = subst S items (λ seat is. (c.retire.ensures.seat 0 seat is).2) in (
       λ boxes orders. closed_is most c.retire.new.table.table old.conn new actor seen seen_after boxes orders s c.args.tunnel c.in_ok-heard.heard.note e.0 held.conn mine want number seats bound closes conn,
       λ seat port_is are at. at_some (get table seat.key) port_is
-          (g.P.Ports.faults c.retire.new.table.ports ≡ g.P.Ports.faults c.args.table.now.ports)
-          (λ port. g.P.Ports.faults c.retire.new.table.ports ≡ risen_by (g.P.P.Port.counts port).faults (g.P.Ports.faults c.args.table.now.ports)) at
+          (binder g.P.Ports.holds g.P.Ports.faults c.retire.new.table.ports ≡ binder g.P.Ports.holds g.P.Ports.faults c.args.table.now.ports)
+          (λ port. binder g.P.Ports.holds g.P.Ports.faults c.retire.new.table.ports ≡ handed_back (g.P.P.Port.counts port).faults (binder g.P.Ports.holds g.P.Ports.faults c.args.table.now.ports)) at
           (handed seat (only_seat_of most table old.ports.items s.ports alone.0.id c.args.tunnel seat port alone.2 are)),
     )
 

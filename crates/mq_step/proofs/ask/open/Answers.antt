@@ -1,4 +1,5 @@
 use Rattle.std.proofs.Common.{◌∙◌, ℕ, List, Option, Err, sym, ap, subst}
+use Rattle.mq_machine.specs.Acting.{Binder}
 use Rattle.mq_conn.specs.declared.conn.Conn.{Conn as Core}
 use Rattle.mq_conn.specs.Conns.{IsConn}
 use Rattle.mq_held.specs.declared.held.PortSeat.{PortSeat}
@@ -26,7 +27,7 @@ returns-in-Ok-clause-gives g c = λ o n so sn s held want boxes orders.
     let C : Core → Type 0 = λ x. IsConn x e.0 in
     let O : List PortSeat → Type 0 = λ xs. Seats c.in-Ok.heard.opened xs c.ask.new.self.bound new.ports.items in
     let B : Option ℕ → Type 0 = λ b. Seats c.in-Ok.heard.opened old.ports.items b new.ports.items in
-    let opens : Opens g.P.P.Port.most table after old new actor seen seen_after s c.args.call c.in-Ok.heard e.0 = record {
+    let opens : Opens g.P.P.Port.most table after old new o n actor seen seen_after s c.args.call c.in-Ok.heard e.0 = record {
       held = held;
       mine = same_actor old.conn s.conn k.0.conn held.conn k.1.conn ∙ k.2.actor_is;
       want = want;
@@ -36,6 +37,7 @@ returns-in-Ok-clause-gives g c = λ o n so sn s held want boxes orders.
       seats = subst B (ap (λ h. h.bound) c.ask.ensures.rest) (subst O (ap (λ h. h.ports.items) c.ask.ensures.rest) c.seat.ensures.seats);
       bound = ap (λ h. h.bound) rest;
       table_is = λ tunnel is. ap (λ t. t.table) (opened_table c.in-Ok.heard.opened tunnel _ _ is c.seat.ensures.table);
+      binds = ap (λ (b : Binder). b.holds) sn.binds_are ∙ c.seat.ensures.holds ∙ sym (ap (λ (b : Binder). b.holds) so.binds_are);
     } in
     let x = comes g.P.P.Port.most table after old new o n actor seen seen_after boxes orders s c.args.call c.in-Ok.heard e.0 c.requires.opens opens in
     (x.left_is, x.done_is, x.stands_for, x.told_is)
@@ -51,13 +53,14 @@ returns-in-Err-clause-gives g c = λ o n so sn s held want boxes orders.
     let e = c.in-Err.ensures.gives s.conn held.conn (plain_call old.conn s c.args.call held.conn want) want in
     let rest = c.retire_bound.ensures.rest in
     let C : Core → Type 0 = λ x. AskGives actor seen c.args.call seen_after (IsConn x) s.conn (Err c.in-Err.refused) in
-    let fails : Fails g.P.P.Port.most c.args.table.now.table old new actor s c.args.call = record {
+    let fails : Fails g.P.P.Port.most c.args.table.now.table old new o n actor s c.args.call = record {
       held = held;
       mine = same_actor old.conn s.conn k.0.conn held.conn k.1.conn ∙ k.2.actor_is;
       want = want;
       number = held.number ∙ sym (ap (λ h. h.number) rest ∙ ap (λ h. h.number) c.ask.ensures.rest);
       seats = ap (λ h. h.ports.items) rest ∙ ap (λ h. h.ports.items) c.ask.ensures.rest;
       bound = ap (λ h. h.bound) rest;
+      binds = ap (λ (b : Binder). b.holds) sn.binds_are ∙ c.retire_bound.ensures.holds ∙ sym (ap (λ (b : Binder). b.holds) so.binds_are);
     } in
     let x = sinks g.P.P.Port.most c.args.table.now.table c.retire_bound.new.table.table old new o n actor seen seen_after boxes orders s c.args.call c.in-Err.refused c.requires.opens fails
     (subst C (sym (ap (λ h. h.conn) rest)) e) in

@@ -1,6 +1,6 @@
 use Rattle.std.proofs.Common.{◌≡◌, ◌∙◌, ℕ, List, ◌∷◌, [], All, Option, Some, None, MatchOption, Ok, slice_get, slice_set, refl, sym, ap, subst}
 use Rattle.slab.specs.Slab.{get}
-use Rattle.mq_outside.specs.Counts.{risen, risen_by, PortCounts, no_port_counts}
+use Rattle.mq_outside.specs.Counts.{risen, PortCounts, no_port_counts}
 use Rattle.mq_outside.specs.Ports.{PortHolds}
 use Rattle.mq_talk.specs.declared.place.Parcel.{Parcel}
 use Rattle.mq_machine.specs.State as machine
@@ -10,6 +10,7 @@ use Rattle.mq_held.specs.declared.held.PortSeat.{PortSeat}
 use Rattle.mq_held.specs.declared.went.Went.{Went}
 use Rattle.mq_held.specs.Ports.{receive_calls, ReceiveGives}
 use Rattle.mq_held.specs.Seats.{counted}
+use Rattle.mq_machine.specs.Acting.{Binder, binder, handed_back}
 use Rattle.mq_step.specs.Holds.{IsHeld}
 use Rattle.mq_step.specs.Gives.{Gives, Waited, Turned, Starved, StandsAsTold, ReadsWait, receive_alone}
 use Rattle.mq_step.proofs.Others.{HasKey, key_at, keys_set, call_others}
@@ -23,7 +24,7 @@ use Rattle.mq_step.proofs.Few.{few_stay, few_counted}
 use Rattle.mq_step.proofs.receive.receive_at.Goals as goal
 
 pub returns-in-Waits-clause-gives : goal.returns-in-Waits-clause-gives
-returns-in-Waits-clause-gives g c = λ o n so sn s held few wait setup seat at.
+returns-in-Waits-clause-gives g c = λ o n so sn s held wait setup seat at.
     let old = c.args.held.now in
     let table = c.args.table.now.table in
     let mid = c.receive.new.self in
@@ -50,7 +51,7 @@ returns-in-Waits-clause-gives g c = λ o n so sn s held few wait setup seat at.
     let seen = g.O.Office.seen c.args.office.now in
     let P : PortSeat → Type 0 = λ y. Waited (receive_alone y.tunnel) o n seen seen s × IsHeld most after mid s in
     subst P (same_seat old.ports.items c.args.place mine seat here at) (
-      received_waits most holds past counts table after old mid o n s mine x b seen r.2.0 (sn.of_table.faults_are ∙ ap g.P.Ports.faults e.ports ∙ sym so.of_table.faults_are),
+      received_waits most holds past counts table after old mid o n s mine x b seen r.2.0 (sn.of_table.binds_are ∙ ap (binder g.P.Ports.holds g.P.Ports.faults) e.ports ∙ sym so.of_table.binds_are),
       waits_stand most holds past counts table after old mid o n s mine x b (ap (λ h. h.ports.items) rest) r.2.1,
     )
 
@@ -82,7 +83,7 @@ returns-in-Waits-clause-still g c = λ quiet s held wait.
     waits_stand most holds past counts table after old mid blind _ s mine x b (ap (λ h. h.ports.items) rest) r.2.1
 
 pub returns-in_err-receive-clause-gives : goal.returns-in_err-receive-clause-gives
-returns-in_err-receive-clause-gives g c = λ o n so sn s held few wait setup seat at.
+returns-in_err-receive-clause-gives g c = λ o n so sn s held wait setup seat at.
     let old = c.args.held.now in
     let table = c.args.table.now.table in
     let mid = c.receive.new.self in
@@ -110,7 +111,8 @@ returns-in_err-receive-clause-gives g c = λ o n so sn s held few wait setup sea
     let starves : (boxes : List (List Parcel)) (orders : machine.Orders) → (t : machine.Held) × Starved (receive_alone mine.tunnel) ReadsWait o n seen seen boxes orders s t × StandsAsTold n (IsHeld most after mid) t =
     λ boxes orders. (
       sunk_then o s,
-      received_starves most holds past counts table after old mid o n s mine x seen boxes orders r.2.1,
+      received_starves most holds past counts table after old mid o n s mine x seen boxes orders r.2.1
+          (ap (λ (b : Binder). b.holds) (sn.of_table.binds_are ∙ ap (binder g.P.Ports.holds g.P.Ports.faults) e.ports ∙ sym so.of_table.binds_are)),
       (
         starved_stands most holds past counts table after old mid o n s mine x b (ap (λ h. h.ports.items) rest) r.2.2,
         starved_told most holds past counts table after old mid o n s mine x b r.2.0,
@@ -120,7 +122,7 @@ returns-in_err-receive-clause-gives g c = λ o n so sn s held few wait setup sea
     (starved_gives setup mine.tunnel o n seen seen (IsHeld most after mid) s c.from_residual.result c.from_residual.ensures.0 starves)
 
 pub returns-in-Did-clause-gives : goal.returns-in-Did-clause-gives
-returns-in-Did-clause-gives g c = λ o n so sn s held few wait setup seat at boxes orders.
+returns-in-Did-clause-gives g c = λ o n so sn s held wait setup seat at boxes orders.
     let old = c.args.held.now in
     let table = c.args.table.now.table in
     let mid = c.receive.new.self in
@@ -159,9 +161,10 @@ returns-in-Did-clause-gives g c = λ o n so sn s held few wait setup seat at box
     let P : PortSeat → Type 0 = λ y. (t : machine.Held) × Turned setup (receive_alone y.tunnel) ReadsWait o n seen seen boxes orders s c.in-Did.note (Some t) × StandsAsTold n (IsHeld most after new) t in
     subst P (same_seat old.ports.items c.args.place mine seat here at) (
       received_left o s mine x.t datagram,
-      received_done most holds past counts table after old new o n s mine x b setup seen boxes orders datagram c.in-Did.note takes r.2.2,
+      received_done most holds past counts table after old new o n s mine x b setup seen boxes orders datagram c.in-Did.note takes r.2.2
+          (ap (λ (b : Binder). b.holds) (sn.of_table.binds_are ∙ ap (binder g.P.Ports.holds g.P.Ports.faults) e.ports ∙ sym so.of_table.binds_are)),
       (
-        received_stands most holds past counts table after old new o n s mine x b datagram few seats conn,
+        received_stands most holds past counts table after old new o n s mine x b datagram seats conn,
         received_told most holds past counts table after old new o n s mine x b datagram takes,
       ),
     )
@@ -251,7 +254,7 @@ returns-in-Failed-clause-others g c = λ key port at other.
     c.act.ensures.others key port r.0 (record { seats_are = r.1; bound_is = λ is. other.bound_is (sym bound ∙ is) })
 
 pub returns-in-Failed-clause-gives : goal.returns-in-Failed-clause-gives
-returns-in-Failed-clause-gives g c = λ o n so sn s held few wait setup seat at.
+returns-in-Failed-clause-gives g c = λ o n so sn s held wait setup seat at.
     let old = c.args.held.now in
     let table = c.args.table.now.table in
     let mid = c.receive.new.self in
@@ -275,21 +278,21 @@ returns-in-Failed-clause-gives g c = λ o n so sn s held few wait setup seat at.
     let new = c.act.new.held in
     let last = c.act.new.table.table in
     let done = c.act.ensures.rest in
-    let faults = g.P.Ports.faults in
+    let binds = binder g.P.Ports.holds g.P.Ports.faults in
     let b = behind_call most holds counts after old mid o mine x.is.port r.0 r.1 limit (ap (λ h. h.number) rest) (ap (λ h. h.bound) rest) in
     let closing = failing s x.t in
     let items : mid.ports.items ≡ old.ports.items = ap (λ h. h.ports.items) rest in
     let stand = failing_stands most holds past counts table after old mid o s mine x _ b items (r.2.1 wait) in
     let want = wants_close most holds past counts table after old mid o s mine x in
     let closes = c.act.ensures.closes closing stand mine.tunnel want in
-    let back : faults c.act.new.table.ports ≡ risen_by (counts r.0).faults (faults c.receive.new.table.ports) = closes.1 mine r.0 (items ∙ x.seats_are) r.1 in
+    let back : binds c.act.new.table.ports ≡ handed_back (counts r.0).faults (binds c.receive.new.table.ports) = closes.1 mine r.0 (items ∙ x.seats_are) r.1 in
     let rose : (counts r.0).faults ≡ risen (o.port_counts mine.tunnel).faults =
     ap (λ (k : PortCounts). k.faults) r.2.0.counts ∙ ap (λ (k : PortCounts). risen k.faults) (sym x.sees.1) in
-    let fits : n.bind_faults ≡ risen_by (risen (o.port_counts mine.tunnel).faults) o.bind_faults =
-    sn.of_table.faults_are
+    let fits : n.binds ≡ handed_back (risen (o.port_counts mine.tunnel).faults) o.binds =
+    sn.of_table.binds_are
     ∙ back
-    ∙ ap (λ (k : ℕ). risen_by k (faults c.receive.new.table.ports)) rose
-    ∙ ap (λ (k : ℕ). risen_by (risen (o.port_counts mine.tunnel).faults) k) (ap faults e.ports ∙ sym so.of_table.faults_are) in
+    ∙ ap (λ (k : ℕ). handed_back k (binds c.receive.new.table.ports)) rose
+    ∙ ap (λ (b : Binder). handed_back (risen (o.port_counts mine.tunnel).faults) b) (ap binds e.ports ∙ sym so.of_table.binds_are) in
     let number : new.number ≡ old.number = ap (λ h. h.number) done ∙ ap (λ h. h.number) rest in
     let link : new.link ≡ old.link = ap (λ h. h.link) done ∙ ap (λ h. h.link) rest in
     let stays = link_stays g.L.Link.holds g.L.Link.counts old new o n number link so.of_link sn.of_link in

@@ -2,6 +2,7 @@ use Rattle.std.proofs.Common.{rules, ◌≡◌, ◌≤◌, ◌∙◌, ℕ, Some,
 use Rattle.slab.specs.Slab.{get}
 use Rattle.mq_held.specs.declared.held.PortSeat.{PortSeat}
 use Rattle.mq_held.proofs.Seating.{at_place}
+use Rattle.mq_machine.specs.Acting.{binder, Binder}
 use Rattle.mq_step.proofs.Others.{at_within, call_others}
 use Rattle.mq_step.proofs.Sending.{the_one, only_seat, first_at, same_port, Sends, sent_left, sent_done, sent_stands, sent_told, sent_waits, waits_stands}
 use Rattle.mq_step.proofs.send.send.Goals as goal
@@ -48,7 +49,8 @@ returns-in-Some-send-clause-gives g c = λ o n so sn seen s held k payload want 
     } in
     let d = r.2 one.p one.is.limit in (
       sent_left o s c.args.tunnel payload d.1.holds d.0,
-      sent_done most g.P.P.Port.holds g.P.P.Port.counts table after old new o n s c.args.tunnel k payload seen boxes orders sends c.in-Some-send.note d.0 d.1,
+      sent_done most g.P.P.Port.holds g.P.P.Port.counts table after old new o n s c.args.tunnel k payload seen boxes orders sends c.in-Some-send.note d.0 d.1
+          (ap (λ (b : Binder). b.holds) (sn.binds_are ∙ ap (binder g.P.Ports.holds g.P.Ports.faults) c.in-Some-send.ensures.ports ∙ sym so.binds_are)),
       sent_stands most g.P.P.Port.holds g.P.P.Port.counts table after old new o n s c.args.tunnel k payload sends c.in-Some-send.note d.0 d.1 d.2,
       sent_told most g.P.P.Port.holds g.P.P.Port.counts table after old new o n s c.args.tunnel k payload sends c.in-Some-send.note d.0 d.1,
     )
@@ -94,8 +96,8 @@ returns-in-None-clause-gives g c = λ o n so sn seen s held k payload want.
       number = ap (λ h. h.number) rest;
       bound = ap (λ h. h.bound) rest;
     } in
-    let faults = sn.faults_are ∙ ap g.P.Ports.faults c.in-None.ensures.ports ∙ sym so.faults_are in (
-      sent_waits most g.P.P.Port.holds g.P.P.Port.counts table after old new o n s c.args.tunnel k payload seen sends r.2.0 faults,
+    let same = sn.binds_are ∙ ap (binder g.P.Ports.holds g.P.Ports.faults) c.in-None.ensures.ports ∙ sym so.binds_are in (
+      sent_waits most g.P.P.Port.holds g.P.P.Port.counts table after old new o n s c.args.tunnel k payload seen sends r.2.0 same,
       waits_stands most g.P.P.Port.holds g.P.P.Port.counts table after old new o n s c.args.tunnel k payload sends r.2.1,
     )
 

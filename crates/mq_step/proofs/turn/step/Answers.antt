@@ -2,6 +2,7 @@ use Rattle.std.proofs.Common.{rules, ◌≡◌, ◌≤◌, ◌∙◌, List, leng
 use Rattle.mq_wire.specs.declared.NoMemory.{NoMemory}
 use Rattle.mq_machine.specs.Turn.{tries_of}
 use Rattle.mq_held.specs.declared.held.PortSeat.{PortSeat}
+use Rattle.mq_machine.specs.Acting.{binder}
 use Rattle.mq_step.specs.declared.stepped.Stepped.{Stepped}
 use Rattle.mq_step.specs.declared.stepped.Stepped.TheVariants.{Quiet}
 use Rattle.mq_step.specs.Holds.{IsHeld}
@@ -23,12 +24,12 @@ try_frame-requires-clause-known g c =
     let few = at_most_one g.P.P.Port.most c.args.table.now.table old k.0 k.1 in
     let N : List PortSeat → Type 0 = λ xs. length xs ≤ 1 in
     let stays = c.in_ok-stepped.ensures.stays c.in-Quiet.is in
-    let o = sight_of g.P.P.Port.holds g.P.P.Port.counts (g.P.Ports.faults c.args.table.now.ports) c.args.table.now.table old.ports.items silent in
-    let m = sight_of g.P.P.Port.holds g.P.P.Port.counts (g.P.Ports.faults c.act.new.table.ports) c.act.new.table.table new.ports.items silent in
+    let o = sight_of g.P.P.Port.holds g.P.P.Port.counts (binder g.P.Ports.holds g.P.Ports.faults c.args.table.now.ports) c.args.table.now.table old.ports.items silent in
+    let m = sight_of g.P.P.Port.holds g.P.P.Port.counts (binder g.P.Ports.holds g.P.Ports.faults c.act.new.table.ports) c.act.new.table.table new.ports.items silent in
     let A : Stepped → Type 0 = λ r. ActGives o m (g.O.Office.seen c.args.office.now) (g.O.Office.seen c.act.new.office) (IsHeld g.P.P.Port.most c.act.new.table.table new) k.0 (Ok r) in
     let gives = subst A c.in-Quiet.is (c.in_ok-stepped.ensures.gives o m
-    (sight_sees g.P.P.Port.holds g.P.P.Port.counts (g.P.Ports.faults c.args.table.now.ports) c.args.table.now.table old.ports.items silent few)
-    (sight_sees g.P.P.Port.holds g.P.P.Port.counts (g.P.Ports.faults c.act.new.table.ports) c.act.new.table.table new.ports.items silent (subst N (sym stays) few)) k.0 k.1) in (
+    (sight_sees g.P.P.Port.holds g.P.P.Port.counts (binder g.P.Ports.holds g.P.Ports.faults c.args.table.now.ports) c.args.table.now.table old.ports.items silent few)
+    (sight_sees g.P.P.Port.holds g.P.P.Port.counts (binder g.P.Ports.holds g.P.Ports.faults c.act.new.table.ports) c.act.new.table.table new.ports.items silent (subst N (sym stays) few)) k.0 k.1) in (
       k.0,
       gives.1,
       known_then (g.O.Office.seen c.args.office.now) (g.O.Office.seen c.act.new.office) (g.O.Office.seen c.args.office.now).actor (g.O.Office.seen c.act.new.office).actor k.0 k.2 gives.0.seen_is c.act.ensures.actor,
@@ -36,7 +37,7 @@ try_frame-requires-clause-known g c =
     )
 
 pub returns-in-Quiet-clause-gives : goal.returns-in-Quiet-clause-gives
-returns-in-Quiet-clause-gives g c = λ o n so sn s held counted.
+returns-in-Quiet-clause-gives g c = λ o n so sn s held.
     let old = c.args.held.now in
     let new = c.act.new.held in
     let seen = g.O.Office.seen c.args.office.now in
@@ -45,14 +46,14 @@ returns-in-Quiet-clause-gives g c = λ o n so sn s held counted.
     let N : List PortSeat → Type 0 = λ xs. length xs ≤ 1 in
     let e = c.in_ok-stepped.ensures in
     let rest = e.rest in
-    let m = sight_of g.P.P.Port.holds g.P.P.Port.counts (g.P.Ports.faults c.act.new.table.ports) c.act.new.table.table new.ports.items silent in
-    let sm = sight_sees g.P.P.Port.holds g.P.P.Port.counts (g.P.Ports.faults c.act.new.table.ports) c.act.new.table.table new.ports.items silent (subst N (sym (e.stays c.in-Quiet.is)) few) in
+    let m = sight_of g.P.P.Port.holds g.P.P.Port.counts (binder g.P.Ports.holds g.P.Ports.faults c.act.new.table.ports) c.act.new.table.table new.ports.items silent in
+    let sm = sight_sees g.P.P.Port.holds g.P.P.Port.counts (binder g.P.Ports.holds g.P.Ports.faults c.act.new.table.ports) c.act.new.table.table new.ports.items silent (subst N (sym (e.stays c.in-Quiet.is)) few) in
     let A : Stepped → Type 0 = λ r. ActGives o m seen seen_mid (IsHeld g.P.P.Port.most c.act.new.table.table new) s (Ok r) in
     let gives = subst A c.in-Quiet.is (e.gives o m so.of_table sm s held) in
-    let sees = want_sight g.L.Link.holds g.L.Link.counts g.P.P.Port.most g.P.P.Port.holds g.P.P.Port.counts (g.P.Ports.faults c.args.table.now.ports) (g.P.Ports.faults c.act.new.table.ports) c.args.table.now.table c.act.new.table.table
+    let sees = want_sight g.L.Link.holds g.L.Link.counts g.P.P.Port.most g.P.P.Port.holds g.P.P.Port.counts (binder g.P.Ports.holds g.P.Ports.faults c.args.table.now.ports) (binder g.P.Ports.holds g.P.Ports.faults c.act.new.table.ports) c.args.table.now.table c.act.new.table.table
     old new o m seen seen_mid s so (ap (λ h. h.number) rest) (ap (λ h. h.link) rest) gives.1 gives.0 sm in
     quiet_gives g.P.P.Port.most c.args.table.now.table old c.args.setup.now o m n seen seen_mid (g.O.Office.seen c.try_frame.new.office) (IsHeld g.P.P.Port.most c.try_frame.new.table.table c.try_frame.new.held) s c.try_frame.result held gives.0
-    (c.try_frame.ensures.gives (mid o o.link_counts m.port_counts) n sees sn s gives.1 counted (want_waits o m s seen seen_mid gives.0))
+    (c.try_frame.ensures.gives (mid o o.link_counts m.port_counts) n sees sn s gives.1 (want_waits o m s seen seen_mid gives.0))
 
 pub returns-in-Quiet-clause-others : goal.returns-in-Quiet-clause-others
 returns-in-Quiet-clause-others g c =
@@ -70,18 +71,18 @@ returns-in-Quiet-clause-still g c =
     let seen_mid = g.O.Office.seen c.act.new.office in
     let table = c.args.table.now in
     let between = c.act.new.table in
-    let faults = g.P.Ports.faults table.ports in
-    let faults_mid = g.P.Ports.faults between.ports in
+    let binds = binder g.P.Ports.holds g.P.Ports.faults table.ports in
+    let binds_mid = binder g.P.Ports.holds g.P.Ports.faults between.ports in
     let e = c.in_ok-stepped.ensures in
     still_then most table.table between.table c.try_frame.new.table.table old new c.try_frame.new.held c.try_frame.result
     (λ s held.
-    let A : Stepped → Type 0 = λ r. Acts most holds counts faults faults_mid table.table between.table old new seen seen_mid s (Ok r) in
-    quiet_stands most holds counts faults faults_mid table.table between.table old new seen seen_mid s held (e.stays c.in-Quiet.is)
+    let A : Stepped → Type 0 = λ r. Acts most holds counts binds binds_mid table.table between.table old new seen seen_mid s (Ok r) in
+    quiet_stands most holds counts binds binds_mid table.table between.table old new seen seen_mid s held (e.stays c.in-Quiet.is)
     (subst A c.in-Quiet.is (λ o n so sn. e.gives o n so sn s held)))
     c.try_frame.ensures.still
 
 pub returns-in_err-stepped-clause-gives : goal.returns-in_err-stepped-clause-gives
-returns-in_err-stepped-clause-gives g c = λ o n so sn s held counted.
+returns-in_err-stepped-clause-gives g c = λ o n so sn s held.
     let old = c.args.held.now in
     let new = c.act.new.held in
     let rest = c.act.ensures.rest in
@@ -92,7 +93,7 @@ returns-in_err-stepped-clause-gives g c = λ o n so sn s held counted.
 
 pub returns-in_default : goal.returns-in_default
 returns-in_default g c = record {
-  gives = λ o n so sn s held counted.
+  gives = λ o n so sn s held.
       let old = c.args.held.now in
       let new = c.act.new.held in
       let rest = c.act.ensures.rest in

@@ -3,6 +3,7 @@ use Rattle.mq_talk.specs.declared.note.Note.{Note}
 use Rattle.mq_machine.specs.State as machine
 use Rattle.mq_conn.specs.Conns.{IsConn}
 use Rattle.mq_held.specs.Frames.{FrameGives}
+use Rattle.mq_machine.specs.Acting.{binder}
 use Rattle.mq_step.specs.Holds.{IsHeld}
 use Rattle.mq_step.specs.Wanted.{SendsWait}
 use Rattle.mq_step.specs.Gives.{from_frame}
@@ -14,37 +15,37 @@ use Rattle.mq_step.proofs.Few.{few_stay}
 use Rattle.mq_step.proofs.turn.try_frame.Goals as goal
 
 pub returns-in_err-note-clause-gives : goal.returns-in_err-note-clause-gives
-returns-in_err-note-clause-gives g c = λ o n so sn s held counted wait.
+returns-in_err-note-clause-gives g c = λ o n so sn s held wait.
     let old = c.args.held.now in
     let new = c.frame.new.self in
     let e = c.in_err-note.ensures in
-    let x : Moves g.L.Link.holds g.L.Link.past g.L.Link.counts g.P.P.Port.most g.P.P.Port.holds g.P.P.Port.counts (g.P.Ports.faults c.args.table.now.ports) c.args.table.now.table old new o n s =
+    let x : Moves g.L.Link.holds g.L.Link.past g.L.Link.counts g.P.P.Port.most g.P.P.Port.holds g.P.P.Port.counts (binder g.P.Ports.holds g.P.Ports.faults c.args.table.now.ports) c.args.table.now.table old new o n s =
     record { held = held; wait = wait; rest = link_rest old new e.rest; sees = so; sees_after = sn } in
     gives_err c.args.setup.now from_frame SendsWait o n (g.O.Office.seen c.args.office.now) (g.O.Office.seen c.args.office.now) (IsHeld g.P.P.Port.most c.args.table.now.table new) s c.from_residual.result c.from_residual.ensures.0
-    (λ refused. frame_starves g.L.Link.holds g.L.Link.past g.L.Link.counts g.P.P.Port.most g.P.P.Port.holds g.P.P.Port.counts (g.P.Ports.faults c.args.table.now.ports) c.args.table.now.table old new o n s x (ap (λ h. h.link) e.rest)
+    (λ refused. frame_starves g.L.Link.holds g.L.Link.past g.L.Link.counts g.P.P.Port.most g.P.P.Port.holds g.P.P.Port.counts (binder g.P.Ports.holds g.P.Ports.faults c.args.table.now.ports) c.args.table.now.table old new o n s x (ap (λ h. h.link) e.rest)
     c.args.setup.now (g.O.Office.seen c.args.office.now) refused (e.gives s.conn held.conn))
 
 pub returns-in-Some-clause-gives : goal.returns-in-Some-clause-gives
-returns-in-Some-clause-gives g c = λ o n so sn s held counted wait.
+returns-in-Some-clause-gives g c = λ o n so sn s held wait.
     let old = c.args.held.now in
     let new = c.frame.new.self in
     let e = c.in_ok-note.ensures in
-    let x : Moves g.L.Link.holds g.L.Link.past g.L.Link.counts g.P.P.Port.most g.P.P.Port.holds g.P.P.Port.counts (g.P.Ports.faults c.args.table.now.ports) c.args.table.now.table old new o n s =
+    let x : Moves g.L.Link.holds g.L.Link.past g.L.Link.counts g.P.P.Port.most g.P.P.Port.holds g.P.P.Port.counts (binder g.P.Ports.holds g.P.Ports.faults c.args.table.now.ports) c.args.table.now.table old new o n s =
     record { held = held; wait = wait; rest = link_rest old new e.rest; sees = so; sees_after = sn } in
     let F : Option Note → Type 0 = λ r. FrameGives (IsConn new.conn) s.conn (Ok r) in
-    framed_gives g.L.Link.holds g.L.Link.past g.L.Link.counts g.P.P.Port.most g.P.P.Port.holds g.P.P.Port.counts (g.P.Ports.faults c.args.table.now.ports) c.args.table.now.table old new o n s x (ap (λ h. h.link) e.rest)
+    framed_gives g.L.Link.holds g.L.Link.past g.L.Link.counts g.P.P.Port.most g.P.P.Port.holds g.P.P.Port.counts (binder g.P.Ports.holds g.P.Ports.faults c.args.table.now.ports) c.args.table.now.table old new o n s x (ap (λ h. h.link) e.rest)
     c.args.setup.now (g.O.Office.seen c.args.office.now) c.in-Some.note (subst F c.in-Some.is (e.gives s.conn held.conn))
 
 pub returns-in-None-clause-gives : goal.returns-in-None-clause-gives
-returns-in-None-clause-gives g c = λ o n so sn s held counted wait.
+returns-in-None-clause-gives g c = λ o n so sn s held wait.
     let old = c.args.held.now in
     let new = c.frame.new.self in
     let e = c.in_ok-note.ensures in
     let F : Option Note → Type 0 = λ r. FrameGives (IsConn new.conn) s.conn (Ok r) in
     let none = subst F c.in-None.is (e.gives s.conn held.conn) in
     frame_waits c.args.setup.now o n (g.O.Office.seen c.args.office.now) (g.O.Office.seen c.try_write.new.office) (IsHeld g.P.P.Port.most c.try_write.new.table.table c.try_write.new.held) s c.try_write.result none.0
-    (c.try_write.ensures.gives o n (same_sight g.L.Link.holds g.L.Link.counts g.P.P.Port.holds g.P.P.Port.counts (g.P.Ports.faults c.args.table.now.ports) c.args.table.now.table old new o so e.rest) sn s
-    (moved_held g.P.P.Port.most c.args.table.now.table old new s held wait (link_rest old new e.rest) none.1) counted wait)
+    (c.try_write.ensures.gives o n (same_sight g.L.Link.holds g.L.Link.counts g.P.P.Port.holds g.P.P.Port.counts (binder g.P.Ports.holds g.P.Ports.faults c.args.table.now.ports) c.args.table.now.table old new o so e.rest) sn s
+    (moved_held g.P.P.Port.most c.args.table.now.table old new s held wait (link_rest old new e.rest) none.1) wait)
 
 pub returns-in-None-clause-others : goal.returns-in-None-clause-others
 returns-in-None-clause-others g c =

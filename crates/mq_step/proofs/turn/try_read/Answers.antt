@@ -2,6 +2,7 @@ use Rattle.std.proofs.Common.{Ok, ap, subst}
 use Rattle.mq_conn.specs.Conns.{IsConn}
 use Rattle.mq_held.specs.declared.went.Went.{Went}
 use Rattle.mq_held.specs.Links.{calls_of, ReadGives}
+use Rattle.mq_machine.specs.Acting.{binder}
 use Rattle.mq_step.specs.Holds.{IsHeld}
 use Rattle.mq_step.specs.Gives.{WritesWait, from_read}
 use Rattle.mq_step.proofs.Others.{keeps_from}
@@ -15,14 +16,14 @@ use Rattle.mq_step.proofs.Few.{few_stay}
 use Rattle.mq_step.proofs.turn.try_read.Goals as goal
 
 pub returns-in_err-note-clause-gives : goal.returns-in_err-note-clause-gives
-returns-in_err-note-clause-gives g c = λ o n so sn s held counted wait.
+returns-in_err-note-clause-gives g c = λ o n so sn s held wait.
     let old = c.args.held.now in
     let new = c.read.new.self in
     let e = c.in_err-note.ensures in
-    let x : Moves g.L.Link.holds g.L.Link.past g.L.Link.counts g.P.P.Port.most g.P.P.Port.holds g.P.P.Port.counts (g.P.Ports.faults c.args.table.now.ports) c.args.table.now.table old new o n s =
+    let x : Moves g.L.Link.holds g.L.Link.past g.L.Link.counts g.P.P.Port.most g.P.P.Port.holds g.P.P.Port.counts (binder g.P.Ports.holds g.P.Ports.faults c.args.table.now.ports) c.args.table.now.table old new o n s =
     record { held = held; wait = wait; rest = e.rest; sees = so; sees_after = sn } in
     gives_err c.args.setup.now from_read WritesWait o n (g.O.Office.seen c.args.office.now) (g.O.Office.seen c.args.office.now) (IsHeld g.P.P.Port.most c.args.table.now.table new) s c.from_residual.result c.from_residual.ensures.0
-    (λ refused. read_starves g.L.Link.holds g.L.Link.past g.L.Link.counts g.P.P.Port.most g.P.P.Port.holds g.P.P.Port.counts (g.P.Ports.faults c.args.table.now.ports) c.args.table.now.table old new o n s x c.args.setup.now (g.O.Office.seen c.args.office.now) refused (e.gives s.conn held.conn held.number c.requires.udp))
+    (λ refused. read_starves g.L.Link.holds g.L.Link.past g.L.Link.counts g.P.P.Port.most g.P.P.Port.holds g.P.P.Port.counts (binder g.P.Ports.holds g.P.Ports.faults c.args.table.now.ports) c.args.table.now.table old new o n s x c.args.setup.now (g.O.Office.seen c.args.office.now) refused (e.gives s.conn held.conn held.number c.requires.udp))
 
 pub act-requires : goal.act-requires
 act-requires g c =
@@ -41,30 +42,30 @@ receive-requires-clause-known g c =
     (k.0, moved_held g.P.P.Port.most c.args.table.now.table c.args.held.now c.read.new.self k.0 k.1 k.3 c.in_ok-note.ensures.rest gives.1, k.2, k.3)
 
 pub returns-in-Did-clause-gives : goal.returns-in-Did-clause-gives
-returns-in-Did-clause-gives g c = λ o n so sn s held counted wait.
+returns-in-Did-clause-gives g c = λ o n so sn s held wait.
     let old = c.args.held.now in
     let new = c.read.new.self in
     let e = c.in_ok-note.ensures in
     let setup = c.args.setup.now in
-    let x : Moves g.L.Link.holds g.L.Link.past g.L.Link.counts g.P.P.Port.most g.P.P.Port.holds g.P.P.Port.counts (g.P.Ports.faults c.args.table.now.ports) c.args.table.now.table old new o n s =
+    let x : Moves g.L.Link.holds g.L.Link.past g.L.Link.counts g.P.P.Port.most g.P.P.Port.holds g.P.P.Port.counts (binder g.P.Ports.holds g.P.Ports.faults c.args.table.now.ports) c.args.table.now.table old new o n s =
     record { held = held; wait = wait; rest = e.rest; sees = so; sees_after = sn } in
     let W : Went → Type 0 = λ w. ReadGives setup (calls_of g.L.Link.holds g.L.Link.past g.L.Link.counts old.link new.link) (IsConn new.conn) s.conn (Ok w) in
-    read_gives g.L.Link.holds g.L.Link.past g.L.Link.counts g.P.P.Port.most g.P.P.Port.holds g.P.P.Port.counts (g.P.Ports.faults c.args.table.now.ports) c.args.table.now.table old new o n s x setup (g.O.Office.seen c.args.office.now) c.in-Did.note (subst W c.in-Did.is (e.gives s.conn held.conn held.number c.requires.udp))
+    read_gives g.L.Link.holds g.L.Link.past g.L.Link.counts g.P.P.Port.most g.P.P.Port.holds g.P.P.Port.counts (binder g.P.Ports.holds g.P.Ports.faults c.args.table.now.ports) c.args.table.now.table old new o n s x setup (g.O.Office.seen c.args.office.now) c.in-Did.note (subst W c.in-Did.is (e.gives s.conn held.conn held.number c.requires.udp))
 
 pub returns-in-Failed-clause-gives : goal.returns-in-Failed-clause-gives
-returns-in-Failed-clause-gives g c = λ o n so sn s held counted wait.
+returns-in-Failed-clause-gives g c = λ o n so sn s held wait.
     let old = c.args.held.now in
     let new = c.read.new.self in
     let e = c.in_ok-note.ensures in
     let setup = c.args.setup.now in
     let W : Went → Type 0 = λ w. ReadGives setup (calls_of g.L.Link.holds g.L.Link.past g.L.Link.counts old.link new.link) (IsConn new.conn) s.conn (Ok w) in
     let gives = subst W c.in-Failed.is (e.gives s.conn held.conn held.number c.requires.udp) in
-    read_fails_gives g.L.Link.holds g.L.Link.past g.L.Link.counts g.P.P.Port.most g.P.P.Port.holds g.P.P.Port.counts (g.P.Ports.faults c.args.table.now.ports) (g.P.Ports.faults c.act.new.table.ports) c.args.table.now.table c.act.new.table.table
+    read_fails_gives g.L.Link.holds g.L.Link.past g.L.Link.counts g.P.P.Port.most g.P.P.Port.holds g.P.P.Port.counts (binder g.P.Ports.holds g.P.Ports.faults c.args.table.now.ports) (binder g.P.Ports.holds g.P.Ports.faults c.act.new.table.ports) c.args.table.now.table c.act.new.table.table
     old new c.act.new.held o n s setup (g.O.Office.seen c.args.office.now) (g.O.Office.seen c.act.new.office) c.act.result held wait so sn e.rest c.act.ensures.rest gives
-    (λ l is. c.act.ensures.gives o n (moved_table g.P.P.Port.holds g.P.P.Port.counts (g.P.Ports.faults c.args.table.now.ports) c.args.table.now.table old new o so.of_table e.rest) sn.of_table (fallen s l) is)
+    (λ l is. c.act.ensures.gives o n (moved_table g.P.P.Port.holds g.P.P.Port.counts (binder g.P.Ports.holds g.P.Ports.faults c.args.table.now.ports) c.args.table.now.table old new o so.of_table e.rest) sn.of_table (fallen s l) is)
 
 pub returns-in-Waits-clause-gives : goal.returns-in-Waits-clause-gives
-returns-in-Waits-clause-gives g c = λ o n so sn s held counted wait.
+returns-in-Waits-clause-gives g c = λ o n so sn s held wait.
     let old = c.args.held.now in
     let new = c.read.new.self in
     let e = c.in_ok-note.ensures in
@@ -75,8 +76,8 @@ returns-in-Waits-clause-gives g c = λ o n so sn s held counted wait.
     let m = mid o (λ i. g.L.Link.counts new.link) o.port_counts in
     read_waits_gives g.L.Link.holds g.L.Link.past g.L.Link.counts o n old new s setup (g.O.Office.seen c.args.office.now) (g.O.Office.seen c.receive.new.office)
     (IsHeld g.P.P.Port.most c.receive.new.table.table c.receive.new.held) c.receive.result held.number so.of_link gives.0
-    (c.receive.ensures.gives m n (moved_sight g.L.Link.holds g.L.Link.past g.L.Link.counts g.P.P.Port.holds g.P.P.Port.counts (g.P.Ports.faults c.args.table.now.ports) c.args.table.now.table old new o so e.rest (read_holds calls s.conn gives.0)) sn s
-    (moved_held g.P.P.Port.most c.args.table.now.table old new s held wait e.rest gives.1) counted wait setup)
+    (c.receive.ensures.gives m n (moved_sight g.L.Link.holds g.L.Link.past g.L.Link.counts g.P.P.Port.holds g.P.P.Port.counts (binder g.P.Ports.holds g.P.Ports.faults c.args.table.now.ports) c.args.table.now.table old new o so e.rest (read_holds calls s.conn gives.0)) sn s
+    (moved_held g.P.P.Port.most c.args.table.now.table old new s held wait e.rest gives.1) wait setup)
 
 pub returns-in-Failed-clause-others : goal.returns-in-Failed-clause-others
 returns-in-Failed-clause-others g c =
@@ -105,7 +106,7 @@ returns-in-Failed-clause-still g c =
     let W : Went → Type 0 = λ w. ReadGives setup (calls_of g.L.Link.holds g.L.Link.past g.L.Link.counts old.link new.link) (IsConn new.conn) s.conn (Ok w) in
     let gives = subst W c.in-Failed.is (e.gives s.conn k.1.conn k.1.number c.requires.udp) in
     let fell = fallen_held most table.table old new s s.link k.1 k.3 e.rest gives.2 in
-    fallen_still most g.P.P.Port.holds g.P.P.Port.counts (g.P.Ports.faults table.ports) (g.P.Ports.faults after.ports) table.table after.table new fin
+    fallen_still most g.P.P.Port.holds g.P.P.Port.counts (binder g.P.Ports.holds g.P.Ports.faults table.ports) (binder g.P.Ports.holds g.P.Ports.faults after.ports) table.table after.table new fin
     (g.O.Office.seen c.args.office.now) (g.O.Office.seen c.act.new.office) s c.act.result (Still most table.table after.table old fin) fell c.act.ensures.stays
     (λ o n so sn. c.act.ensures.gives o n so sn (fallen s s.link) fell)
 

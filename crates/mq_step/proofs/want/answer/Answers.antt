@@ -1,15 +1,16 @@
-use Rattle.std.proofs.Common.{◌≡◌, ◌∙◌, refl, sym, ap, subst}
+use Rattle.std.proofs.Common.{◌≡◌, ◌∙◌, false, refl, sym, ap, subst}
 use Rattle.mq_talk.specs.declared.goal.Goal.TheVariants as goals
 use Rattle.mq_talk.specs.declared.book.Call.TheVariants.{Close}
-use Rattle.mq_machine.specs.Want.{Bind, Say, Ask, want_of}
+use Rattle.mq_machine.specs.Acting.{Binder, binder}
+use Rattle.mq_machine.specs.Want.{Bind, Say, Said, Ask, want_of}
 use Rattle.mq_conn.specs.declared.want.Want.{Want}
 use Rattle.mq_conn.specs.Wants.{IsWant}
 use Rattle.mq_step.specs.Holds.{IsHeld}
 use Rattle.mq_step.proofs.Filling.{none_changed}
-use Rattle.mq_step.proofs.Alone.{said_alive, bind_alive}
+use Rattle.mq_step.proofs.Alone.{said_alive}
 use Rattle.mq_step.proofs.Saying.{say_some}
 use Rattle.mq_step.proofs.Standing.{bound_none}
-use Rattle.mq_step.proofs.Binding.{Stays, sinks_alone, says, quiet, ends, err_gives, bind_comes}
+use Rattle.mq_step.proofs.Binding.{Stays, held_back, sinks_alone, bind_sinks, says, quiet, ends, err_gives, bind_comes}
 use Rattle.mq_step.proofs.Passing.{at_most_one}
 use Rattle.mq_step.proofs.Few.{few_stay}
 use Rattle.mq_step.proofs.want.answer.Goals as goal
@@ -20,26 +21,26 @@ returns-in-Nothing-clause-gives g c = λ o n so sn s held want.
     let table = c.args.table.now.table in
     let W : Want → Type 0 = λ w. IsWant w (want_of s.conn) in
     let wanted = subst W c.in-Nothing.is want in
-    let stays : Stays g.P.P.Port.most g.P.P.Port.holds g.P.P.Port.counts (g.P.Ports.faults c.args.table.now.ports) (g.P.Ports.faults c.args.table.now.ports) table table old old o n s =
+    let stays : Stays g.P.P.Port.most g.P.P.Port.holds g.P.P.Port.counts (binder g.P.Ports.holds g.P.Ports.faults c.args.table.now.ports) (binder g.P.Ports.holds g.P.Ports.faults c.args.table.now.ports) table table old old o n s =
     record { held = held; keeps = none_changed table; seats = refl; number = refl; sees = so; sees_after = sn } in
-    (quiet g.P.P.Port.most g.P.P.Port.holds g.P.P.Port.counts (g.P.Ports.faults c.args.table.now.ports) (g.P.Ports.faults c.args.table.now.ports) table table old old o n s stays (g.O.Office.seen c.args.office.now) wanted refl, held)
+    (quiet g.P.P.Port.most g.P.P.Port.holds g.P.P.Port.counts (binder g.P.Ports.holds g.P.Ports.faults c.args.table.now.ports) (binder g.P.Ports.holds g.P.Ports.faults c.args.table.now.ports) table table old old o n s stays (g.O.Office.seen c.args.office.now) wanted refl, held)
 
 pub returns-in_err-note-in-Say-clause-gives : goal.returns-in_err-note-in-Say-clause-gives
 returns-in_err-note-in-Say-clause-gives g c = λ o n so sn s held want.
     let old = c.args.held.now in
     let new = record old { conn = c.say.new.self } in
     let table = c.args.table.now.table in
-    let faults = g.P.Ports.faults c.args.table.now.ports in
+    let binds = binder g.P.Ports.holds g.P.Ports.faults c.args.table.now.ports in
     let seen = g.O.Office.seen c.args.office.now in
     let W : Want → Type 0 = λ w. IsWant w (want_of s.conn) in
     let wanted = subst W c.in-Say.is want in
-    let stays : Stays g.P.P.Port.most g.P.P.Port.holds g.P.P.Port.counts faults faults table table old new o n s =
+    let stays : Stays g.P.P.Port.most g.P.P.Port.holds g.P.P.Port.counts binds binds table table old new o n s =
     record { held = held; keeps = none_changed table; seats = refl; number = refl; sees = so; sees_after = sn } in
     let bound = bound_none g.P.P.Port.most table old.ports.items (want_of s.conn) Say old.bound held.bound wanted in
     err_gives o n seen seen (IsHeld g.P.P.Port.most table new) s c.from_residual.result c.from_residual.ensures.0
     (λ boxes orders.
-    let x = sinks_alone g.P.P.Port.most g.P.P.Port.holds g.P.P.Port.counts faults faults table table old new o n s stays seen boxes orders Say wanted (λ ports. refl) (said_alive old.conn s.conn held.conn wanted) bound
-    (c.in_err-note-in-Say.ensures.answers s.conn held.conn) in
+    let x = sinks_alone g.P.P.Port.most g.P.P.Port.holds g.P.P.Port.counts binds binds table table old new o n s stays seen boxes orders Say Said false wanted (λ ports. refl) (said_alive old.conn s.conn held.conn wanted) bound
+    (c.in_err-note-in-Say.ensures.answers s.conn held.conn) (refl, refl, refl) (held_back g.P.P.Port.most g.P.P.Port.holds g.P.P.Port.counts binds binds table table old new o n s stays refl) in
     (x.left_is, x.starves, x.stands_for, x.told_is))
 
 pub returns-in_ok-note-in-Say-clause-gives : goal.returns-in_ok-note-in-Say-clause-gives
@@ -47,13 +48,13 @@ returns-in_ok-note-in-Say-clause-gives g c = λ o n so sn s held want boxes orde
     let old = c.args.held.now in
     let new = record old { conn = c.say.new.self } in
     let table = c.args.table.now.table in
-    let faults = g.P.Ports.faults c.args.table.now.ports in
+    let binds = binder g.P.Ports.holds g.P.Ports.faults c.args.table.now.ports in
     let W : Want → Type 0 = λ w. IsWant w (want_of s.conn) in
     let wanted = subst W c.in-Say.is want in
-    let stays : Stays g.P.P.Port.most g.P.P.Port.holds g.P.P.Port.counts faults faults table table old new o n s =
+    let stays : Stays g.P.P.Port.most g.P.P.Port.holds g.P.P.Port.counts binds binds table table old new o n s =
     record { held = held; keeps = none_changed table; seats = refl; number = refl; sees = so; sees_after = sn } in
     let d = c.in_ok-note-in-Say.ensures.answers s.conn held.conn (say_some s.conn wanted) in
-    let x = says g.P.P.Port.most g.P.P.Port.holds g.P.P.Port.counts faults faults table table old new o n s stays (g.O.Office.seen c.args.office.now) boxes orders c.in_ok-note-in-Say.note d.0 wanted refl d.2 d.1 in
+    let x = says g.P.P.Port.most g.P.P.Port.holds g.P.P.Port.counts binds binds table table old new o n s stays (g.O.Office.seen c.args.office.now) boxes orders c.in_ok-note-in-Say.note d.0 wanted refl refl d.2 d.1 in
     (x.left_is, x.done_is, x.stands_for, x.told_is)
 
 pub returns-in_err-note-in-Bind-clause-gives : goal.returns-in_err-note-in-Bind-clause-gives
@@ -62,20 +63,20 @@ returns-in_err-note-in-Bind-clause-gives g c = λ o n so sn s held want.
     let new = c.bind.new.held in
     let table = c.args.table.now.table in
     let after = c.bind.new.table.table in
-    let faults = g.P.Ports.faults c.args.table.now.ports in
-    let faults_after = g.P.Ports.faults c.bind.new.table.ports in
+    let binds = binder g.P.Ports.holds g.P.Ports.faults c.args.table.now.ports in
+    let binds_after = binder g.P.Ports.holds g.P.Ports.faults c.bind.new.table.ports in
     let seen = g.O.Office.seen c.args.office.now in
     let goal_is = goals.Udp c.in-Bind.addr c.in-Bind.port in
     let W : Want → Type 0 = λ w. IsWant w (want_of s.conn) in
     let wanted = subst W c.in-Bind.is want in
     let none = bound_none g.P.P.Port.most table old.ports.items (want_of s.conn) (Bind 0 goal_is) old.bound held.bound wanted in
     let e = c.in_err-note-in-Bind.ensures in
-    let stays : Stays g.P.P.Port.most g.P.P.Port.holds g.P.P.Port.counts faults faults_after table after old new o n s =
+    let stays : Stays g.P.P.Port.most g.P.P.Port.holds g.P.P.Port.counts binds binds_after table after old new o n s =
     record { held = held; keeps = e.keeps none; seats = e.seats; number = ap (λ h. h.number) e.rest; sees = so; sees_after = sn } in
     err_gives o n seen seen (IsHeld g.P.P.Port.most after new) s c.from_residual-in_err-note-in-Bind.result c.from_residual-in_err-note-in-Bind.ensures.0
     (λ boxes orders.
-    let x = sinks_alone g.P.P.Port.most g.P.P.Port.holds g.P.P.Port.counts faults faults_after table after old new o n s stays seen boxes orders (Bind 0 goal_is) wanted (λ ports. refl) (bind_alive old.conn s.conn 0 goal_is held.conn wanted).0 e.fails
-    (e.starves s.conn held.conn 0 goal_is wanted) in
+    let x = bind_sinks g.P.P.Port.most g.P.P.Port.holds g.P.P.Port.counts binds binds_after table after old new o n s stays seen boxes orders 0 goal_is wanted e.fails
+    (e.starves s.conn held.conn 0 goal_is wanted) (e.refused none) in
     (x.left_is, x.starves, x.stands_for, x.told_is))
 
 pub returns-in_ok-note-in-Bind-clause-gives : goal.returns-in_ok-note-in-Bind-clause-gives
@@ -84,17 +85,17 @@ returns-in_ok-note-in-Bind-clause-gives g c = λ o n so sn s held want boxes ord
     let new = c.bind.new.held in
     let table = c.args.table.now.table in
     let after = c.bind.new.table.table in
-    let faults = g.P.Ports.faults c.args.table.now.ports in
-    let faults_after = g.P.Ports.faults c.bind.new.table.ports in
+    let binds = binder g.P.Ports.holds g.P.Ports.faults c.args.table.now.ports in
+    let binds_after = binder g.P.Ports.holds g.P.Ports.faults c.bind.new.table.ports in
     let seen = g.O.Office.seen c.args.office.now in
     let goal_is = goals.Udp c.in-Bind.addr c.in-Bind.port in
     let W : Want → Type 0 = λ w. IsWant w (want_of s.conn) in
     let wanted = subst W c.in-Bind.is want in
     let none = bound_none g.P.P.Port.most table old.ports.items (want_of s.conn) (Bind 0 goal_is) old.bound held.bound wanted in
     let e = c.in_ok-note-in-Bind.ensures in
-    let stays : Stays g.P.P.Port.most g.P.P.Port.holds g.P.P.Port.counts faults faults_after table after old new o n s =
+    let stays : Stays g.P.P.Port.most g.P.P.Port.holds g.P.P.Port.counts binds binds_after table after old new o n s =
     record { held = held; keeps = e.keeps none; seats = e.seats; number = ap (λ h. h.number) e.rest; sees = so; sees_after = sn } in
-    let x = bind_comes g.P.P.Port.most g.P.P.Port.holds g.P.P.Port.counts faults faults_after table after old new o n s stays seen boxes orders c.in_ok-note-in-Bind.note 0 c.in-Bind.port c.in-Bind.addr wanted e.room
+    let x = bind_comes g.P.P.Port.most g.P.P.Port.holds g.P.P.Port.counts binds binds_after table after old new o n s stays seen boxes orders c.in_ok-note-in-Bind.note 0 c.in-Bind.port c.in-Bind.addr wanted e.room
     (e.gives s.conn held.conn 0 goal_is wanted) in
     (x.left_is, x.done_is, x.stands_for, x.told_is)
 
@@ -113,9 +114,10 @@ pub returns-in-Ended-clause-gives : goal.returns-in-Ended-clause-gives
 returns-in-Ended-clause-gives g c = λ o n so sn s held want boxes orders.
     let old = c.args.held.now in
     let table = c.args.table.now.table in
-    let faults = g.P.Ports.faults c.args.table.now.ports in
+    let binds = binder g.P.Ports.holds g.P.Ports.faults c.args.table.now.ports in
     let W : Want → Type 0 = λ w. IsWant w (want_of s.conn) in
-    ends g.P.P.Port.most g.P.P.Port.holds g.P.P.Port.counts faults faults table table old old o n s (g.O.Office.seen c.args.office.now) boxes orders c.in-Ended.why old.number (subst W c.in-Ended.is want) held.number
+    ends g.P.P.Port.most g.P.P.Port.holds g.P.P.Port.counts binds binds table table old old o n s (g.O.Office.seen c.args.office.now) boxes orders c.in-Ended.why old.number (subst W c.in-Ended.is want) held.number
+    (ap (λ (b : Binder). b.holds) (sn.binds_are ∙ sym so.binds_are))
 
 pub returns-in-Ask-clause-closes : goal.returns-in-Ask-clause-closes
 returns-in-Ask-clause-closes g c = λ s held want tunnel closes.

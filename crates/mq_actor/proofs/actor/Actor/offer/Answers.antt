@@ -1,6 +1,6 @@
 use Rattle.std.proofs.Common.{◌≡◌, ◌++◌, ◌∷◌, [], OnOk, Result, Ok, Err}
 use Rattle.mq_machine.specs.State as machine
-use Rattle.mq_actor.specs.Around.{with_offer}
+use Rattle.mq_machine.specs.State.{with_offer}
 use Rattle.mq_actor.specs.Holds.{IsWorker}
 use Rattle.mq_actor.proofs.Offering.{offered_stands}
 use Rattle.mq_actor.proofs.actor.Actor.offer.Goals as goal

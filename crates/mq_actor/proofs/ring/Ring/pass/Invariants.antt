@@ -1,4 +1,5 @@
 use Rattle.std.proofs.Common.{◌≡◌, ◌<◌}
+use Rattle.mq_machine.specs.Acting.{binder}
 use Rattle.mq_ports.specs.Tables.{IsBalanced}
 use Rattle.mq_step.specs.Rooms.{HasRooms}
 use Rattle.mq_actor.specs.Holds.{HaveOwnPorts}
@@ -10,8 +11,8 @@ abbrev pub invariant-loop-place : goal.invariant-loop-place
 invariant-loop-place g l = record {
   passed : Passed
       (record { most = g.P.P.Port.most; link = g.L.Link.holds; link_counts = g.L.Link.counts; port = g.P.P.Port.holds; port_counts = g.P.P.Port.counts })
-      (record { conns = l.fn.self.conns.items; table = l.fn.table.table; faults = g.P.Ports.faults l.fn.table.ports; seen = g.O.Office.seen l.fn.office })
-      (record { conns = l.self.conns.items; table = l.table.table; faults = g.P.Ports.faults l.table.ports; seen = g.O.Office.seen l.office })
+      (record { conns = l.fn.self.conns.items; table = l.fn.table.table; binds = binder g.P.Ports.holds g.P.Ports.faults l.fn.table.ports; seen = g.O.Office.seen l.fn.office })
+      (record { conns = l.self.conns.items; table = l.table.table; binds = binder g.P.Ports.holds g.P.Ports.faults l.table.ports; seen = g.O.Office.seen l.office })
       (λ i number. (i < l.place) × InPart l.upper l.fn.self.next_seat number);
   rest : l.self ≡ record l.fn.self { conns = l.self.conns; rooms = l.self.rooms };
   ports : HaveOwnPorts l.self.conns.items;

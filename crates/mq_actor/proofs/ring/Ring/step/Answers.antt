@@ -1,13 +1,14 @@
 use Rattle.std.proofs.Common.{◌∙◌, ℕ, true, false, Option, Some, None, Ok, Err, refl, sym, subst}
 use Rattle.mq_talk.specs.declared.note.Note.{Note}
+use Rattle.mq_machine.specs.Acting.{binder}
 use Rattle.mq_actor.specs.declared.ring.Ring.{Ring}
 use Rattle.mq_actor.specs.Holds.{HaveOwnPorts}
 use Rattle.mq_actor.specs.Passing.{PassGives, AreKnown}
 use Rattle.mq_actor.specs.Seats.{AcceptGives, InboxGives}
 use Rattle.mq_actor.specs.Seen.{Words, Moment}
 use Rattle.mq_actor.proofs.Returning.{begun, among, err_promise, known_conns, known_later, accept_refused, accept_did, pop_did, upper_stopped, accept_refused_later, accept_did_later, pop_did_later, lower_gives}
-use Rattle.mq_actor.proofs.Returning.{accept_refused_stands, accept_did_stands, pop_did_stands, upper_stopped_stands, accept_refused_later_stands}
-use Rattle.mq_actor.proofs.Returning.{accept_did_later_stands, pop_did_later_stands, lower_stands}
+use Rattle.mq_actor.proofs.Returning.{accept_refused_sights, accept_did_sights, pop_did_sights, upper_stopped_sights, accept_refused_later_sights}
+use Rattle.mq_actor.proofs.Returning.{accept_did_later_sights, pop_did_later_sights, lower_sights}
 use Rattle.mq_actor.specs.Ended.{numbers_in}
 use Rattle.mq_actor.proofs.Leaving.{AllLeft, idle_left, accept_left, refused_left, pop_left, passed_left, did_left, starved_left, pass_left}
 use Rattle.mq_actor.proofs.ring.Ring.step.Goals as goal
@@ -17,7 +18,7 @@ returns-in_err-note-clause-gives g c =
     let self = c.args.self.now in
     let words : Words g.row.L.Denot g.row.P-P.Denot = record { most = g.P.P.Port.most; link = g.L.Link.holds; link_counts = g.L.Link.counts; port = g.P.P.Port.holds; port_counts = g.P.P.Port.counts } in
     let old : Moment g.row.L.Denot g.row.P-P.Denot =
-    record { conns = self.conns.items; table = c.args.table.now.table; faults = g.P.Ports.faults c.args.table.now.ports; seen = g.O.Office.seen c.args.office.now } in
+    record { conns = self.conns.items; table = c.args.table.now.table; binds = binder g.P.Ports.holds g.P.Ports.faults c.args.table.now.ports; seen = g.O.Office.seen c.args.office.now } in
     let boxes = g.M.Mail.boxes c.args.mail.now in
     let count = g.M.Mail.count c.args.mail.now in
     err_promise words self old refl boxes count c.requires.office c.requires.inboxes c.accept.new.self old boxes c.in_err-note.field-0.0 c.from_residual.result c.from_residual.ensures.0
@@ -28,7 +29,7 @@ returns-in-Some-clause-gives g c =
     let self = c.args.self.now in
     let words : Words g.row.L.Denot g.row.P-P.Denot = record { most = g.P.P.Port.most; link = g.L.Link.holds; link_counts = g.L.Link.counts; port = g.P.P.Port.holds; port_counts = g.P.P.Port.counts } in
     let old : Moment g.row.L.Denot g.row.P-P.Denot =
-    record { conns = self.conns.items; table = c.args.table.now.table; faults = g.P.Ports.faults c.args.table.now.ports; seen = g.O.Office.seen c.args.office.now } in
+    record { conns = self.conns.items; table = c.args.table.now.table; binds = binder g.P.Ports.holds g.P.Ports.faults c.args.table.now.ports; seen = g.O.Office.seen c.args.office.now } in
     let boxes = g.M.Mail.boxes c.args.mail.now in
     let count = g.M.Mail.count c.args.mail.now in
     let A : Option Note → Type 0 = λ z. AcceptGives true (begun self) c.accept.new.self (Ok z) in
@@ -39,7 +40,7 @@ returns-in-Some-pop-clause-gives g c =
     let self = c.args.self.now in
     let words : Words g.row.L.Denot g.row.P-P.Denot = record { most = g.P.P.Port.most; link = g.L.Link.holds; link_counts = g.L.Link.counts; port = g.P.P.Port.holds; port_counts = g.P.P.Port.counts } in
     let old : Moment g.row.L.Denot g.row.P-P.Denot =
-    record { conns = self.conns.items; table = c.args.table.now.table; faults = g.P.Ports.faults c.args.table.now.ports; seen = g.O.Office.seen c.args.office.now } in
+    record { conns = self.conns.items; table = c.args.table.now.table; binds = binder g.P.Ports.holds g.P.Ports.faults c.args.table.now.ports; seen = g.O.Office.seen c.args.office.now } in
     let boxes = g.M.Mail.boxes c.args.mail.now in
     let count = g.M.Mail.count c.args.mail.now in
     let A : Option Note → Type 0 = λ z. AcceptGives true (begun self) c.accept.new.self (Ok z) in
@@ -51,13 +52,13 @@ pass-requires-clause-known g c =
     let self = c.args.self.now in
     let words : Words g.row.L.Denot g.row.P-P.Denot = record { most = g.P.P.Port.most; link = g.L.Link.holds; link_counts = g.L.Link.counts; port = g.P.P.Port.holds; port_counts = g.P.P.Port.counts } in
     let old : Moment g.row.L.Denot g.row.P-P.Denot =
-    record { conns = self.conns.items; table = c.args.table.now.table; faults = g.P.Ports.faults c.args.table.now.ports; seen = g.O.Office.seen c.args.office.now } in
+    record { conns = self.conns.items; table = c.args.table.now.table; binds = binder g.P.Ports.holds g.P.Ports.faults c.args.table.now.ports; seen = g.O.Office.seen c.args.office.now } in
     let boxes = g.M.Mail.boxes c.args.mail.now in
     let count = g.M.Mail.count c.args.mail.now in
     let A : Option Note → Type 0 = λ z. AcceptGives true (begun self) c.accept.new.self (Ok z) in
     let first = subst A c.in_default.is c.in_ok-note.ensures.gives in
     let k = c.requires.known in
-    let P : Ring g.row.L.Denot → Type 0 = λ z. AreKnown words (record { conns = z.conns.items; table = old.table; faults = old.faults; seen = old.seen }) in
+    let P : Ring g.row.L.Denot → Type 0 = λ z. AreKnown words (record { conns = z.conns.items; table = old.table; binds = old.binds; seen = old.seen }) in
     subst P (sym (c.in_default-pop.ensures.gives.0 ∙ first.0)) (known_conns words self old refl boxes count c.requires.office c.requires.inboxes k.0 k.1 k.2 k.3)
 
 pub pass-requires-clause-ports : goal.pass-requires-clause-ports
@@ -65,7 +66,7 @@ pass-requires-clause-ports g c =
     let self = c.args.self.now in
     let words : Words g.row.L.Denot g.row.P-P.Denot = record { most = g.P.P.Port.most; link = g.L.Link.holds; link_counts = g.L.Link.counts; port = g.P.P.Port.holds; port_counts = g.P.P.Port.counts } in
     let old : Moment g.row.L.Denot g.row.P-P.Denot =
-    record { conns = self.conns.items; table = c.args.table.now.table; faults = g.P.Ports.faults c.args.table.now.ports; seen = g.O.Office.seen c.args.office.now } in
+    record { conns = self.conns.items; table = c.args.table.now.table; binds = binder g.P.Ports.holds g.P.Ports.faults c.args.table.now.ports; seen = g.O.Office.seen c.args.office.now } in
     let boxes = g.M.Mail.boxes c.args.mail.now in
     let count = g.M.Mail.count c.args.mail.now in
     let A : Option Note → Type 0 = λ z. AcceptGives true (begun self) c.accept.new.self (Ok z) in
@@ -79,7 +80,7 @@ returns-in_err-note-2-clause-gives g c =
     let self = c.args.self.now in
     let words : Words g.row.L.Denot g.row.P-P.Denot = record { most = g.P.P.Port.most; link = g.L.Link.holds; link_counts = g.L.Link.counts; port = g.P.P.Port.holds; port_counts = g.P.P.Port.counts } in
     let old : Moment g.row.L.Denot g.row.P-P.Denot =
-    record { conns = self.conns.items; table = c.args.table.now.table; faults = g.P.Ports.faults c.args.table.now.ports; seen = g.O.Office.seen c.args.office.now } in
+    record { conns = self.conns.items; table = c.args.table.now.table; binds = binder g.P.Ports.holds g.P.Ports.faults c.args.table.now.ports; seen = g.O.Office.seen c.args.office.now } in
     let boxes = g.M.Mail.boxes c.args.mail.now in
     let count = g.M.Mail.count c.args.mail.now in
     let A : Option Note → Type 0 = λ z. AcceptGives true (begun self) c.accept.new.self (Ok z) in
@@ -87,7 +88,7 @@ returns-in_err-note-2-clause-gives g c =
     let popped = c.in_default-pop.ensures.gives in
     let boxes_one = g.M.Mail.boxes c.pop.new.mail in
     let new : Moment g.row.L.Denot g.row.P-P.Denot =
-    record { conns = c.pass.new.self.conns.items; table = c.pass.new.table.table; faults = g.P.Ports.faults c.pass.new.table.ports; seen = g.O.Office.seen c.pass.new.office } in
+    record { conns = c.pass.new.self.conns.items; table = c.pass.new.table.table; binds = binder g.P.Ports.holds g.P.Ports.faults c.pass.new.table.ports; seen = g.O.Office.seen c.pass.new.office } in
     err_promise words self old refl boxes count c.requires.office c.requires.inboxes c.pass.new.self new boxes_one c.in_err-note-2.field-0.0 c.from_residual-in_err-note-2.result c.from_residual-in_err-note-2.ensures.0
     (upper_stopped words self old refl boxes count c.requires.office c.requires.inboxes c.accept.new.self c.pop.new.self boxes_one (g.M.Mail.actor c.args.mail.now) c.requires.mail first popped c.pass.new.self new (Err c.in_err-note-2.field-0.0)
     c.in_err-note-2.ensures.gives c.in_err-note-2.ensures.ports c.in_err-note-2.ensures.rooms)
@@ -97,7 +98,7 @@ returns-in-Some-2-clause-gives g c =
     let self = c.args.self.now in
     let words : Words g.row.L.Denot g.row.P-P.Denot = record { most = g.P.P.Port.most; link = g.L.Link.holds; link_counts = g.L.Link.counts; port = g.P.P.Port.holds; port_counts = g.P.P.Port.counts } in
     let old : Moment g.row.L.Denot g.row.P-P.Denot =
-    record { conns = self.conns.items; table = c.args.table.now.table; faults = g.P.Ports.faults c.args.table.now.ports; seen = g.O.Office.seen c.args.office.now } in
+    record { conns = self.conns.items; table = c.args.table.now.table; binds = binder g.P.Ports.holds g.P.Ports.faults c.args.table.now.ports; seen = g.O.Office.seen c.args.office.now } in
     let boxes = g.M.Mail.boxes c.args.mail.now in
     let count = g.M.Mail.count c.args.mail.now in
     let A : Option Note → Type 0 = λ z. AcceptGives true (begun self) c.accept.new.self (Ok z) in
@@ -105,7 +106,7 @@ returns-in-Some-2-clause-gives g c =
     let popped = c.in_default-pop.ensures.gives in
     let boxes_one = g.M.Mail.boxes c.pop.new.mail in
     let new : Moment g.row.L.Denot g.row.P-P.Denot =
-    record { conns = c.pass.new.self.conns.items; table = c.pass.new.table.table; faults = g.P.Ports.faults c.pass.new.table.ports; seen = g.O.Office.seen c.pass.new.office } in
+    record { conns = c.pass.new.self.conns.items; table = c.pass.new.table.table; binds = binder g.P.Ports.holds g.P.Ports.faults c.pass.new.table.ports; seen = g.O.Office.seen c.pass.new.office } in
     let U : Option Note → Type 0 = λ z. PassGives words true c.pop.new.self c.pass.new.self (among c.pop.new.self.conns.items old) new (Ok z) in
     upper_stopped words self old refl boxes count c.requires.office c.requires.inboxes c.accept.new.self c.pop.new.self boxes_one (g.M.Mail.actor c.args.mail.now) c.requires.mail first popped c.pass.new.self new (Ok (Some c.in-Some-2.note))
     (subst U c.in-Some-2.is c.in_ok-note-2.ensures.gives) c.in_ok-note-2.ensures.ports c.in_ok-note-2.ensures.rooms
@@ -115,7 +116,7 @@ returns-in_err-note-3-clause-gives g c =
     let self = c.args.self.now in
     let words : Words g.row.L.Denot g.row.P-P.Denot = record { most = g.P.P.Port.most; link = g.L.Link.holds; link_counts = g.L.Link.counts; port = g.P.P.Port.holds; port_counts = g.P.P.Port.counts } in
     let old : Moment g.row.L.Denot g.row.P-P.Denot =
-    record { conns = self.conns.items; table = c.args.table.now.table; faults = g.P.Ports.faults c.args.table.now.ports; seen = g.O.Office.seen c.args.office.now } in
+    record { conns = self.conns.items; table = c.args.table.now.table; binds = binder g.P.Ports.holds g.P.Ports.faults c.args.table.now.ports; seen = g.O.Office.seen c.args.office.now } in
     let boxes = g.M.Mail.boxes c.args.mail.now in
     let count = g.M.Mail.count c.args.mail.now in
     let A : Option Note → Type 0 = λ z. AcceptGives true (begun self) c.accept.new.self (Ok z) in
@@ -123,7 +124,7 @@ returns-in_err-note-3-clause-gives g c =
     let popped = c.in_default-pop.ensures.gives in
     let boxes_one = g.M.Mail.boxes c.pop.new.mail in
     let mid : Moment g.row.L.Denot g.row.P-P.Denot =
-    record { conns = c.pass.new.self.conns.items; table = c.pass.new.table.table; faults = g.P.Ports.faults c.pass.new.table.ports; seen = g.O.Office.seen c.pass.new.office } in
+    record { conns = c.pass.new.self.conns.items; table = c.pass.new.table.table; binds = binder g.P.Ports.holds g.P.Ports.faults c.pass.new.table.ports; seen = g.O.Office.seen c.pass.new.office } in
     let U : Option Note → Type 0 = λ z. PassGives words true c.pop.new.self c.pass.new.self (among c.pop.new.self.conns.items old) mid (Ok z) in
     let upper = subst U c.in_default-2.is c.in_ok-note-2.ensures.gives in
     let ports = c.in_ok-note-2.ensures.ports in
@@ -136,7 +137,7 @@ returns-in-Some-3-clause-gives g c =
     let self = c.args.self.now in
     let words : Words g.row.L.Denot g.row.P-P.Denot = record { most = g.P.P.Port.most; link = g.L.Link.holds; link_counts = g.L.Link.counts; port = g.P.P.Port.holds; port_counts = g.P.P.Port.counts } in
     let old : Moment g.row.L.Denot g.row.P-P.Denot =
-    record { conns = self.conns.items; table = c.args.table.now.table; faults = g.P.Ports.faults c.args.table.now.ports; seen = g.O.Office.seen c.args.office.now } in
+    record { conns = self.conns.items; table = c.args.table.now.table; binds = binder g.P.Ports.holds g.P.Ports.faults c.args.table.now.ports; seen = g.O.Office.seen c.args.office.now } in
     let boxes = g.M.Mail.boxes c.args.mail.now in
     let count = g.M.Mail.count c.args.mail.now in
     let A : Option Note → Type 0 = λ z. AcceptGives true (begun self) c.accept.new.self (Ok z) in
@@ -144,7 +145,7 @@ returns-in-Some-3-clause-gives g c =
     let popped = c.in_default-pop.ensures.gives in
     let boxes_one = g.M.Mail.boxes c.pop.new.mail in
     let mid : Moment g.row.L.Denot g.row.P-P.Denot =
-    record { conns = c.pass.new.self.conns.items; table = c.pass.new.table.table; faults = g.P.Ports.faults c.pass.new.table.ports; seen = g.O.Office.seen c.pass.new.office } in
+    record { conns = c.pass.new.self.conns.items; table = c.pass.new.table.table; binds = binder g.P.Ports.holds g.P.Ports.faults c.pass.new.table.ports; seen = g.O.Office.seen c.pass.new.office } in
     let U : Option Note → Type 0 = λ z. PassGives words true c.pop.new.self c.pass.new.self (among c.pop.new.self.conns.items old) mid (Ok z) in
     let upper = subst U c.in_default-2.is c.in_ok-note-2.ensures.gives in
     let ports = c.in_ok-note-2.ensures.ports in
@@ -157,7 +158,7 @@ returns-in-Some-pop-2-clause-gives g c =
     let self = c.args.self.now in
     let words : Words g.row.L.Denot g.row.P-P.Denot = record { most = g.P.P.Port.most; link = g.L.Link.holds; link_counts = g.L.Link.counts; port = g.P.P.Port.holds; port_counts = g.P.P.Port.counts } in
     let old : Moment g.row.L.Denot g.row.P-P.Denot =
-    record { conns = self.conns.items; table = c.args.table.now.table; faults = g.P.Ports.faults c.args.table.now.ports; seen = g.O.Office.seen c.args.office.now } in
+    record { conns = self.conns.items; table = c.args.table.now.table; binds = binder g.P.Ports.holds g.P.Ports.faults c.args.table.now.ports; seen = g.O.Office.seen c.args.office.now } in
     let boxes = g.M.Mail.boxes c.args.mail.now in
     let count = g.M.Mail.count c.args.mail.now in
     let A : Option Note → Type 0 = λ z. AcceptGives true (begun self) c.accept.new.self (Ok z) in
@@ -165,7 +166,7 @@ returns-in-Some-pop-2-clause-gives g c =
     let popped = c.in_default-pop.ensures.gives in
     let boxes_one = g.M.Mail.boxes c.pop.new.mail in
     let mid : Moment g.row.L.Denot g.row.P-P.Denot =
-    record { conns = c.pass.new.self.conns.items; table = c.pass.new.table.table; faults = g.P.Ports.faults c.pass.new.table.ports; seen = g.O.Office.seen c.pass.new.office } in
+    record { conns = c.pass.new.self.conns.items; table = c.pass.new.table.table; binds = binder g.P.Ports.holds g.P.Ports.faults c.pass.new.table.ports; seen = g.O.Office.seen c.pass.new.office } in
     let U : Option Note → Type 0 = λ z. PassGives words true c.pop.new.self c.pass.new.self (among c.pop.new.self.conns.items old) mid (Ok z) in
     let upper = subst U c.in_default-2.is c.in_ok-note-2.ensures.gives in
     let ports = c.in_ok-note-2.ensures.ports in
@@ -181,7 +182,7 @@ pass-requires-2-clause-known g c =
     let self = c.args.self.now in
     let words : Words g.row.L.Denot g.row.P-P.Denot = record { most = g.P.P.Port.most; link = g.L.Link.holds; link_counts = g.L.Link.counts; port = g.P.P.Port.holds; port_counts = g.P.P.Port.counts } in
     let old : Moment g.row.L.Denot g.row.P-P.Denot =
-    record { conns = self.conns.items; table = c.args.table.now.table; faults = g.P.Ports.faults c.args.table.now.ports; seen = g.O.Office.seen c.args.office.now } in
+    record { conns = self.conns.items; table = c.args.table.now.table; binds = binder g.P.Ports.holds g.P.Ports.faults c.args.table.now.ports; seen = g.O.Office.seen c.args.office.now } in
     let boxes = g.M.Mail.boxes c.args.mail.now in
     let count = g.M.Mail.count c.args.mail.now in
     let A : Option Note → Type 0 = λ z. AcceptGives true (begun self) c.accept.new.self (Ok z) in
@@ -189,7 +190,7 @@ pass-requires-2-clause-known g c =
     let popped = c.in_default-pop.ensures.gives in
     let boxes_one = g.M.Mail.boxes c.pop.new.mail in
     let mid : Moment g.row.L.Denot g.row.P-P.Denot =
-    record { conns = c.pass.new.self.conns.items; table = c.pass.new.table.table; faults = g.P.Ports.faults c.pass.new.table.ports; seen = g.O.Office.seen c.pass.new.office } in
+    record { conns = c.pass.new.self.conns.items; table = c.pass.new.table.table; binds = binder g.P.Ports.holds g.P.Ports.faults c.pass.new.table.ports; seen = g.O.Office.seen c.pass.new.office } in
     let U : Option Note → Type 0 = λ z. PassGives words true c.pop.new.self c.pass.new.self (among c.pop.new.self.conns.items old) mid (Ok z) in
     let upper = subst U c.in_default-2.is c.in_ok-note-2.ensures.gives in
     let ports = c.in_ok-note-2.ensures.ports in
@@ -199,7 +200,7 @@ pass-requires-2-clause-known g c =
     let N : ℕ → ℕ → Type 0 = λ k i. InboxGives k boxes_one i false c.accept-2.new.self c.pop-2.new.self None (g.M.Mail.boxes c.pop-2.new.mail) in
     let popped_later = subst (λ k. N k (g.M.Mail.actor c.args.mail.now)) c.in_default-pop.ensures.count (subst (λ i. N (g.M.Mail.count c.pop.new.mail) i) c.in_default-pop.ensures.actor c.in_default-pop-2.ensures.gives) in
     let k = c.requires.known in
-    let P : Ring g.row.L.Denot → Type 0 = λ z. AreKnown words (record { conns = z.conns.items; table = mid.table; faults = mid.faults; seen = mid.seen }) in
+    let P : Ring g.row.L.Denot → Type 0 = λ z. AreKnown words (record { conns = z.conns.items; table = mid.table; binds = mid.binds; seen = mid.seen }) in
     subst P (sym (popped_later.0 ∙ second.0)) (known_later words self old refl boxes count c.requires.office c.requires.inboxes c.accept.new.self c.pop.new.self boxes_one (g.M.Mail.actor c.args.mail.now) c.requires.mail first popped c.pass.new.self mid refl upper ports rooms (known_conns words self old refl boxes count c.requires.office c.requires.inboxes k.0 k.1 k.2 k.3))
 
 pub pass-requires-2-clause-ports : goal.pass-requires-2-clause-ports
@@ -207,7 +208,7 @@ pass-requires-2-clause-ports g c =
     let self = c.args.self.now in
     let words : Words g.row.L.Denot g.row.P-P.Denot = record { most = g.P.P.Port.most; link = g.L.Link.holds; link_counts = g.L.Link.counts; port = g.P.P.Port.holds; port_counts = g.P.P.Port.counts } in
     let old : Moment g.row.L.Denot g.row.P-P.Denot =
-    record { conns = self.conns.items; table = c.args.table.now.table; faults = g.P.Ports.faults c.args.table.now.ports; seen = g.O.Office.seen c.args.office.now } in
+    record { conns = self.conns.items; table = c.args.table.now.table; binds = binder g.P.Ports.holds g.P.Ports.faults c.args.table.now.ports; seen = g.O.Office.seen c.args.office.now } in
     let boxes = g.M.Mail.boxes c.args.mail.now in
     let count = g.M.Mail.count c.args.mail.now in
     let A : Option Note → Type 0 = λ z. AcceptGives true (begun self) c.accept.new.self (Ok z) in
@@ -215,7 +216,7 @@ pass-requires-2-clause-ports g c =
     let popped = c.in_default-pop.ensures.gives in
     let boxes_one = g.M.Mail.boxes c.pop.new.mail in
     let mid : Moment g.row.L.Denot g.row.P-P.Denot =
-    record { conns = c.pass.new.self.conns.items; table = c.pass.new.table.table; faults = g.P.Ports.faults c.pass.new.table.ports; seen = g.O.Office.seen c.pass.new.office } in
+    record { conns = c.pass.new.self.conns.items; table = c.pass.new.table.table; binds = binder g.P.Ports.holds g.P.Ports.faults c.pass.new.table.ports; seen = g.O.Office.seen c.pass.new.office } in
     let U : Option Note → Type 0 = λ z. PassGives words true c.pop.new.self c.pass.new.self (among c.pop.new.self.conns.items old) mid (Ok z) in
     let upper = subst U c.in_default-2.is c.in_ok-note-2.ensures.gives in
     let ports = c.in_ok-note-2.ensures.ports in
@@ -232,7 +233,7 @@ returns-clause-gives g c =
     let self = c.args.self.now in
     let words : Words g.row.L.Denot g.row.P-P.Denot = record { most = g.P.P.Port.most; link = g.L.Link.holds; link_counts = g.L.Link.counts; port = g.P.P.Port.holds; port_counts = g.P.P.Port.counts } in
     let old : Moment g.row.L.Denot g.row.P-P.Denot =
-    record { conns = self.conns.items; table = c.args.table.now.table; faults = g.P.Ports.faults c.args.table.now.ports; seen = g.O.Office.seen c.args.office.now } in
+    record { conns = self.conns.items; table = c.args.table.now.table; binds = binder g.P.Ports.holds g.P.Ports.faults c.args.table.now.ports; seen = g.O.Office.seen c.args.office.now } in
     let boxes = g.M.Mail.boxes c.args.mail.now in
     let count = g.M.Mail.count c.args.mail.now in
     let A : Option Note → Type 0 = λ z. AcceptGives true (begun self) c.accept.new.self (Ok z) in
@@ -240,7 +241,7 @@ returns-clause-gives g c =
     let popped = c.in_default-pop.ensures.gives in
     let boxes_one = g.M.Mail.boxes c.pop.new.mail in
     let mid : Moment g.row.L.Denot g.row.P-P.Denot =
-    record { conns = c.pass.new.self.conns.items; table = c.pass.new.table.table; faults = g.P.Ports.faults c.pass.new.table.ports; seen = g.O.Office.seen c.pass.new.office } in
+    record { conns = c.pass.new.self.conns.items; table = c.pass.new.table.table; binds = binder g.P.Ports.holds g.P.Ports.faults c.pass.new.table.ports; seen = g.O.Office.seen c.pass.new.office } in
     let U : Option Note → Type 0 = λ z. PassGives words true c.pop.new.self c.pass.new.self (among c.pop.new.self.conns.items old) mid (Ok z) in
     let upper = subst U c.in_default-2.is c.in_ok-note-2.ensures.gives in
     let ports = c.in_ok-note-2.ensures.ports in
@@ -250,49 +251,49 @@ returns-clause-gives g c =
     let N : ℕ → ℕ → Type 0 = λ k i. InboxGives k boxes_one i false c.accept-2.new.self c.pop-2.new.self None (g.M.Mail.boxes c.pop-2.new.mail) in
     let popped_later = subst (λ k. N k (g.M.Mail.actor c.args.mail.now)) c.in_default-pop.ensures.count (subst (λ i. N (g.M.Mail.count c.pop.new.mail) i) c.in_default-pop.ensures.actor c.in_default-pop-2.ensures.gives) in
     let new : Moment g.row.L.Denot g.row.P-P.Denot =
-    record { conns = c.pass-2.new.self.conns.items; table = c.pass-2.new.table.table; faults = g.P.Ports.faults c.pass-2.new.table.ports; seen = g.O.Office.seen c.pass-2.new.office } in
+    record { conns = c.pass-2.new.self.conns.items; table = c.pass-2.new.table.table; binds = binder g.P.Ports.holds g.P.Ports.faults c.pass-2.new.table.ports; seen = g.O.Office.seen c.pass-2.new.office } in
     lower_gives words self old refl boxes count c.requires.office c.requires.inboxes c.accept.new.self c.pop.new.self boxes_one (g.M.Mail.actor c.args.mail.now) c.requires.mail first popped c.pass.new.self mid refl upper ports rooms c.accept-2.new.self second c.pop-2.new.self (g.M.Mail.boxes c.pop-2.new.mail) popped_later
     c.pass-2.new.self new c.pass-2.result refl c.pass-2.ensures.gives c.pass-2.ensures.ports c.pass-2.ensures.rooms
 
-pub returns-in_err-note-clause-stands : goal.returns-in_err-note-clause-stands
-returns-in_err-note-clause-stands g c =
+pub returns-in_err-note-clause-sights : goal.returns-in_err-note-clause-sights
+returns-in_err-note-clause-sights g c =
     let self = c.args.self.now in
     let words : Words g.row.L.Denot g.row.P-P.Denot = record { most = g.P.P.Port.most; link = g.L.Link.holds; link_counts = g.L.Link.counts; port = g.P.P.Port.holds; port_counts = g.P.P.Port.counts } in
     let old : Moment g.row.L.Denot g.row.P-P.Denot =
-    record { conns = self.conns.items; table = c.args.table.now.table; faults = g.P.Ports.faults c.args.table.now.ports; seen = g.O.Office.seen c.args.office.now } in
+    record { conns = self.conns.items; table = c.args.table.now.table; binds = binder g.P.Ports.holds g.P.Ports.faults c.args.table.now.ports; seen = g.O.Office.seen c.args.office.now } in
     let boxes = g.M.Mail.boxes c.args.mail.now in
     let count = g.M.Mail.count c.args.mail.now in
-    accept_refused_stands words self old refl boxes count c.requires.office c.requires.inboxes c.accept.new.self c.in_err-note.field-0.0 c.in_err-note.ensures.gives
+    accept_refused_sights words self old refl boxes count c.requires.office c.requires.inboxes c.accept.new.self c.in_err-note.field-0.0 c.in_err-note.ensures.gives
 
-pub returns-in-Some-clause-stands : goal.returns-in-Some-clause-stands
-returns-in-Some-clause-stands g c =
+pub returns-in-Some-clause-sights : goal.returns-in-Some-clause-sights
+returns-in-Some-clause-sights g c =
     let self = c.args.self.now in
     let words : Words g.row.L.Denot g.row.P-P.Denot = record { most = g.P.P.Port.most; link = g.L.Link.holds; link_counts = g.L.Link.counts; port = g.P.P.Port.holds; port_counts = g.P.P.Port.counts } in
     let old : Moment g.row.L.Denot g.row.P-P.Denot =
-    record { conns = self.conns.items; table = c.args.table.now.table; faults = g.P.Ports.faults c.args.table.now.ports; seen = g.O.Office.seen c.args.office.now } in
+    record { conns = self.conns.items; table = c.args.table.now.table; binds = binder g.P.Ports.holds g.P.Ports.faults c.args.table.now.ports; seen = g.O.Office.seen c.args.office.now } in
     let boxes = g.M.Mail.boxes c.args.mail.now in
     let count = g.M.Mail.count c.args.mail.now in
     let A : Option Note → Type 0 = λ z. AcceptGives true (begun self) c.accept.new.self (Ok z) in
-    accept_did_stands words self old refl boxes count c.requires.office c.requires.inboxes c.accept.new.self c.in-Some.note (subst A c.in-Some.is c.in_ok-note.ensures.gives)
+    accept_did_sights words self old refl boxes count c.requires.office c.requires.inboxes c.accept.new.self c.in-Some.note (subst A c.in-Some.is c.in_ok-note.ensures.gives)
 
-pub returns-in-Some-pop-clause-stands : goal.returns-in-Some-pop-clause-stands
-returns-in-Some-pop-clause-stands g c =
+pub returns-in-Some-pop-clause-sights : goal.returns-in-Some-pop-clause-sights
+returns-in-Some-pop-clause-sights g c =
     let self = c.args.self.now in
     let words : Words g.row.L.Denot g.row.P-P.Denot = record { most = g.P.P.Port.most; link = g.L.Link.holds; link_counts = g.L.Link.counts; port = g.P.P.Port.holds; port_counts = g.P.P.Port.counts } in
     let old : Moment g.row.L.Denot g.row.P-P.Denot =
-    record { conns = self.conns.items; table = c.args.table.now.table; faults = g.P.Ports.faults c.args.table.now.ports; seen = g.O.Office.seen c.args.office.now } in
+    record { conns = self.conns.items; table = c.args.table.now.table; binds = binder g.P.Ports.holds g.P.Ports.faults c.args.table.now.ports; seen = g.O.Office.seen c.args.office.now } in
     let boxes = g.M.Mail.boxes c.args.mail.now in
     let count = g.M.Mail.count c.args.mail.now in
     let A : Option Note → Type 0 = λ z. AcceptGives true (begun self) c.accept.new.self (Ok z) in
     let first = subst A c.in_default.is c.in_ok-note.ensures.gives in
-    pop_did_stands words self old refl boxes count c.requires.office c.requires.inboxes c.accept.new.self c.pop.new.self c.in-Some-pop.note (g.M.Mail.boxes c.pop.new.mail) (g.M.Mail.actor c.args.mail.now) c.requires.mail first c.in-Some-pop.ensures.gives
+    pop_did_sights words self old refl boxes count c.requires.office c.requires.inboxes c.accept.new.self c.pop.new.self c.in-Some-pop.note (g.M.Mail.boxes c.pop.new.mail) (g.M.Mail.actor c.args.mail.now) c.requires.mail first c.in-Some-pop.ensures.gives
 
-pub returns-in_err-note-2-clause-stands : goal.returns-in_err-note-2-clause-stands
-returns-in_err-note-2-clause-stands g c =
+pub returns-in_err-note-2-clause-sights : goal.returns-in_err-note-2-clause-sights
+returns-in_err-note-2-clause-sights g c =
     let self = c.args.self.now in
     let words : Words g.row.L.Denot g.row.P-P.Denot = record { most = g.P.P.Port.most; link = g.L.Link.holds; link_counts = g.L.Link.counts; port = g.P.P.Port.holds; port_counts = g.P.P.Port.counts } in
     let old : Moment g.row.L.Denot g.row.P-P.Denot =
-    record { conns = self.conns.items; table = c.args.table.now.table; faults = g.P.Ports.faults c.args.table.now.ports; seen = g.O.Office.seen c.args.office.now } in
+    record { conns = self.conns.items; table = c.args.table.now.table; binds = binder g.P.Ports.holds g.P.Ports.faults c.args.table.now.ports; seen = g.O.Office.seen c.args.office.now } in
     let boxes = g.M.Mail.boxes c.args.mail.now in
     let count = g.M.Mail.count c.args.mail.now in
     let A : Option Note → Type 0 = λ z. AcceptGives true (begun self) c.accept.new.self (Ok z) in
@@ -300,16 +301,16 @@ returns-in_err-note-2-clause-stands g c =
     let popped = c.in_default-pop.ensures.gives in
     let boxes_one = g.M.Mail.boxes c.pop.new.mail in
     let new : Moment g.row.L.Denot g.row.P-P.Denot =
-    record { conns = c.pass.new.self.conns.items; table = c.pass.new.table.table; faults = g.P.Ports.faults c.pass.new.table.ports; seen = g.O.Office.seen c.pass.new.office } in
-    upper_stopped_stands words self old refl boxes count c.requires.office c.requires.inboxes c.accept.new.self c.pop.new.self boxes_one (g.M.Mail.actor c.args.mail.now) c.requires.mail first popped c.pass.new.self new (Err c.in_err-note-2.field-0.0)
+    record { conns = c.pass.new.self.conns.items; table = c.pass.new.table.table; binds = binder g.P.Ports.holds g.P.Ports.faults c.pass.new.table.ports; seen = g.O.Office.seen c.pass.new.office } in
+    upper_stopped_sights words self old refl boxes count c.requires.office c.requires.inboxes c.accept.new.self c.pop.new.self boxes_one (g.M.Mail.actor c.args.mail.now) c.requires.mail first popped c.pass.new.self new (Err c.in_err-note-2.field-0.0)
     c.in_err-note-2.ensures.gives c.in_err-note-2.ensures.ports c.in_err-note-2.ensures.rooms
 
-pub returns-in-Some-2-clause-stands : goal.returns-in-Some-2-clause-stands
-returns-in-Some-2-clause-stands g c =
+pub returns-in-Some-2-clause-sights : goal.returns-in-Some-2-clause-sights
+returns-in-Some-2-clause-sights g c =
     let self = c.args.self.now in
     let words : Words g.row.L.Denot g.row.P-P.Denot = record { most = g.P.P.Port.most; link = g.L.Link.holds; link_counts = g.L.Link.counts; port = g.P.P.Port.holds; port_counts = g.P.P.Port.counts } in
     let old : Moment g.row.L.Denot g.row.P-P.Denot =
-    record { conns = self.conns.items; table = c.args.table.now.table; faults = g.P.Ports.faults c.args.table.now.ports; seen = g.O.Office.seen c.args.office.now } in
+    record { conns = self.conns.items; table = c.args.table.now.table; binds = binder g.P.Ports.holds g.P.Ports.faults c.args.table.now.ports; seen = g.O.Office.seen c.args.office.now } in
     let boxes = g.M.Mail.boxes c.args.mail.now in
     let count = g.M.Mail.count c.args.mail.now in
     let A : Option Note → Type 0 = λ z. AcceptGives true (begun self) c.accept.new.self (Ok z) in
@@ -317,17 +318,17 @@ returns-in-Some-2-clause-stands g c =
     let popped = c.in_default-pop.ensures.gives in
     let boxes_one = g.M.Mail.boxes c.pop.new.mail in
     let new : Moment g.row.L.Denot g.row.P-P.Denot =
-    record { conns = c.pass.new.self.conns.items; table = c.pass.new.table.table; faults = g.P.Ports.faults c.pass.new.table.ports; seen = g.O.Office.seen c.pass.new.office } in
+    record { conns = c.pass.new.self.conns.items; table = c.pass.new.table.table; binds = binder g.P.Ports.holds g.P.Ports.faults c.pass.new.table.ports; seen = g.O.Office.seen c.pass.new.office } in
     let U : Option Note → Type 0 = λ z. PassGives words true c.pop.new.self c.pass.new.self (among c.pop.new.self.conns.items old) new (Ok z) in
-    upper_stopped_stands words self old refl boxes count c.requires.office c.requires.inboxes c.accept.new.self c.pop.new.self boxes_one (g.M.Mail.actor c.args.mail.now) c.requires.mail first popped c.pass.new.self new (Ok (Some c.in-Some-2.note))
+    upper_stopped_sights words self old refl boxes count c.requires.office c.requires.inboxes c.accept.new.self c.pop.new.self boxes_one (g.M.Mail.actor c.args.mail.now) c.requires.mail first popped c.pass.new.self new (Ok (Some c.in-Some-2.note))
     (subst U c.in-Some-2.is c.in_ok-note-2.ensures.gives) c.in_ok-note-2.ensures.ports c.in_ok-note-2.ensures.rooms
 
-pub returns-in_err-note-3-clause-stands : goal.returns-in_err-note-3-clause-stands
-returns-in_err-note-3-clause-stands g c =
+pub returns-in_err-note-3-clause-sights : goal.returns-in_err-note-3-clause-sights
+returns-in_err-note-3-clause-sights g c =
     let self = c.args.self.now in
     let words : Words g.row.L.Denot g.row.P-P.Denot = record { most = g.P.P.Port.most; link = g.L.Link.holds; link_counts = g.L.Link.counts; port = g.P.P.Port.holds; port_counts = g.P.P.Port.counts } in
     let old : Moment g.row.L.Denot g.row.P-P.Denot =
-    record { conns = self.conns.items; table = c.args.table.now.table; faults = g.P.Ports.faults c.args.table.now.ports; seen = g.O.Office.seen c.args.office.now } in
+    record { conns = self.conns.items; table = c.args.table.now.table; binds = binder g.P.Ports.holds g.P.Ports.faults c.args.table.now.ports; seen = g.O.Office.seen c.args.office.now } in
     let boxes = g.M.Mail.boxes c.args.mail.now in
     let count = g.M.Mail.count c.args.mail.now in
     let A : Option Note → Type 0 = λ z. AcceptGives true (begun self) c.accept.new.self (Ok z) in
@@ -335,19 +336,19 @@ returns-in_err-note-3-clause-stands g c =
     let popped = c.in_default-pop.ensures.gives in
     let boxes_one = g.M.Mail.boxes c.pop.new.mail in
     let mid : Moment g.row.L.Denot g.row.P-P.Denot =
-    record { conns = c.pass.new.self.conns.items; table = c.pass.new.table.table; faults = g.P.Ports.faults c.pass.new.table.ports; seen = g.O.Office.seen c.pass.new.office } in
+    record { conns = c.pass.new.self.conns.items; table = c.pass.new.table.table; binds = binder g.P.Ports.holds g.P.Ports.faults c.pass.new.table.ports; seen = g.O.Office.seen c.pass.new.office } in
     let U : Option Note → Type 0 = λ z. PassGives words true c.pop.new.self c.pass.new.self (among c.pop.new.self.conns.items old) mid (Ok z) in
     let upper = subst U c.in_default-2.is c.in_ok-note-2.ensures.gives in
     let ports = c.in_ok-note-2.ensures.ports in
     let rooms = c.in_ok-note-2.ensures.rooms in
-    accept_refused_later_stands words self old refl boxes count c.requires.office c.requires.inboxes c.accept.new.self c.pop.new.self boxes_one (g.M.Mail.actor c.args.mail.now) c.requires.mail first popped c.pass.new.self mid refl upper ports rooms c.accept-2.new.self c.in_err-note-3.field-0.0 c.in_err-note-3.ensures.gives
+    accept_refused_later_sights words self old refl boxes count c.requires.office c.requires.inboxes c.accept.new.self c.pop.new.self boxes_one (g.M.Mail.actor c.args.mail.now) c.requires.mail first popped c.pass.new.self mid refl upper ports rooms c.accept-2.new.self c.in_err-note-3.field-0.0 c.in_err-note-3.ensures.gives
 
-pub returns-in-Some-3-clause-stands : goal.returns-in-Some-3-clause-stands
-returns-in-Some-3-clause-stands g c =
+pub returns-in-Some-3-clause-sights : goal.returns-in-Some-3-clause-sights
+returns-in-Some-3-clause-sights g c =
     let self = c.args.self.now in
     let words : Words g.row.L.Denot g.row.P-P.Denot = record { most = g.P.P.Port.most; link = g.L.Link.holds; link_counts = g.L.Link.counts; port = g.P.P.Port.holds; port_counts = g.P.P.Port.counts } in
     let old : Moment g.row.L.Denot g.row.P-P.Denot =
-    record { conns = self.conns.items; table = c.args.table.now.table; faults = g.P.Ports.faults c.args.table.now.ports; seen = g.O.Office.seen c.args.office.now } in
+    record { conns = self.conns.items; table = c.args.table.now.table; binds = binder g.P.Ports.holds g.P.Ports.faults c.args.table.now.ports; seen = g.O.Office.seen c.args.office.now } in
     let boxes = g.M.Mail.boxes c.args.mail.now in
     let count = g.M.Mail.count c.args.mail.now in
     let A : Option Note → Type 0 = λ z. AcceptGives true (begun self) c.accept.new.self (Ok z) in
@@ -355,20 +356,20 @@ returns-in-Some-3-clause-stands g c =
     let popped = c.in_default-pop.ensures.gives in
     let boxes_one = g.M.Mail.boxes c.pop.new.mail in
     let mid : Moment g.row.L.Denot g.row.P-P.Denot =
-    record { conns = c.pass.new.self.conns.items; table = c.pass.new.table.table; faults = g.P.Ports.faults c.pass.new.table.ports; seen = g.O.Office.seen c.pass.new.office } in
+    record { conns = c.pass.new.self.conns.items; table = c.pass.new.table.table; binds = binder g.P.Ports.holds g.P.Ports.faults c.pass.new.table.ports; seen = g.O.Office.seen c.pass.new.office } in
     let U : Option Note → Type 0 = λ z. PassGives words true c.pop.new.self c.pass.new.self (among c.pop.new.self.conns.items old) mid (Ok z) in
     let upper = subst U c.in_default-2.is c.in_ok-note-2.ensures.gives in
     let ports = c.in_ok-note-2.ensures.ports in
     let rooms = c.in_ok-note-2.ensures.rooms in
     let B : Option Note → Type 0 = λ z. AcceptGives false c.pass.new.self c.accept-2.new.self (Ok z) in
-    accept_did_later_stands words self old refl boxes count c.requires.office c.requires.inboxes c.accept.new.self c.pop.new.self boxes_one (g.M.Mail.actor c.args.mail.now) c.requires.mail first popped c.pass.new.self mid refl upper ports rooms c.accept-2.new.self c.in-Some-3.note (subst B c.in-Some-3.is c.in_ok-note-3.ensures.gives)
+    accept_did_later_sights words self old refl boxes count c.requires.office c.requires.inboxes c.accept.new.self c.pop.new.self boxes_one (g.M.Mail.actor c.args.mail.now) c.requires.mail first popped c.pass.new.self mid refl upper ports rooms c.accept-2.new.self c.in-Some-3.note (subst B c.in-Some-3.is c.in_ok-note-3.ensures.gives)
 
-pub returns-in-Some-pop-2-clause-stands : goal.returns-in-Some-pop-2-clause-stands
-returns-in-Some-pop-2-clause-stands g c =
+pub returns-in-Some-pop-2-clause-sights : goal.returns-in-Some-pop-2-clause-sights
+returns-in-Some-pop-2-clause-sights g c =
     let self = c.args.self.now in
     let words : Words g.row.L.Denot g.row.P-P.Denot = record { most = g.P.P.Port.most; link = g.L.Link.holds; link_counts = g.L.Link.counts; port = g.P.P.Port.holds; port_counts = g.P.P.Port.counts } in
     let old : Moment g.row.L.Denot g.row.P-P.Denot =
-    record { conns = self.conns.items; table = c.args.table.now.table; faults = g.P.Ports.faults c.args.table.now.ports; seen = g.O.Office.seen c.args.office.now } in
+    record { conns = self.conns.items; table = c.args.table.now.table; binds = binder g.P.Ports.holds g.P.Ports.faults c.args.table.now.ports; seen = g.O.Office.seen c.args.office.now } in
     let boxes = g.M.Mail.boxes c.args.mail.now in
     let count = g.M.Mail.count c.args.mail.now in
     let A : Option Note → Type 0 = λ z. AcceptGives true (begun self) c.accept.new.self (Ok z) in
@@ -376,7 +377,7 @@ returns-in-Some-pop-2-clause-stands g c =
     let popped = c.in_default-pop.ensures.gives in
     let boxes_one = g.M.Mail.boxes c.pop.new.mail in
     let mid : Moment g.row.L.Denot g.row.P-P.Denot =
-    record { conns = c.pass.new.self.conns.items; table = c.pass.new.table.table; faults = g.P.Ports.faults c.pass.new.table.ports; seen = g.O.Office.seen c.pass.new.office } in
+    record { conns = c.pass.new.self.conns.items; table = c.pass.new.table.table; binds = binder g.P.Ports.holds g.P.Ports.faults c.pass.new.table.ports; seen = g.O.Office.seen c.pass.new.office } in
     let U : Option Note → Type 0 = λ z. PassGives words true c.pop.new.self c.pass.new.self (among c.pop.new.self.conns.items old) mid (Ok z) in
     let upper = subst U c.in_default-2.is c.in_ok-note-2.ensures.gives in
     let ports = c.in_ok-note-2.ensures.ports in
@@ -385,14 +386,14 @@ returns-in-Some-pop-2-clause-stands g c =
     let second = subst B c.in_default-3.is c.in_ok-note-3.ensures.gives in
     let N : ℕ → ℕ → Type 0 = λ k i. InboxGives k boxes_one i false c.accept-2.new.self c.pop-2.new.self (Some c.in-Some-pop-2.note) (g.M.Mail.boxes c.pop-2.new.mail) in
     let gives = subst (λ k. N k (g.M.Mail.actor c.args.mail.now)) c.in_default-pop.ensures.count (subst (λ i. N (g.M.Mail.count c.pop.new.mail) i) c.in_default-pop.ensures.actor c.in-Some-pop-2.ensures.gives) in
-    pop_did_later_stands words self old refl boxes count c.requires.office c.requires.inboxes c.accept.new.self c.pop.new.self boxes_one (g.M.Mail.actor c.args.mail.now) c.requires.mail first popped c.pass.new.self mid refl upper ports rooms c.accept-2.new.self second c.pop-2.new.self c.in-Some-pop-2.note (g.M.Mail.boxes c.pop-2.new.mail) gives
+    pop_did_later_sights words self old refl boxes count c.requires.office c.requires.inboxes c.accept.new.self c.pop.new.self boxes_one (g.M.Mail.actor c.args.mail.now) c.requires.mail first popped c.pass.new.self mid refl upper ports rooms c.accept-2.new.self second c.pop-2.new.self c.in-Some-pop-2.note (g.M.Mail.boxes c.pop-2.new.mail) gives
 
-pub returns-clause-stands : goal.returns-clause-stands
-returns-clause-stands g c =
+pub returns-clause-sights : goal.returns-clause-sights
+returns-clause-sights g c =
     let self = c.args.self.now in
     let words : Words g.row.L.Denot g.row.P-P.Denot = record { most = g.P.P.Port.most; link = g.L.Link.holds; link_counts = g.L.Link.counts; port = g.P.P.Port.holds; port_counts = g.P.P.Port.counts } in
     let old : Moment g.row.L.Denot g.row.P-P.Denot =
-    record { conns = self.conns.items; table = c.args.table.now.table; faults = g.P.Ports.faults c.args.table.now.ports; seen = g.O.Office.seen c.args.office.now } in
+    record { conns = self.conns.items; table = c.args.table.now.table; binds = binder g.P.Ports.holds g.P.Ports.faults c.args.table.now.ports; seen = g.O.Office.seen c.args.office.now } in
     let boxes = g.M.Mail.boxes c.args.mail.now in
     let count = g.M.Mail.count c.args.mail.now in
     let A : Option Note → Type 0 = λ z. AcceptGives true (begun self) c.accept.new.self (Ok z) in
@@ -400,7 +401,7 @@ returns-clause-stands g c =
     let popped = c.in_default-pop.ensures.gives in
     let boxes_one = g.M.Mail.boxes c.pop.new.mail in
     let mid : Moment g.row.L.Denot g.row.P-P.Denot =
-    record { conns = c.pass.new.self.conns.items; table = c.pass.new.table.table; faults = g.P.Ports.faults c.pass.new.table.ports; seen = g.O.Office.seen c.pass.new.office } in
+    record { conns = c.pass.new.self.conns.items; table = c.pass.new.table.table; binds = binder g.P.Ports.holds g.P.Ports.faults c.pass.new.table.ports; seen = g.O.Office.seen c.pass.new.office } in
     let U : Option Note → Type 0 = λ z. PassGives words true c.pop.new.self c.pass.new.self (among c.pop.new.self.conns.items old) mid (Ok z) in
     let upper = subst U c.in_default-2.is c.in_ok-note-2.ensures.gives in
     let ports = c.in_ok-note-2.ensures.ports in
@@ -410,8 +411,8 @@ returns-clause-stands g c =
     let N : ℕ → ℕ → Type 0 = λ k i. InboxGives k boxes_one i false c.accept-2.new.self c.pop-2.new.self None (g.M.Mail.boxes c.pop-2.new.mail) in
     let popped_later = subst (λ k. N k (g.M.Mail.actor c.args.mail.now)) c.in_default-pop.ensures.count (subst (λ i. N (g.M.Mail.count c.pop.new.mail) i) c.in_default-pop.ensures.actor c.in_default-pop-2.ensures.gives) in
     let new : Moment g.row.L.Denot g.row.P-P.Denot =
-    record { conns = c.pass-2.new.self.conns.items; table = c.pass-2.new.table.table; faults = g.P.Ports.faults c.pass-2.new.table.ports; seen = g.O.Office.seen c.pass-2.new.office } in
-    lower_stands words self old refl boxes count c.requires.office c.requires.inboxes c.accept.new.self c.pop.new.self boxes_one (g.M.Mail.actor c.args.mail.now) c.requires.mail first popped c.pass.new.self mid refl upper ports rooms c.accept-2.new.self second c.pop-2.new.self (g.M.Mail.boxes c.pop-2.new.mail) popped_later
+    record { conns = c.pass-2.new.self.conns.items; table = c.pass-2.new.table.table; binds = binder g.P.Ports.holds g.P.Ports.faults c.pass-2.new.table.ports; seen = g.O.Office.seen c.pass-2.new.office } in
+    lower_sights words self old refl boxes count c.requires.office c.requires.inboxes c.accept.new.self c.pop.new.self boxes_one (g.M.Mail.actor c.args.mail.now) c.requires.mail first popped c.pass.new.self mid refl upper ports rooms c.accept-2.new.self second c.pop-2.new.self (g.M.Mail.boxes c.pop-2.new.mail) popped_later
     c.pass-2.new.self new c.pass-2.result refl c.pass-2.ensures.gives c.pass-2.ensures.ports c.pass-2.ensures.rooms
 
 -- ---- which connection left
@@ -448,13 +449,13 @@ returns-in_err-note-2-clause-left g c =
     let start : AllLeft before (begun self) = record { none = refl; numbers = refl } in
     let words : Words g.row.L.Denot g.row.P-P.Denot = record { most = g.P.P.Port.most; link = g.L.Link.holds; link_counts = g.L.Link.counts; port = g.P.P.Port.holds; port_counts = g.P.P.Port.counts } in
     let old : Moment g.row.L.Denot g.row.P-P.Denot =
-    record { conns = self.conns.items; table = c.args.table.now.table; faults = g.P.Ports.faults c.args.table.now.ports; seen = g.O.Office.seen c.args.office.now } in
+    record { conns = self.conns.items; table = c.args.table.now.table; binds = binder g.P.Ports.holds g.P.Ports.faults c.args.table.now.ports; seen = g.O.Office.seen c.args.office.now } in
     let A : Option Note → Type 0 = λ z. AcceptGives true (begun self) c.accept.new.self (Ok z) in
     let first = subst A c.in_default.is c.in_ok-note.ensures.gives in
     let accepted = idle_left before (begun self) c.accept.new.self first.0 start in
     let popped = idle_left before c.accept.new.self c.pop.new.self c.in_default-pop.ensures.gives.0 accepted in
     let new : Moment g.row.L.Denot g.row.P-P.Denot =
-    record { conns = c.pass.new.self.conns.items; table = c.pass.new.table.table; faults = g.P.Ports.faults c.pass.new.table.ports; seen = g.O.Office.seen c.pass.new.office } in
+    record { conns = c.pass.new.self.conns.items; table = c.pass.new.table.table; binds = binder g.P.Ports.holds g.P.Ports.faults c.pass.new.table.ports; seen = g.O.Office.seen c.pass.new.office } in
     starved_left words before true c.pop.new.self c.pass.new.self (among c.pop.new.self.conns.items old) new refl popped c.in_err-note-2.field-0.0 c.in_err-note-2.ensures.gives
 
 pub returns-in-Some-2-clause-left : goal.returns-in-Some-2-clause-left
@@ -464,13 +465,13 @@ returns-in-Some-2-clause-left g c =
     let start : AllLeft before (begun self) = record { none = refl; numbers = refl } in
     let words : Words g.row.L.Denot g.row.P-P.Denot = record { most = g.P.P.Port.most; link = g.L.Link.holds; link_counts = g.L.Link.counts; port = g.P.P.Port.holds; port_counts = g.P.P.Port.counts } in
     let old : Moment g.row.L.Denot g.row.P-P.Denot =
-    record { conns = self.conns.items; table = c.args.table.now.table; faults = g.P.Ports.faults c.args.table.now.ports; seen = g.O.Office.seen c.args.office.now } in
+    record { conns = self.conns.items; table = c.args.table.now.table; binds = binder g.P.Ports.holds g.P.Ports.faults c.args.table.now.ports; seen = g.O.Office.seen c.args.office.now } in
     let A : Option Note → Type 0 = λ z. AcceptGives true (begun self) c.accept.new.self (Ok z) in
     let first = subst A c.in_default.is c.in_ok-note.ensures.gives in
     let accepted = idle_left before (begun self) c.accept.new.self first.0 start in
     let popped = idle_left before c.accept.new.self c.pop.new.self c.in_default-pop.ensures.gives.0 accepted in
     let mid : Moment g.row.L.Denot g.row.P-P.Denot =
-    record { conns = c.pass.new.self.conns.items; table = c.pass.new.table.table; faults = g.P.Ports.faults c.pass.new.table.ports; seen = g.O.Office.seen c.pass.new.office } in
+    record { conns = c.pass.new.self.conns.items; table = c.pass.new.table.table; binds = binder g.P.Ports.holds g.P.Ports.faults c.pass.new.table.ports; seen = g.O.Office.seen c.pass.new.office } in
     let U : Option Note → Type 0 = λ z. PassGives words true c.pop.new.self c.pass.new.self (among c.pop.new.self.conns.items old) mid (Ok z) in
     did_left words before true c.pop.new.self c.pass.new.self (among c.pop.new.self.conns.items old) mid refl popped c.in-Some-2.note (subst U c.in-Some-2.is c.in_ok-note-2.ensures.gives)
 
@@ -481,13 +482,13 @@ returns-in_err-note-3-clause-left g c =
     let start : AllLeft before (begun self) = record { none = refl; numbers = refl } in
     let words : Words g.row.L.Denot g.row.P-P.Denot = record { most = g.P.P.Port.most; link = g.L.Link.holds; link_counts = g.L.Link.counts; port = g.P.P.Port.holds; port_counts = g.P.P.Port.counts } in
     let old : Moment g.row.L.Denot g.row.P-P.Denot =
-    record { conns = self.conns.items; table = c.args.table.now.table; faults = g.P.Ports.faults c.args.table.now.ports; seen = g.O.Office.seen c.args.office.now } in
+    record { conns = self.conns.items; table = c.args.table.now.table; binds = binder g.P.Ports.holds g.P.Ports.faults c.args.table.now.ports; seen = g.O.Office.seen c.args.office.now } in
     let A : Option Note → Type 0 = λ z. AcceptGives true (begun self) c.accept.new.self (Ok z) in
     let first = subst A c.in_default.is c.in_ok-note.ensures.gives in
     let accepted = idle_left before (begun self) c.accept.new.self first.0 start in
     let popped = idle_left before c.accept.new.self c.pop.new.self c.in_default-pop.ensures.gives.0 accepted in
     let mid : Moment g.row.L.Denot g.row.P-P.Denot =
-    record { conns = c.pass.new.self.conns.items; table = c.pass.new.table.table; faults = g.P.Ports.faults c.pass.new.table.ports; seen = g.O.Office.seen c.pass.new.office } in
+    record { conns = c.pass.new.self.conns.items; table = c.pass.new.table.table; binds = binder g.P.Ports.holds g.P.Ports.faults c.pass.new.table.ports; seen = g.O.Office.seen c.pass.new.office } in
     let U : Option Note → Type 0 = λ z. PassGives words true c.pop.new.self c.pass.new.self (among c.pop.new.self.conns.items old) mid (Ok z) in
     let passed = passed_left words before true c.pop.new.self c.pass.new.self (among c.pop.new.self.conns.items old) mid refl popped refl (subst U c.in_default-2.is c.in_ok-note-2.ensures.gives) in
     refused_left before false c.pass.new.self c.accept-2.new.self c.in_err-note-3.field-0.0 c.in_err-note-3.ensures.gives passed
@@ -499,13 +500,13 @@ returns-in-Some-3-clause-left g c =
     let start : AllLeft before (begun self) = record { none = refl; numbers = refl } in
     let words : Words g.row.L.Denot g.row.P-P.Denot = record { most = g.P.P.Port.most; link = g.L.Link.holds; link_counts = g.L.Link.counts; port = g.P.P.Port.holds; port_counts = g.P.P.Port.counts } in
     let old : Moment g.row.L.Denot g.row.P-P.Denot =
-    record { conns = self.conns.items; table = c.args.table.now.table; faults = g.P.Ports.faults c.args.table.now.ports; seen = g.O.Office.seen c.args.office.now } in
+    record { conns = self.conns.items; table = c.args.table.now.table; binds = binder g.P.Ports.holds g.P.Ports.faults c.args.table.now.ports; seen = g.O.Office.seen c.args.office.now } in
     let A : Option Note → Type 0 = λ z. AcceptGives true (begun self) c.accept.new.self (Ok z) in
     let first = subst A c.in_default.is c.in_ok-note.ensures.gives in
     let accepted = idle_left before (begun self) c.accept.new.self first.0 start in
     let popped = idle_left before c.accept.new.self c.pop.new.self c.in_default-pop.ensures.gives.0 accepted in
     let mid : Moment g.row.L.Denot g.row.P-P.Denot =
-    record { conns = c.pass.new.self.conns.items; table = c.pass.new.table.table; faults = g.P.Ports.faults c.pass.new.table.ports; seen = g.O.Office.seen c.pass.new.office } in
+    record { conns = c.pass.new.self.conns.items; table = c.pass.new.table.table; binds = binder g.P.Ports.holds g.P.Ports.faults c.pass.new.table.ports; seen = g.O.Office.seen c.pass.new.office } in
     let U : Option Note → Type 0 = λ z. PassGives words true c.pop.new.self c.pass.new.self (among c.pop.new.self.conns.items old) mid (Ok z) in
     let passed = passed_left words before true c.pop.new.self c.pass.new.self (among c.pop.new.self.conns.items old) mid refl popped refl (subst U c.in_default-2.is c.in_ok-note-2.ensures.gives) in
     let B : Option Note → Type 0 = λ z. AcceptGives false c.pass.new.self c.accept-2.new.self (Ok z) in
@@ -518,13 +519,13 @@ returns-in-Some-pop-2-clause-left g c =
     let start : AllLeft before (begun self) = record { none = refl; numbers = refl } in
     let words : Words g.row.L.Denot g.row.P-P.Denot = record { most = g.P.P.Port.most; link = g.L.Link.holds; link_counts = g.L.Link.counts; port = g.P.P.Port.holds; port_counts = g.P.P.Port.counts } in
     let old : Moment g.row.L.Denot g.row.P-P.Denot =
-    record { conns = self.conns.items; table = c.args.table.now.table; faults = g.P.Ports.faults c.args.table.now.ports; seen = g.O.Office.seen c.args.office.now } in
+    record { conns = self.conns.items; table = c.args.table.now.table; binds = binder g.P.Ports.holds g.P.Ports.faults c.args.table.now.ports; seen = g.O.Office.seen c.args.office.now } in
     let A : Option Note → Type 0 = λ z. AcceptGives true (begun self) c.accept.new.self (Ok z) in
     let first = subst A c.in_default.is c.in_ok-note.ensures.gives in
     let accepted = idle_left before (begun self) c.accept.new.self first.0 start in
     let popped = idle_left before c.accept.new.self c.pop.new.self c.in_default-pop.ensures.gives.0 accepted in
     let mid : Moment g.row.L.Denot g.row.P-P.Denot =
-    record { conns = c.pass.new.self.conns.items; table = c.pass.new.table.table; faults = g.P.Ports.faults c.pass.new.table.ports; seen = g.O.Office.seen c.pass.new.office } in
+    record { conns = c.pass.new.self.conns.items; table = c.pass.new.table.table; binds = binder g.P.Ports.holds g.P.Ports.faults c.pass.new.table.ports; seen = g.O.Office.seen c.pass.new.office } in
     let U : Option Note → Type 0 = λ z. PassGives words true c.pop.new.self c.pass.new.self (among c.pop.new.self.conns.items old) mid (Ok z) in
     let passed = passed_left words before true c.pop.new.self c.pass.new.self (among c.pop.new.self.conns.items old) mid refl popped refl (subst U c.in_default-2.is c.in_ok-note-2.ensures.gives) in
     let B : Option Note → Type 0 = λ z. AcceptGives false c.pass.new.self c.accept-2.new.self (Ok z) in
@@ -539,13 +540,13 @@ returns-clause-left g c =
     let start : AllLeft before (begun self) = record { none = refl; numbers = refl } in
     let words : Words g.row.L.Denot g.row.P-P.Denot = record { most = g.P.P.Port.most; link = g.L.Link.holds; link_counts = g.L.Link.counts; port = g.P.P.Port.holds; port_counts = g.P.P.Port.counts } in
     let old : Moment g.row.L.Denot g.row.P-P.Denot =
-    record { conns = self.conns.items; table = c.args.table.now.table; faults = g.P.Ports.faults c.args.table.now.ports; seen = g.O.Office.seen c.args.office.now } in
+    record { conns = self.conns.items; table = c.args.table.now.table; binds = binder g.P.Ports.holds g.P.Ports.faults c.args.table.now.ports; seen = g.O.Office.seen c.args.office.now } in
     let A : Option Note → Type 0 = λ z. AcceptGives true (begun self) c.accept.new.self (Ok z) in
     let first = subst A c.in_default.is c.in_ok-note.ensures.gives in
     let accepted = idle_left before (begun self) c.accept.new.self first.0 start in
     let popped = idle_left before c.accept.new.self c.pop.new.self c.in_default-pop.ensures.gives.0 accepted in
     let mid : Moment g.row.L.Denot g.row.P-P.Denot =
-    record { conns = c.pass.new.self.conns.items; table = c.pass.new.table.table; faults = g.P.Ports.faults c.pass.new.table.ports; seen = g.O.Office.seen c.pass.new.office } in
+    record { conns = c.pass.new.self.conns.items; table = c.pass.new.table.table; binds = binder g.P.Ports.holds g.P.Ports.faults c.pass.new.table.ports; seen = g.O.Office.seen c.pass.new.office } in
     let U : Option Note → Type 0 = λ z. PassGives words true c.pop.new.self c.pass.new.self (among c.pop.new.self.conns.items old) mid (Ok z) in
     let passed = passed_left words before true c.pop.new.self c.pass.new.self (among c.pop.new.self.conns.items old) mid refl popped refl (subst U c.in_default-2.is c.in_ok-note-2.ensures.gives) in
     let B : Option Note → Type 0 = λ z. AcceptGives false c.pass.new.self c.accept-2.new.self (Ok z) in
@@ -553,5 +554,5 @@ returns-clause-left g c =
     let accepted_later = idle_left before c.pass.new.self c.accept-2.new.self second.0 passed in
     let popped_later = idle_left before c.accept-2.new.self c.pop-2.new.self c.in_default-pop-2.ensures.gives.0 accepted_later in
     let new : Moment g.row.L.Denot g.row.P-P.Denot =
-    record { conns = c.pass-2.new.self.conns.items; table = c.pass-2.new.table.table; faults = g.P.Ports.faults c.pass-2.new.table.ports; seen = g.O.Office.seen c.pass-2.new.office } in
+    record { conns = c.pass-2.new.self.conns.items; table = c.pass-2.new.table.table; binds = binder g.P.Ports.holds g.P.Ports.faults c.pass-2.new.table.ports; seen = g.O.Office.seen c.pass-2.new.office } in
     pass_left words before false c.pop-2.new.self c.pass-2.new.self (among c.pop-2.new.self.conns.items mid) new refl popped_later refl c.pass-2.result c.pass-2.ensures.gives
