@@ -6,7 +6,7 @@ ghost use Rattle.mq_machine.specs.State as machine;
 ghost use Rattle.mq_machine.specs.State.{Orders, new_worker, with_offer};
 ghost use Rattle.mq_machine.specs.Acting.{Outside, Known, Writes, Steps, binder};
 ghost use Rattle.mq_ports.specs.Tables.{IsBalanced};
-ghost use Rattle.mq_actor.specs.Ended.{numbers_in, AreLeft};
+ghost use Rattle.mq_actor.specs.Ended.{conn_numbers, offer_numbers, AreLeft};
 ghost use Rattle.mq_actor.specs.Holds.{IsWorker, numbers_of};
 ghost use Rattle.mq_actor.specs.Plain.{AlwaysTells, PlainStep};
 ghost use Rattle.mq_actor.specs.Seen.{SeesRing};
@@ -103,7 +103,7 @@ impl<L: WriteReady, P: Ports> Actor<L, P> {
             (record { ring = self.old.ring; table = self.old.table.table; binds = binder P.holds P.faults self.old.table.ports; seen = O.seen office.old; boxes = M.boxes mail.old })
             (record { ring = self.new.ring; table = self.new.table.table; binds = binder P.holds P.faults self.new.table.ports; seen = O.seen office.new; boxes = M.boxes mail.new }) w result }
         ensures ring { (self.new.alloc ≡ self.old.alloc) × (self.new.ring.id ≡ self.old.ring.id) × (self.new.ring.setup ≡ self.old.ring.setup) }
-        ensures left { AreLeft (numbers_in self.old.ring) self.new.ring }
+        ensures left { AreLeft (conn_numbers self.old.ring) (offer_numbers self.old.ring) self.new.ring }
         ensures office { (O.seen office.new).actor ≡ (O.seen office.old).actor }
         ensures mail { M.actor mail.new ≡ M.actor mail.old }
         ensures inboxes { M.count mail.new ≡ M.count mail.old }

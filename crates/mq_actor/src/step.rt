@@ -3,7 +3,7 @@ ghost use Rattle.std.specs.Prelude.{◌≡◌, ◌+◌};
 ghost use Rattle.mq_machine.specs.State.{Worker};
 ghost use Rattle.mq_machine.specs.Acting.{Outside, Known, Steps, binder};
 ghost use Rattle.mq_ports.specs.Tables.{IsBalanced};
-ghost use Rattle.mq_actor.specs.Ended.{numbers_in, AreLeft};
+ghost use Rattle.mq_actor.specs.Ended.{conn_numbers, offer_numbers, AreLeft};
 ghost use Rattle.mq_actor.specs.Holds.{IsWorker};
 ghost use Rattle.mq_actor.specs.Seen.{SeesRing};
 ghost use Rattle.mq_actor.specs.Steps.{sight};
@@ -39,7 +39,7 @@ impl<L: WriteReady> Ring<L> {
         ensures sights { (o : Outside) (w : Worker) → IsWorker P.P.most table.old.table self.old w → Known (sight o (O.seen office.old) (M.boxes mail.old)) w
             → (n : Outside) × SeesRing (record { most = P.P.most; link = L.holds; link_counts = L.counts; port = P.P.holds; port_counts = P.P.counts }) table.new.table (binder P.holds P.faults table.new.ports) self.new n }
         ensures ring { (self.new.id ≡ self.old.id) × (self.new.setup ≡ self.old.setup) }
-        ensures left { AreLeft (numbers_in self.old) self.new }
+        ensures left { AreLeft (conn_numbers self.old) (offer_numbers self.old) self.new }
         ensures office { (O.seen office.new).actor ≡ (O.seen office.old).actor }
         ensures mail { M.actor mail.new ≡ M.actor mail.old }
         ensures inboxes { M.count mail.new ≡ M.count mail.old }

@@ -9,7 +9,7 @@ use Rattle.mq_actor.specs.Seen.{Words, Moment}
 use Rattle.mq_actor.proofs.Returning.{begun, among, err_promise, known_conns, known_later, accept_refused, accept_did, pop_did, upper_stopped, accept_refused_later, accept_did_later, pop_did_later, lower_gives}
 use Rattle.mq_actor.proofs.Returning.{accept_refused_sights, accept_did_sights, pop_did_sights, upper_stopped_sights, accept_refused_later_sights}
 use Rattle.mq_actor.proofs.Returning.{accept_did_later_sights, pop_did_later_sights, lower_sights}
-use Rattle.mq_actor.specs.Ended.{numbers_in}
+use Rattle.mq_actor.specs.Ended.{conn_numbers, offer_numbers}
 use Rattle.mq_actor.proofs.Leaving.{AllLeft, idle_left, accept_left, refused_left, pop_left, passed_left, did_left, starved_left, pass_left}
 use Rattle.mq_actor.proofs.ring.Ring.step.Goals as goal
 
@@ -420,139 +420,148 @@ returns-clause-sights g c =
 pub returns-in_err-note-clause-left : goal.returns-in_err-note-clause-left
 returns-in_err-note-clause-left g c =
     let self = c.args.self.now in
-    let before = numbers_in self in
-    let start : AllLeft before (begun self) = record { none = refl; numbers = refl } in
-    refused_left before true (begun self) c.accept.new.self c.in_err-note.field-0.0 c.in_err-note.ensures.gives start
+    let conns = conn_numbers self in
+    let offers = offer_numbers self in
+    let start : AllLeft conns offers (begun self) = record { none = refl; numbers = refl; offered = refl } in
+    refused_left conns offers true (begun self) c.accept.new.self c.in_err-note.field-0.0 c.in_err-note.ensures.gives start
 
 pub returns-in-Some-clause-left : goal.returns-in-Some-clause-left
 returns-in-Some-clause-left g c =
     let self = c.args.self.now in
-    let before = numbers_in self in
-    let start : AllLeft before (begun self) = record { none = refl; numbers = refl } in
+    let conns = conn_numbers self in
+    let offers = offer_numbers self in
+    let start : AllLeft conns offers (begun self) = record { none = refl; numbers = refl; offered = refl } in
     let A : Option Note → Type 0 = λ z. AcceptGives true (begun self) c.accept.new.self (Ok z) in
-    accept_left before true (begun self) c.accept.new.self c.in-Some.note (subst A c.in-Some.is c.in_ok-note.ensures.gives) start
+    accept_left conns offers true (begun self) c.accept.new.self c.in-Some.note (subst A c.in-Some.is c.in_ok-note.ensures.gives) start
 
 pub returns-in-Some-pop-clause-left : goal.returns-in-Some-pop-clause-left
 returns-in-Some-pop-clause-left g c =
     let self = c.args.self.now in
-    let before = numbers_in self in
-    let start : AllLeft before (begun self) = record { none = refl; numbers = refl } in
+    let conns = conn_numbers self in
+    let offers = offer_numbers self in
+    let start : AllLeft conns offers (begun self) = record { none = refl; numbers = refl; offered = refl } in
     let A : Option Note → Type 0 = λ z. AcceptGives true (begun self) c.accept.new.self (Ok z) in
     let first = subst A c.in_default.is c.in_ok-note.ensures.gives in
-    let accepted = idle_left before (begun self) c.accept.new.self first.0 start in
-    pop_left before _ _ _ _ true c.accept.new.self c.pop.new.self c.in-Some-pop.note c.in-Some-pop.ensures.gives accepted
+    let accepted = idle_left conns offers (begun self) c.accept.new.self first.0 start in
+    pop_left conns offers _ _ _ _ true c.accept.new.self c.pop.new.self c.in-Some-pop.note c.in-Some-pop.ensures.gives accepted
 
 pub returns-in_err-note-2-clause-left : goal.returns-in_err-note-2-clause-left
 returns-in_err-note-2-clause-left g c =
     let self = c.args.self.now in
-    let before = numbers_in self in
-    let start : AllLeft before (begun self) = record { none = refl; numbers = refl } in
+    let conns = conn_numbers self in
+    let offers = offer_numbers self in
+    let start : AllLeft conns offers (begun self) = record { none = refl; numbers = refl; offered = refl } in
     let words : Words g.row.L.Denot g.row.P-P.Denot = record { most = g.P.P.Port.most; link = g.L.Link.holds; link_counts = g.L.Link.counts; port = g.P.P.Port.holds; port_counts = g.P.P.Port.counts } in
     let old : Moment g.row.L.Denot g.row.P-P.Denot =
     record { conns = self.conns.items; table = c.args.table.now.table; binds = binder g.P.Ports.holds g.P.Ports.faults c.args.table.now.ports; seen = g.O.Office.seen c.args.office.now } in
     let A : Option Note → Type 0 = λ z. AcceptGives true (begun self) c.accept.new.self (Ok z) in
     let first = subst A c.in_default.is c.in_ok-note.ensures.gives in
-    let accepted = idle_left before (begun self) c.accept.new.self first.0 start in
-    let popped = idle_left before c.accept.new.self c.pop.new.self c.in_default-pop.ensures.gives.0 accepted in
+    let accepted = idle_left conns offers (begun self) c.accept.new.self first.0 start in
+    let popped = idle_left conns offers c.accept.new.self c.pop.new.self c.in_default-pop.ensures.gives.0 accepted in
     let new : Moment g.row.L.Denot g.row.P-P.Denot =
     record { conns = c.pass.new.self.conns.items; table = c.pass.new.table.table; binds = binder g.P.Ports.holds g.P.Ports.faults c.pass.new.table.ports; seen = g.O.Office.seen c.pass.new.office } in
-    starved_left words before true c.pop.new.self c.pass.new.self (among c.pop.new.self.conns.items old) new refl popped c.in_err-note-2.field-0.0 c.in_err-note-2.ensures.gives
+    starved_left words conns offers true c.pop.new.self c.pass.new.self (among c.pop.new.self.conns.items old) new refl popped c.in_err-note-2.field-0.0 c.in_err-note-2.ensures.gives
 
 pub returns-in-Some-2-clause-left : goal.returns-in-Some-2-clause-left
 returns-in-Some-2-clause-left g c =
     let self = c.args.self.now in
-    let before = numbers_in self in
-    let start : AllLeft before (begun self) = record { none = refl; numbers = refl } in
+    let conns = conn_numbers self in
+    let offers = offer_numbers self in
+    let start : AllLeft conns offers (begun self) = record { none = refl; numbers = refl; offered = refl } in
     let words : Words g.row.L.Denot g.row.P-P.Denot = record { most = g.P.P.Port.most; link = g.L.Link.holds; link_counts = g.L.Link.counts; port = g.P.P.Port.holds; port_counts = g.P.P.Port.counts } in
     let old : Moment g.row.L.Denot g.row.P-P.Denot =
     record { conns = self.conns.items; table = c.args.table.now.table; binds = binder g.P.Ports.holds g.P.Ports.faults c.args.table.now.ports; seen = g.O.Office.seen c.args.office.now } in
     let A : Option Note → Type 0 = λ z. AcceptGives true (begun self) c.accept.new.self (Ok z) in
     let first = subst A c.in_default.is c.in_ok-note.ensures.gives in
-    let accepted = idle_left before (begun self) c.accept.new.self first.0 start in
-    let popped = idle_left before c.accept.new.self c.pop.new.self c.in_default-pop.ensures.gives.0 accepted in
+    let accepted = idle_left conns offers (begun self) c.accept.new.self first.0 start in
+    let popped = idle_left conns offers c.accept.new.self c.pop.new.self c.in_default-pop.ensures.gives.0 accepted in
     let mid : Moment g.row.L.Denot g.row.P-P.Denot =
     record { conns = c.pass.new.self.conns.items; table = c.pass.new.table.table; binds = binder g.P.Ports.holds g.P.Ports.faults c.pass.new.table.ports; seen = g.O.Office.seen c.pass.new.office } in
     let U : Option Note → Type 0 = λ z. PassGives words true c.pop.new.self c.pass.new.self (among c.pop.new.self.conns.items old) mid (Ok z) in
-    did_left words before true c.pop.new.self c.pass.new.self (among c.pop.new.self.conns.items old) mid refl popped c.in-Some-2.note (subst U c.in-Some-2.is c.in_ok-note-2.ensures.gives)
+    did_left words conns offers true c.pop.new.self c.pass.new.self (among c.pop.new.self.conns.items old) mid refl popped c.in-Some-2.note (subst U c.in-Some-2.is c.in_ok-note-2.ensures.gives)
 
 pub returns-in_err-note-3-clause-left : goal.returns-in_err-note-3-clause-left
 returns-in_err-note-3-clause-left g c =
     let self = c.args.self.now in
-    let before = numbers_in self in
-    let start : AllLeft before (begun self) = record { none = refl; numbers = refl } in
+    let conns = conn_numbers self in
+    let offers = offer_numbers self in
+    let start : AllLeft conns offers (begun self) = record { none = refl; numbers = refl; offered = refl } in
     let words : Words g.row.L.Denot g.row.P-P.Denot = record { most = g.P.P.Port.most; link = g.L.Link.holds; link_counts = g.L.Link.counts; port = g.P.P.Port.holds; port_counts = g.P.P.Port.counts } in
     let old : Moment g.row.L.Denot g.row.P-P.Denot =
     record { conns = self.conns.items; table = c.args.table.now.table; binds = binder g.P.Ports.holds g.P.Ports.faults c.args.table.now.ports; seen = g.O.Office.seen c.args.office.now } in
     let A : Option Note → Type 0 = λ z. AcceptGives true (begun self) c.accept.new.self (Ok z) in
     let first = subst A c.in_default.is c.in_ok-note.ensures.gives in
-    let accepted = idle_left before (begun self) c.accept.new.self first.0 start in
-    let popped = idle_left before c.accept.new.self c.pop.new.self c.in_default-pop.ensures.gives.0 accepted in
+    let accepted = idle_left conns offers (begun self) c.accept.new.self first.0 start in
+    let popped = idle_left conns offers c.accept.new.self c.pop.new.self c.in_default-pop.ensures.gives.0 accepted in
     let mid : Moment g.row.L.Denot g.row.P-P.Denot =
     record { conns = c.pass.new.self.conns.items; table = c.pass.new.table.table; binds = binder g.P.Ports.holds g.P.Ports.faults c.pass.new.table.ports; seen = g.O.Office.seen c.pass.new.office } in
     let U : Option Note → Type 0 = λ z. PassGives words true c.pop.new.self c.pass.new.self (among c.pop.new.self.conns.items old) mid (Ok z) in
-    let passed = passed_left words before true c.pop.new.self c.pass.new.self (among c.pop.new.self.conns.items old) mid refl popped refl (subst U c.in_default-2.is c.in_ok-note-2.ensures.gives) in
-    refused_left before false c.pass.new.self c.accept-2.new.self c.in_err-note-3.field-0.0 c.in_err-note-3.ensures.gives passed
+    let passed = passed_left words conns offers true c.pop.new.self c.pass.new.self (among c.pop.new.self.conns.items old) mid refl popped refl (subst U c.in_default-2.is c.in_ok-note-2.ensures.gives) in
+    refused_left conns offers false c.pass.new.self c.accept-2.new.self c.in_err-note-3.field-0.0 c.in_err-note-3.ensures.gives passed
 
 pub returns-in-Some-3-clause-left : goal.returns-in-Some-3-clause-left
 returns-in-Some-3-clause-left g c =
     let self = c.args.self.now in
-    let before = numbers_in self in
-    let start : AllLeft before (begun self) = record { none = refl; numbers = refl } in
+    let conns = conn_numbers self in
+    let offers = offer_numbers self in
+    let start : AllLeft conns offers (begun self) = record { none = refl; numbers = refl; offered = refl } in
     let words : Words g.row.L.Denot g.row.P-P.Denot = record { most = g.P.P.Port.most; link = g.L.Link.holds; link_counts = g.L.Link.counts; port = g.P.P.Port.holds; port_counts = g.P.P.Port.counts } in
     let old : Moment g.row.L.Denot g.row.P-P.Denot =
     record { conns = self.conns.items; table = c.args.table.now.table; binds = binder g.P.Ports.holds g.P.Ports.faults c.args.table.now.ports; seen = g.O.Office.seen c.args.office.now } in
     let A : Option Note → Type 0 = λ z. AcceptGives true (begun self) c.accept.new.self (Ok z) in
     let first = subst A c.in_default.is c.in_ok-note.ensures.gives in
-    let accepted = idle_left before (begun self) c.accept.new.self first.0 start in
-    let popped = idle_left before c.accept.new.self c.pop.new.self c.in_default-pop.ensures.gives.0 accepted in
+    let accepted = idle_left conns offers (begun self) c.accept.new.self first.0 start in
+    let popped = idle_left conns offers c.accept.new.self c.pop.new.self c.in_default-pop.ensures.gives.0 accepted in
     let mid : Moment g.row.L.Denot g.row.P-P.Denot =
     record { conns = c.pass.new.self.conns.items; table = c.pass.new.table.table; binds = binder g.P.Ports.holds g.P.Ports.faults c.pass.new.table.ports; seen = g.O.Office.seen c.pass.new.office } in
     let U : Option Note → Type 0 = λ z. PassGives words true c.pop.new.self c.pass.new.self (among c.pop.new.self.conns.items old) mid (Ok z) in
-    let passed = passed_left words before true c.pop.new.self c.pass.new.self (among c.pop.new.self.conns.items old) mid refl popped refl (subst U c.in_default-2.is c.in_ok-note-2.ensures.gives) in
+    let passed = passed_left words conns offers true c.pop.new.self c.pass.new.self (among c.pop.new.self.conns.items old) mid refl popped refl (subst U c.in_default-2.is c.in_ok-note-2.ensures.gives) in
     let B : Option Note → Type 0 = λ z. AcceptGives false c.pass.new.self c.accept-2.new.self (Ok z) in
-    accept_left before false c.pass.new.self c.accept-2.new.self c.in-Some-3.note (subst B c.in-Some-3.is c.in_ok-note-3.ensures.gives) passed
+    accept_left conns offers false c.pass.new.self c.accept-2.new.self c.in-Some-3.note (subst B c.in-Some-3.is c.in_ok-note-3.ensures.gives) passed
 
 pub returns-in-Some-pop-2-clause-left : goal.returns-in-Some-pop-2-clause-left
 returns-in-Some-pop-2-clause-left g c =
     let self = c.args.self.now in
-    let before = numbers_in self in
-    let start : AllLeft before (begun self) = record { none = refl; numbers = refl } in
+    let conns = conn_numbers self in
+    let offers = offer_numbers self in
+    let start : AllLeft conns offers (begun self) = record { none = refl; numbers = refl; offered = refl } in
     let words : Words g.row.L.Denot g.row.P-P.Denot = record { most = g.P.P.Port.most; link = g.L.Link.holds; link_counts = g.L.Link.counts; port = g.P.P.Port.holds; port_counts = g.P.P.Port.counts } in
     let old : Moment g.row.L.Denot g.row.P-P.Denot =
     record { conns = self.conns.items; table = c.args.table.now.table; binds = binder g.P.Ports.holds g.P.Ports.faults c.args.table.now.ports; seen = g.O.Office.seen c.args.office.now } in
     let A : Option Note → Type 0 = λ z. AcceptGives true (begun self) c.accept.new.self (Ok z) in
     let first = subst A c.in_default.is c.in_ok-note.ensures.gives in
-    let accepted = idle_left before (begun self) c.accept.new.self first.0 start in
-    let popped = idle_left before c.accept.new.self c.pop.new.self c.in_default-pop.ensures.gives.0 accepted in
+    let accepted = idle_left conns offers (begun self) c.accept.new.self first.0 start in
+    let popped = idle_left conns offers c.accept.new.self c.pop.new.self c.in_default-pop.ensures.gives.0 accepted in
     let mid : Moment g.row.L.Denot g.row.P-P.Denot =
     record { conns = c.pass.new.self.conns.items; table = c.pass.new.table.table; binds = binder g.P.Ports.holds g.P.Ports.faults c.pass.new.table.ports; seen = g.O.Office.seen c.pass.new.office } in
     let U : Option Note → Type 0 = λ z. PassGives words true c.pop.new.self c.pass.new.self (among c.pop.new.self.conns.items old) mid (Ok z) in
-    let passed = passed_left words before true c.pop.new.self c.pass.new.self (among c.pop.new.self.conns.items old) mid refl popped refl (subst U c.in_default-2.is c.in_ok-note-2.ensures.gives) in
+    let passed = passed_left words conns offers true c.pop.new.self c.pass.new.self (among c.pop.new.self.conns.items old) mid refl popped refl (subst U c.in_default-2.is c.in_ok-note-2.ensures.gives) in
     let B : Option Note → Type 0 = λ z. AcceptGives false c.pass.new.self c.accept-2.new.self (Ok z) in
     let second = subst B c.in_default-3.is c.in_ok-note-3.ensures.gives in
-    let accepted_later = idle_left before c.pass.new.self c.accept-2.new.self second.0 passed in
-    pop_left before _ _ _ _ false c.accept-2.new.self c.pop-2.new.self c.in-Some-pop-2.note c.in-Some-pop-2.ensures.gives accepted_later
+    let accepted_later = idle_left conns offers c.pass.new.self c.accept-2.new.self second.0 passed in
+    pop_left conns offers _ _ _ _ false c.accept-2.new.self c.pop-2.new.self c.in-Some-pop-2.note c.in-Some-pop-2.ensures.gives accepted_later
 
 pub returns-clause-left : goal.returns-clause-left
 returns-clause-left g c =
     let self = c.args.self.now in
-    let before = numbers_in self in
-    let start : AllLeft before (begun self) = record { none = refl; numbers = refl } in
+    let conns = conn_numbers self in
+    let offers = offer_numbers self in
+    let start : AllLeft conns offers (begun self) = record { none = refl; numbers = refl; offered = refl } in
     let words : Words g.row.L.Denot g.row.P-P.Denot = record { most = g.P.P.Port.most; link = g.L.Link.holds; link_counts = g.L.Link.counts; port = g.P.P.Port.holds; port_counts = g.P.P.Port.counts } in
     let old : Moment g.row.L.Denot g.row.P-P.Denot =
     record { conns = self.conns.items; table = c.args.table.now.table; binds = binder g.P.Ports.holds g.P.Ports.faults c.args.table.now.ports; seen = g.O.Office.seen c.args.office.now } in
     let A : Option Note → Type 0 = λ z. AcceptGives true (begun self) c.accept.new.self (Ok z) in
     let first = subst A c.in_default.is c.in_ok-note.ensures.gives in
-    let accepted = idle_left before (begun self) c.accept.new.self first.0 start in
-    let popped = idle_left before c.accept.new.self c.pop.new.self c.in_default-pop.ensures.gives.0 accepted in
+    let accepted = idle_left conns offers (begun self) c.accept.new.self first.0 start in
+    let popped = idle_left conns offers c.accept.new.self c.pop.new.self c.in_default-pop.ensures.gives.0 accepted in
     let mid : Moment g.row.L.Denot g.row.P-P.Denot =
     record { conns = c.pass.new.self.conns.items; table = c.pass.new.table.table; binds = binder g.P.Ports.holds g.P.Ports.faults c.pass.new.table.ports; seen = g.O.Office.seen c.pass.new.office } in
     let U : Option Note → Type 0 = λ z. PassGives words true c.pop.new.self c.pass.new.self (among c.pop.new.self.conns.items old) mid (Ok z) in
-    let passed = passed_left words before true c.pop.new.self c.pass.new.self (among c.pop.new.self.conns.items old) mid refl popped refl (subst U c.in_default-2.is c.in_ok-note-2.ensures.gives) in
+    let passed = passed_left words conns offers true c.pop.new.self c.pass.new.self (among c.pop.new.self.conns.items old) mid refl popped refl (subst U c.in_default-2.is c.in_ok-note-2.ensures.gives) in
     let B : Option Note → Type 0 = λ z. AcceptGives false c.pass.new.self c.accept-2.new.self (Ok z) in
     let second = subst B c.in_default-3.is c.in_ok-note-3.ensures.gives in
-    let accepted_later = idle_left before c.pass.new.self c.accept-2.new.self second.0 passed in
-    let popped_later = idle_left before c.accept-2.new.self c.pop-2.new.self c.in_default-pop-2.ensures.gives.0 accepted_later in
+    let accepted_later = idle_left conns offers c.pass.new.self c.accept-2.new.self second.0 passed in
+    let popped_later = idle_left conns offers c.accept-2.new.self c.pop-2.new.self c.in_default-pop-2.ensures.gives.0 accepted_later in
     let new : Moment g.row.L.Denot g.row.P-P.Denot =
     record { conns = c.pass-2.new.self.conns.items; table = c.pass-2.new.table.table; binds = binder g.P.Ports.holds g.P.Ports.faults c.pass-2.new.table.ports; seen = g.O.Office.seen c.pass-2.new.office } in
-    pass_left words before false c.pop-2.new.self c.pass-2.new.self (among c.pop-2.new.self.conns.items mid) new refl popped_later refl c.pass-2.result c.pass-2.ensures.gives
+    pass_left words conns offers false c.pop-2.new.self c.pass-2.new.self (among c.pop-2.new.self.conns.items mid) new refl popped_later refl c.pass-2.result c.pass-2.ensures.gives
