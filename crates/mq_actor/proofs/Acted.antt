@@ -61,7 +61,8 @@ pub mapped_none : (F : Held → Held) (o : Option Held) → None ≡ option_map 
 mapped_none F None e = refl
 mapped_none F (Some b) e = absurd cc
 
-cores_map : (F : Held → Held) (hs : List Held) → ((h : Held) → (F h).conn ≡ h.conn) → cores_of (map F hs) ≡ cores_of hs
+-- the cores stay where a change leaves each its own
+pub cores_map : (F : Held → Held) (hs : List Held) → ((h : Held) → (F h).conn ≡ h.conn) → cores_of (map F hs) ≡ cores_of hs
 cores_map F [] same = refl
 cores_map F (h ∷ hs) same = ap {B = List Conn} (λ (c : Conn). c ∷ cores_of (map F hs)) (same h) ∙ ap {B = List Conn} (λ (cs : List Conn). h.conn ∷ cs) (cores_map F hs same)
 

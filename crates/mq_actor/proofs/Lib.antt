@@ -41,3 +41,6 @@ pub mod Sighted
 pub mod Sights
 pub mod Plain
 mod Leaving
+pub mod Lending
+pub mod Lends
+pub mod Able

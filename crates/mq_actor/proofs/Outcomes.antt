@@ -1,6 +1,6 @@
 -- What a worker's step gives, where one of its connections acts.
 use Rattle.std.proofs.Common.{◌≡◌, ◌≢◌, ℕ, zero, suc, ◌+◌, Bool, List, [], ◌∷◌, remove, slice_get, slice_set, Option, Some, MatchOption, Result, Ok, Err, refl, sym, ap, subst, ◌∙◌, arith}
-use Rattle.std.specs.Prelude.{⊤, false}
+use Rattle.std.specs.Prelude.{⊤}
 use Rattle.mq_wire.specs.declared.NoMemory.{NoMemory}
 use Rattle.mq_talk.specs.declared.note.Note.{Note}
 use Rattle.mq_talk.specs.Mails.{Boxes}

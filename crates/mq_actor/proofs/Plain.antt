@@ -1,8 +1,8 @@
 -- Where all links and ports tell what they hold, a step of a worker is the machine's.
-use Rattle.std.proofs.Common.{◌≡◌, ℕ, ◌+◌, true, List, [], ◌∷◌, All, Option, Some, None, Result, refl, sym, ap, subst, ◌∙◌}
+use Rattle.std.proofs.Common.{◌≡◌, ℕ, ◌+◌, true, List, [], ◌∷◌, All, Option, Some, None, Result, sym, ap, subst, ◌∙◌}
 use Rattle.std.specs.Prelude.{IsSome}
 use Rattle.std.proofs.lemmas.List.Elements.{All-head, All-tail}
-use Rattle.slab.specs.Slab.{Slab, get}
+use Rattle.slab.specs.Slab.{Slab}
 use Rattle.mq_wire.specs.declared.NoMemory.{NoMemory}
 use Rattle.mq_talk.specs.declared.note.Note.{Note}
 use Rattle.mq_talk.specs.Mails.{Boxes, IsTold}
@@ -142,5 +142,5 @@ module _ {L Q : Type 0} (words : Words L Q) (self : Ring L) (old : Moment L Q) (
         binds_behind = n.1.binds_are;
         known = g.3;
         writes = g.4;
-        gives = told orders (sight b.0 old.seen boxes) (sight n.0 new.seen after) bs x g.0 result all whole mail g.5;
+        gives = told orders (sight b.0 old.seen boxes) (sight n.0 new.seen after) bs x g.0 result all g.2 whole mail g.5;
       }

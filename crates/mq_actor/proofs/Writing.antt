@@ -1,13 +1,13 @@
 -- What a step of a connection writes is its worker's own.
-use Rattle.std.proofs.Common.{◌≡◌, ◌⊎◌, inl, inr, ℕ, ◌≤◌, List, [], ◌∷◌, ◌++◌, length, All, Contains, Some, slice_get, refl, sym, ap, subst, ◌∙◌, append-nil, arith}
+use Rattle.std.proofs.Common.{◌≡◌, inl, inr, ℕ, List, [], ◌∷◌, ◌++◌, length, Contains, Some, slice_get, sym, subst, ◌∙◌, append-nil, arith}
 use Rattle.std.proofs.lemmas.List.Elements.{All-nil, All-cons}
 use Rattle.mq_talk.specs.declared.book.Call.TheVariants as call
 use Rattle.mq_talk.specs.declared.book.Entry.{Entry}
 use Rattle.mq_talk.specs.declared.book.Reply.TheVariants as reply
 use Rattle.mq_talk.specs.Offices.{Seen, Sees}
 use Rattle.mq_machine.specs.State.{Tunnel, Conn, Shared}
-use Rattle.mq_machine.specs.Acting.{IsOpen, IsOwn, Writes}
-use Rattle.mq_actor.specs.Goes.{Goes, Stays, Opens, Closes}
+use Rattle.mq_machine.specs.Acting.{IsOwn, Writes}
+use Rattle.mq_actor.specs.Goes.{Goes}
 use Rattle.mq_step.proofs.Wanting.{sees_same}
 use Rattle.mq_actor.proofs.Between.{get_append}
 

@@ -7,3 +7,5 @@ pub mod Seats
 pub mod Steps
 pub mod Plain
 pub mod Ended
+pub mod Lent
+pub mod Ready

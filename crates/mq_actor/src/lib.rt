@@ -6,11 +6,16 @@ mod accept;
 mod actor;
 mod connection;
 mod inbox;
+mod lend;
 mod offer;
 mod pass;
+mod quiet;
+mod ready;
 mod ring;
+mod seek;
 mod step;
 
 pub use actor::Actor;
 pub use offer::Offer;
+pub use ready::{ReadReady, SendReady};
 pub use ring::Ring;

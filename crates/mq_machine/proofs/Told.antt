@@ -1,5 +1,6 @@
 -- Where all is told, no other contents fit than the state's, so that a step is the machine's.
-use Rattle.std.proofs.Common.{◌≡◌, ℕ, true, List, [], ◌∷◌, ◌++◌, map, Option, Some, None, Result, Ok, Err, refl, sym, ap, subst, ◌∙◌, slice_get, append-nil}
+use Rattle.std.proofs.Common.{◌≡◌, ℕ, true, List, [], ◌∷◌, ◌++◌, map, All, Option, Some, None, Result, Ok, Err, refl, sym, ap, subst, ◌∙◌, slice_get, append-nil}
+use Rattle.std.proofs.lemmas.List.Elements.{All-head, All-tail}
 use Rattle.mq_machine.specs.declared.setup.Setup.{Setup}
 use Rattle.mq_wire.specs.declared.NoMemory.{NoMemory}
 use Rattle.mq_talk.specs.declared.book.Config.{Config}
@@ -8,7 +9,7 @@ use Rattle.mq_talk.specs.declared.note.Note.{Note}
 use Rattle.mq_talk.specs.declared.place.Parcel.{Parcel}
 use Rattle.mq_outside.specs.Ports.{PortHolds}
 use Rattle.mq_machine.specs.State.{Conn, Link, new_link, Port, Offer, Held, Worker, Orders, Shared}
-use Rattle.mq_machine.specs.Acting.{Outside, Sight, PortsTold, ConnsTold, OffersTold, PortsTell, ConnsTell, OffersTell, TellsAll, holds_of, holding, bare_port, bare_held, Refills, WasInbox, Meets, Leaves, shared_of, StepGives, PlainGives}
+use Rattle.mq_machine.specs.Acting.{Outside, Sight, PortsTold, ConnsTold, OffersTold, PortsTell, ConnsTell, OffersTell, TellsAll, HasTold, TellsSame, holds_of, holding, bare_port, bare_held, Refills, WasInbox, Meets, Leaves, shared_of, StepGives, PlainGives}
 use Rattle.mq_talk.specs.Mails.{IsTold}
 use Rattle.mq_machine.specs.Silent.{WorkerStarves}
 use Rattle.mq_machine.specs.Turn.{WorkerTurn, turn_of}
@@ -105,10 +106,40 @@ leaves orders old new sh after x = record { same = x.same; wrote = x.wrote; boxe
 box_was : (boxes : List (List Parcel)) (o : Option (List (List Parcel))) (id : ℕ) (box : List Parcel) → o ≡ Some boxes → WasInbox o id box → slice_get boxes id ≡ Some box
 box_was boxes o id box mail was = let P : Option (List (List Parcel)) → Type 0 = λ o. WasInbox o id box in subst P mail was
 
+-- ---- what is told stays told
+
+ports_tell : (o n : Outside) (ports : List Port) → PortsTell o ports → All (λ (p : Port). n.port p.tunnel ≡ o.port p.tunnel) ports → PortsTell n ports
+ports_tell o n [] tell same = tt
+ports_tell o n (p ∷ ports) tell same =
+    let S : Port → Type 0 = λ p. n.port p.tunnel ≡ o.port p.tunnel in
+    (All-head S p ports same ∙ tell.0, ports_tell o n ports tell.1 (All-tail S p ports same))
+
+conns_tell : (o n : Outside) (hs : List Held) → ConnsTell o hs → All (λ (h : Held). n.link h.conn.number ≡ o.link h.conn.number) hs
+    → All (λ (h : Held). All (λ (p : Port). n.port p.tunnel ≡ o.port p.tunnel) h.ports) hs → ConnsTell n hs
+conns_tell o n [] tell links ports = tt
+conns_tell o n (h ∷ hs) tell links ports =
+    let S : Held → Type 0 = λ h. n.link h.conn.number ≡ o.link h.conn.number in
+    let P : Held → Type 0 = λ h. All (λ (p : Port). n.port p.tunnel ≡ o.port p.tunnel) h.ports in (
+      All-head S h hs links ∙ tell.0,
+      ports_tell o n h.ports tell.1 (All-head P h hs ports),
+      conns_tell o n hs tell.2 (All-tail S h hs links) (All-tail P h hs ports),
+    )
+
+offers_tell : (o n : Outside) (fs : List Offer) → OffersTell o fs → All (λ (f : Offer). n.link f.number ≡ o.link f.number) fs → OffersTell n fs
+offers_tell o n [] tell links = tt
+offers_tell o n (f ∷ fs) tell links =
+    let S : Offer → Type 0 = λ f. n.link f.number ≡ o.link f.number in
+    (All-head S f fs links ∙ tell.0, offers_tell o n fs tell.1 (All-tail S f fs links))
+
+still_tells : (o n : Outside) (s : Worker) → TellsAll o s → TellsSame o n s → TellsAll n s
+still_tells o n s tells same = (conns_tell o n s.conns tells.0 same.links same.ports, offers_tell o n s.offered tells.1 same.offers)
+
+-- ---- the step
+
 pub told : (orders : Orders) (old new : Sight) (boxes : List (List Parcel)) (s t : Worker) (result : Result (Option Note) NoMemory)
-    → TellsAll old.outside s → old.seen.is_whole ≡ true → old.boxes ≡ Some boxes
+    → TellsAll old.outside s → HasTold new.outside t → old.seen.is_whole ≡ true → old.boxes ≡ Some boxes
     → StepGives orders old new s result t → PlainGives orders old new boxes s result t
-told orders old new boxes s t (Ok (Some note)) tells whole mail x =
+told orders old new boxes s t (Ok (Some note)) tells has whole mail x =
     let now = same_worker old.outside s x.now tells x.refills in
     let sh = shares orders old new boxes x.sh x.after whole mail x.meets in
     let Q : Worker → Type 0 = λ w. WorkerTurn w x.box x.sh x.answer note x.became x.after in
@@ -124,7 +155,7 @@ told orders old new boxes s t (Ok (Some note)) tells whole mail x =
       binds = x.binds;
       is = x.is;
     }
-told orders old new boxes s t (Ok None) tells whole mail x =
+told orders old new boxes s t (Ok None) tells has whole mail x =
     let now = same_worker old.outside s x.now tells x.refills in
     let same = told_same old.boxes x.boxes boxes mail x.told in
     let T : List (List Parcel) → Type 0 = λ b. IsTold new.boxes b in
@@ -135,10 +166,9 @@ told orders old new boxes s t (Ok None) tells whole mail x =
       seen = x.seen;
       boxes_after = subst T same x.tells;
       binds = x.binds;
-      outside = x.outside;
-      same = x.same;
+      same = same_worker new.outside s t (still_tells old.outside new.outside s tells x.outside) (record { same = x.same; told = has });
     }
-told orders old new boxes s t (Err fault) tells whole mail x =
+told orders old new boxes s t (Err fault) tells has whole mail x =
     let now = same_worker old.outside s x.now tells x.refills in
     let sh = shares orders old new boxes x.sh x.after whole mail x.meets in
     let Q : Worker → Type 0 = λ w. WorkerStarves w x.box x.sh x.reached x.answer t x.after in

@@ -334,7 +334,7 @@ pub record PlainDone (orders : Orders) (old new : Sight) (boxes : List (List Par
   pub binds : BindFits old.outside new.outside answer
   pub is : t ≡ with_prepared new.outside answer became
 
--- The worker had no turn.
+-- The worker had no turn, and nothing changed.
 pub record PlainQuiet (old new : Sight) (boxes : List (List Parcel)) (s : Worker) (t : Worker) : Type 0 where
   pub box : List Parcel
   pub was : slice_get boxes s.id ≡ Some box
@@ -342,8 +342,7 @@ pub record PlainQuiet (old new : Sight) (boxes : List (List Parcel)) (s : Worker
   pub seen : new.seen ≡ old.seen
   pub boxes_after : IsTold new.boxes boxes
   pub binds : new.outside.binds ≡ old.outside.binds
-  pub outside : TellsSame old.outside new.outside s
-  pub same : bare t ≡ bare s
+  pub same : t ≡ s
 
 -- Whose turn it was was refused memory.
 pub record PlainSilent (orders : Orders) (old new : Sight) (boxes : List (List Parcel)) (s : Worker) (t : Worker) : Type 0 where

@@ -22,7 +22,7 @@ use Rattle.mq_machine.specs.Steps.{can_read}
 use Rattle.mq_target.specs.Template.{IsTemplate}
 use Rattle.mq_machine.specs.Reading.{TookNext}
 use Rattle.mq_machine.specs.Silent.{Reached, ConnStarves, SilentTurn}
-use Rattle.mq_machine.specs.Acting.{Sight, TellsAll, StepGives, PlainGives}
+use Rattle.mq_machine.specs.Acting.{Sight, TellsAll, HasTold, StepGives, PlainGives}
 use Rattle.mq_machine.specs.Turn.{WorkerTurn, Actor, Turn, Quiet}
 use Rattle.mq_talk.specs.declared.book.Config.{Config}
 use Rattle.mq_talk.specs.declared.book.Entry.{Entry}
@@ -93,7 +93,7 @@ IsSilentOrQuiet = (old new : State) (actor : Actor) (reached : Reached) → Sile
 -- prepared; where it gave none the worker had no turn; and else it was refused memory at that turn.
 abbrev pub IsToldStep : Type 0
 IsToldStep = (orders : Orders) (old new : Sight) (boxes : List (List Parcel)) (s t : Worker) (result : Result (Option Note) NoMemory)
-    → TellsAll old.outside s → old.seen.is_whole ≡ true → old.boxes ≡ Some boxes
+    → TellsAll old.outside s → HasTold new.outside t → old.seen.is_whole ≡ true → old.boxes ≡ Some boxes
     → StepGives orders old new s result t → PlainGives orders old new boxes s result t
 
 -- the template of tunnels for UDP is one that a text tells

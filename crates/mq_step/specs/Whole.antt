@@ -1,6 +1,6 @@
 -- What the outside tells of a connection, with its link; and the connection that has this, and where nothing is told what was
 -- found.
-use Rattle.std.specs.Prelude.{◌≡◌, ◌||◌, ℕ, true, map, All, Option, Some, None}
+use Rattle.std.specs.Prelude.{◌≡◌, ◌||◌, true, map, All, Option, Some, None}
 use Rattle.slab.specs.Slab.{Slab}
 use Rattle.mq_outside.specs.Counts.{LinkCounts, PortCounts}
 use Rattle.mq_outside.specs.Ports.{PortHolds}

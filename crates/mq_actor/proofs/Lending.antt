@@ -1,0 +1,135 @@
+-- What stands at a place that a search found, and the link of a ring there.
+use Rattle.std.proofs.Common.{◌≡◌, ℕ, suc, ◌+◌, ◌<◌, ◌≤◌, ◌==◌, cond, Bool, true, false, List, [], ◌∷◌, length, nat_lt, Option, Some, None, slice_get, find, flat_map, get_or, drop, length-drop, position, option_map, refl, sym, ap, subst, ◌∙◌, arith}
+use Rattle.std.specs.List.{position_or_len}
+use Rattle.std.specs.Option.{option_or, option_map_or}
+use Rattle.std.specs.Vec.{with_item}
+use Rattle.std.specs.VecDeque.{deque_with_item}
+use Rattle.std.proofs.lemmas.Bool.{ltb-true, ltb-false}
+use Rattle.std.proofs.Math.Seq.{drop-cons}
+use Rattle.std.proofs.lemmas.List.{nil_from_length}
+use Rattle.std.proofs.lemmas.List.Concat.{flat_map-cons}
+use Rattle.std.proofs.lemmas.List.Folds.{find_at, find-append}
+use Rattle.std.proofs.lemmas.Option.{slice_get_past}
+use Rattle.mq_held.specs.declared.held.Held.{Held as HeldBy}
+use Rattle.mq_held.specs.declared.held.PortSeat.{PortSeat}
+use Rattle.mq_actor.specs.declared.offer.Offer.{Offer as OfferBy}
+use Rattle.mq_actor.specs.declared.ring.Ring.{Ring}
+use Rattle.mq_actor.specs.Lent.{link_at, with_link, with_conn_link, with_offer_link}
+use Rattle.mq_actor.proofs.Pointwise.{there}
+
+-- ---- searches
+
+module _ {A : Type 0} (p : A → Bool) (xs : List A) where
+  found_by : (k : ℕ) → k ≡ position_or_len p xs → (b : Bool) → nat_lt k (length xs) ≡ b → (i : ℕ)
+      → ◌≡◌ {A = Option ℕ} (cond b (Some k) None) (Some i) → (x : A) × (slice_get xs i ≡ Some x) × (find p xs ≡ Some x)
+  found_by k is true less i e =
+      let x = there xs k (ltb-true k (length xs) less) in
+      let same : k ≡ i = cc in (
+        x.0,
+        subst (λ (j : ℕ). slice_get xs j ≡ Some x.0) same x.1,
+        find_at p xs ∙ subst (λ (j : ℕ). slice_get xs j ≡ Some x.0) is x.1,
+      )
+  found_by k is false less i e = absurd cc
+
+  -- the element at the place is the one that is found
+  pub found : (i : ℕ) → position p xs ≡ Some i → (x : A) × (slice_get xs i ≡ Some x) × (find p xs ≡ Some x)
+  found i e = found_by (position_or_len p xs) refl (nat_lt (position_or_len p xs) (length xs)) refl i e
+
+  missing_by : (k : ℕ) → k ≡ position_or_len p xs → (b : Bool) → nat_lt k (length xs) ≡ b
+      → ◌≡◌ {A = Option ℕ} (cond b (Some k) None) None → find p xs ≡ None
+  missing_by k is true less e = absurd cc
+  missing_by k is false less e =
+      find_at p xs ∙ subst (λ (j : ℕ). slice_get xs j ≡ None) is (slice_get_past xs k (ltb-false k (length xs) less))
+
+  pub missing : position p xs ≡ None → find p xs ≡ None
+  missing e = missing_by (position_or_len p xs) refl (nat_lt (position_or_len p xs) (length xs)) refl e
+
+-- ---- links
+
+module _ {L : Type 0} (r : Ring L) where
+  -- with a link of the connection at a place
+  pub conn_link : (place : ℕ) (h : HeldBy L) (link : L) → slice_get r.conns.items place ≡ Some h
+      → record r { conns = with_item r.conns place (record h { link = link }) } ≡ with_conn_link r place link
+  conn_link place h link at =
+      ap {B = Ring L} (λ (o : Option (HeldBy L)). option_map_or (λ (g : HeldBy L). record r { conns = with_item r.conns place (record g { link = link }) }) o r) (sym at)
+
+  pub offer_link : (place : ℕ) (f : OfferBy L) (link : L) → slice_get r.offered.items place ≡ Some f
+      → record r { offered = deque_with_item r.offered place (record f { link = link }) } ≡ with_offer_link r place link
+  offer_link place f link at =
+      ap {B = Ring L} (λ (o : Option (OfferBy L)). option_map_or (λ (g : OfferBy L). record r { offered = deque_with_item r.offered place (record g { link = link }) }) o r) (sym at)
+
+module _ {L : Type 0} (r : Ring L) (number : ℕ) where
+  abbrev has : HeldBy L → Bool
+  has h = h.number == number
+
+  abbrev offers : OfferBy L → Bool
+  offers f = f.number == number
+
+  abbrev chain : Option ℕ → Option ℕ → L → Ring L
+  chain o u link = option_map_or (λ i. with_conn_link r i link) o (option_map_or (λ i. with_offer_link r i link) u r)
+
+  -- a connection has the number
+  pub at_conn : (place : ℕ) → position has r.conns.items ≡ Some place
+      → (h : HeldBy L) × (slice_get r.conns.items place ≡ Some h) × (link_at number r ≡ Some h.link)
+      × (with_conn_link r place ≡ with_link number r)
+  at_conn place is =
+      let x = found has r.conns.items place is in
+      let offered = option_map (λ (f : OfferBy L). f.link) (find offers r.offered.items) in (
+        x.0,
+        x.1,
+        ap {B = Option L} (λ (o : Option (HeldBy L)). option_or (option_map (λ (h : HeldBy L). h.link) o) offered) x.2,
+        ap {B = L → Ring L} (λ (o : Option ℕ). chain o (position offers r.offered.items)) (sym is),
+      )
+
+  -- no connection has it, but an offer
+  pub at_offer : (place : ℕ) → position has r.conns.items ≡ None → position offers r.offered.items ≡ Some place
+      → (f : OfferBy L) × (slice_get r.offered.items place ≡ Some f) × (link_at number r ≡ Some f.link)
+      × (with_offer_link r place ≡ with_link number r)
+  at_offer place none is =
+      let x = found offers r.offered.items place is in (
+        x.0,
+        x.1,
+        rw (missing has r.conns.items none, x.2) refl,
+        ap {B = L → Ring L} (λ (u : Option ℕ). chain None u) (sym is)
+            ∙ ap {B = L → Ring L} (λ (o : Option ℕ). chain o (position offers r.offered.items)) (sym none),
+      )
+
+  -- nothing has it
+  pub at_none : position has r.conns.items ≡ None → position offers r.offered.items ≡ None → link_at number r ≡ None
+  at_none none never = rw (missing has r.conns.items none, missing offers r.offered.items never) refl
+
+-- ---- seats
+
+module _ {L : Type 0} (hs : List (HeldBy L)) (tunnel : ℕ) where
+  abbrev is : PortSeat → Bool
+  is seat = seat.tunnel == tunnel
+
+  abbrev seats : List (HeldBy L) → List PortSeat
+  seats gs = flat_map (λ (h : HeldBy L). h.ports.items) gs
+
+  -- what the search finds among the connections from a place on
+  pub from_place : (i : ℕ) (h : HeldBy L) → i < length hs → h ≡ get_or hs i h
+      → find is (seats (drop i hs)) ≡ option_or (find is h.ports.items) (find is (seats (drop (i + 1) hs)))
+  from_place i h less at =
+      let next : suc i ≡ i + 1 = omega arith in
+      subst (λ (k : ℕ). find is (seats (drop i hs)) ≡ option_or (find is h.ports.items) (find is (seats (drop k hs)))) next
+      (ap {B = Option PortSeat} (λ (gs : List (HeldBy L)). find is (seats gs)) (drop-cons hs i h less)
+      ∙ ap {B = Option PortSeat} (λ (g : HeldBy L). find is (seats (g ∷ drop (suc i) hs))) (sym at)
+      ∙ ap {B = Option PortSeat} (λ (ss : List PortSeat). find is ss) (flat_map-cons (λ (g : HeldBy L). g.ports.items) h (drop (suc i) hs))
+      ∙ find-append is h.ports.items (seats (drop (suc i) hs)))
+
+  pub seat_there : (i : ℕ) (h : HeldBy L) (seat : PortSeat) → i < length hs → h ≡ get_or hs i h → find is h.ports.items ≡ Some seat
+      → find is (seats (drop i hs)) ≡ Some seat
+  seat_there i h seat less at here =
+      from_place i h less at ∙ ap {B = Option PortSeat} (λ (o : Option PortSeat). option_or o (find is (seats (drop (i + 1) hs)))) here
+
+  pub seat_behind : (i : ℕ) (h : HeldBy L) → i < length hs → h ≡ get_or hs i h → find is h.ports.items ≡ None
+      → find is (seats (drop i hs)) ≡ find is (seats (drop (i + 1) hs))
+  seat_behind i h less at none =
+      from_place i h less at ∙ ap {B = Option PortSeat} (λ (o : Option PortSeat). option_or o (find is (seats (drop (i + 1) hs)))) none
+
+  pub no_seat : (i : ℕ) → length hs ≤ i → find is (seats (drop i hs)) ≡ None
+  no_seat i past =
+      let cut = length-drop i hs in
+      let none : drop i hs ≡ [] = nil_from_length (drop i hs) (omega (arith, cut, past)) in
+      ap {B = Option PortSeat} (λ (gs : List (HeldBy L)). find is (seats gs)) none
