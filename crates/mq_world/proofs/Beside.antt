@@ -1,5 +1,5 @@
 -- What one worker wrote leaves what another one's office knows.
-use Rattle.std.proofs.Common.{◌≡◌, ◌≢◌, ◌⊎◌, inl, inr, ℕ, ◌+◌, ◌<◌, ◌≤◌, ◌==◌, Bool, true, false, ◌||◌, List, [], ◌∷◌, ◌++◌, length, All, slice_get, Some, None, refl, sym, ap, subst, ◌∙◌, arith, append-nil}
+use Rattle.std.proofs.Common.{◌≡◌, ◌≢◌, ◌⊎◌, inl, inr, ℕ, ◌+◌, ◌<◌, ◌≤◌, Bool, true, false, ◌||◌, [], ◌∷◌, ◌++◌, length, All, slice_get, Some, refl, sym, ap, subst, ◌∙◌, arith, append-nil}
 use Rattle.std.proofs.lemmas.Bool.{ne_eqb}
 use Rattle.std.proofs.lemmas.List.{length-append}
 use Rattle.std.proofs.lemmas.List.Elements.{All-head, All-weaker}
@@ -11,7 +11,7 @@ use Rattle.mq_talk.specs.Book.{History, closes}
 use Rattle.mq_talk.specs.Mails.{Boxes}
 use Rattle.mq_talk.specs.Offices.{Seen}
 use Rattle.mq_machine.specs.State.{Held, Worker}
-use Rattle.mq_machine.specs.Acting.{Outside, IsOpen, IsOwn, Writes, HasTunnel, Known}
+use Rattle.mq_machine.specs.Acting.{Outside, IsOpen, IsOwn, Writes, Known}
 use Rattle.mq_actor.specs.Steps.{sight}
 use Rattle.mq_actor.proofs.Books.{any_closes, open_onward, open_backward, entry_or_last}
 

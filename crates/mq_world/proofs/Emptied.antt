@@ -1,7 +1,7 @@
 -- The port of a tunnel that opens holds nothing: behind a turn no port of the next number holds anything.
-use Rattle.std.proofs.Common.{◌≡◌, ◌≢◌, ◌⊎◌, inl, inr, ℕ, ◌+◌, ◌<◌, ◌==◌, nat_lt, Bool, true, false, not, cond, List, [], ◌∷◌, ◌++◌, length, map, filter, find, slice_get, Option, Some, None, refl, sym, ap, subst, ◌∙◌, arith}
+use Rattle.std.proofs.Common.{◌≡◌, ◌≢◌, ◌⊎◌, inl, inr, ℕ, ◌==◌, nat_lt, Bool, true, false, not, cond, List, [], ◌∷◌, ◌++◌, length, map, find, Option, Some, None, refl, sym, ap, subst, ◌∙◌}
 use Rattle.std.specs.Prelude.{⊤, option_map, if◌then◌else◌}
-use Rattle.std.proofs.lemmas.Bool.{cases_eq, eq-eqb, ne_eqb}
+use Rattle.std.proofs.lemmas.Bool.{ne_eqb}
 use Rattle.mq_outside.specs.Ports.{PortHolds, empty_port}
 use Rattle.mq_talk.specs.declared.book.Call.{Call}
 use Rattle.mq_talk.specs.declared.book.Call.TheVariants as call
@@ -10,13 +10,13 @@ use Rattle.mq_talk.specs.declared.book.Reply.TheVariants as reply
 use Rattle.mq_talk.specs.declared.goal.Goal.TheVariants as goal
 use Rattle.mq_talk.specs.declared.note.Note.{Note}
 use Rattle.mq_machine.specs.declared.setup.Setup.{Setup}
-use Rattle.mq_machine.specs.State.{Conn, Tunnel, tunnel_of, Port, Held, Offer, Worker, Shared}
+use Rattle.mq_machine.specs.State.{Conn, Tunnel, tunnel_of, Port, Held, Worker, Shared}
 use Rattle.mq_machine.specs.Want.{Want, Nothing, Say, Bind, Ask, Judge, Push, Send, Over, Answer, Said, Bound, Replied, Judged, Pushed, Put, want_of}
 use Rattle.mq_machine.specs.Shared.{at_port, without_port, ports_after, port_sent, port_of}
 use Rattle.mq_machine.specs.Done.{done}
 use Rattle.mq_machine.specs.Steps.{framed, received, port_received}
 use Rattle.mq_machine.specs.Acting.{Outside, holds_of, holding, prepared, with_prepared}
-use Rattle.mq_machine.specs.Turn.{Try, Act, Frame, Write, Read, Receive, with_conn, over_or, ActNext, TakesNext, WriteNext, ReadNext, PortNext, ReceiveNext, TryNext, write_failed, read_failed, receive_failed, HeldDone, received_from, replace, frame_done, SeatNext, Seat, Offers, Inbox, Of}
+use Rattle.mq_machine.specs.Turn.{Try, Act, Frame, Write, Read, Receive, with_conn, over_or, ActNext, TakesNext, WriteNext, ReadNext, PortNext, ReceiveNext, TryNext, write_failed, read_failed, receive_failed, HeldDone, received_from, replace}
 use Rattle.mq_play.specs.Events.{with_ports, with_held_ports}
 
 -- ---- ports

@@ -1,9 +1,9 @@
 -- The link of a number changes, and so does the machine's.
-use Rattle.std.proofs.Common.{◌≡◌, ◌≢◌, ◌⊎◌, inl, inr, ℕ, zero, suc, ◌+◌, ◌<◌, ◌==◌, Bool, true, false, cond, List, [], ◌∷◌, ◌++◌, length, map, find, position, All, slice_get, slice_set, Option, Some, None, option_map, refl, sym, ap, subst, ◌∙◌, arith}
-use Rattle.std.specs.Prelude.{⊤, if◌then◌else◌}
+use Rattle.std.proofs.Common.{◌≡◌, ◌≢◌, ℕ, zero, suc, ◌+◌, ◌<◌, ◌==◌, Bool, true, false, cond, List, [], ◌∷◌, ◌++◌, length, map, find, position, All, slice_get, slice_set, Option, Some, None, refl, sym, ap, subst, ◌∙◌, arith}
+use Rattle.std.specs.Prelude.{if◌then◌else◌}
 use Rattle.std.specs.Vec.{with_item}
 use Rattle.std.specs.VecDeque.{deque_with_item}
-use Rattle.std.proofs.lemmas.Bool.{cases_eq, eq-eqb, ne_eqb, eqb-true}
+use Rattle.std.proofs.lemmas.Bool.{eq-eqb, ne_eqb, eqb-true}
 use Rattle.std.proofs.lemmas.List.Elements.{All-map, All-weaker}
 use Rattle.slab.specs.Slab.{Slab}
 use Rattle.mq_machine.specs.State.{Link, Offer, Held, Worker}
@@ -12,8 +12,8 @@ use Rattle.mq_step.specs.Holds.{IsHeld}
 use Rattle.mq_actor.specs.declared.offer.Offer.{Offer as OfferBy}
 use Rattle.mq_actor.specs.declared.ring.Ring.{Ring}
 use Rattle.mq_actor.specs.Ended.{conn_numbers, offer_numbers, numbers_in}
-use Rattle.mq_actor.specs.Holds.{IsWorker, AreHeld, AreOffered, AreDistinct, numbers_of}
-use Rattle.mq_actor.specs.Lent.{link_at, with_link, with_conn_link, with_offer_link}
+use Rattle.mq_actor.specs.Holds.{IsWorker, AreHeld, AreOffered, numbers_of}
+use Rattle.mq_actor.specs.Lent.{link_at, with_link}
 use Rattle.mq_actor.specs.Seen.{Words}
 use Rattle.mq_actor.specs.Told.{TellPorts, TellsConn, TellConns, TellOffers, TellsRing}
 use Rattle.mq_actor.proofs.Lending.{found, missing, at_conn, at_offer as offer_found, at_none, conn_link, offer_link}

@@ -1,6 +1,6 @@
 -- The port of a tunnel changes, and so does the machine's.
-use Rattle.std.proofs.Common.{◌≡◌, ◌≢◌, ◌⊎◌, inl, inr, ℕ, zero, suc, ◌+◌, ◌<◌, ◌≤◌, ◌==◌, Bool, true, false, cond, List, [], ◌∷◌, ◌++◌, length, map, find, flat_map, All, slice_get, Option, Some, None, refl, sym, ap, subst, ◌∙◌, arith}
-use Rattle.std.specs.Prelude.{⊤, if◌then◌else◌}
+use Rattle.std.proofs.Common.{◌≡◌, ◌≢◌, ◌⊎◌, inl, inr, ℕ, zero, suc, ◌==◌, Bool, true, false, cond, List, [], ◌∷◌, map, find, flat_map, All, slice_get, Option, Some, None, refl, sym, ap, subst, ◌∙◌, arith}
+use Rattle.std.specs.Prelude.{if◌then◌else◌}
 use Rattle.std.specs.Option.{option_or}
 use Rattle.std.proofs.lemmas.Bool.{cases_eq, eq-eqb, ne_eqb}
 use Rattle.std.proofs.lemmas.List.Elements.{All-cons, All-head, All-tail, All-nil, All-map}
@@ -12,13 +12,13 @@ use Rattle.mq_machine.specs.Shared.{at_port}
 use Rattle.mq_machine.specs.Acting.{holds_of}
 use Rattle.mq_held.specs.declared.held.Held.{Held as HeldBy}
 use Rattle.mq_held.specs.declared.held.PortSeat.{PortSeat}
-use Rattle.mq_step.specs.Holds.{IsHeld, IsPort, ArePorts, AreServed, IsOther, tunnels_of}
+use Rattle.mq_step.specs.Holds.{IsPort, ArePorts, AreServed, IsOther, tunnels_of}
 use Rattle.mq_step.proofs.Passing.{at_most_one}
 use Rattle.mq_actor.specs.declared.ring.Ring.{Ring}
-use Rattle.mq_actor.specs.Holds.{IsWorker, AreHeld, AreOthers, HaveOwnPorts}
+use Rattle.mq_actor.specs.Holds.{IsWorker, AreHeld}
 use Rattle.mq_actor.specs.Lent.{seat_at}
 use Rattle.mq_actor.specs.Seen.{Words}
-use Rattle.mq_actor.specs.Told.{TellsPort, TellPorts, TellsConn, TellConns, TellsRing}
+use Rattle.mq_actor.specs.Told.{TellsPort, TellPorts, TellConns, TellsRing}
 use Rattle.mq_actor.proofs.Helds.{held_at}
 use Rattle.mq_actor.proofs.InRing.{at_all}
 use Rattle.mq_actor.proofs.Pointwise.{within}

@@ -1,8 +1,8 @@
 -- A worker of a world whose link or port became another.
-use Rattle.std.proofs.Common.{◌≡◌, ◌≢◌, ◌⊎◌, inl, inr, ℕ, zero, suc, ◌+◌, ◌==◌, Bool, true, false, List, [], ◌∷◌, length, map, All, slice_get, Option, Some, None, refl, sym, ap, subst, ◌∙◌}
+use Rattle.std.proofs.Common.{◌≡◌, ℕ, zero, suc, ◌==◌, Bool, true, false, List, [], ◌∷◌, All, slice_get, Option, Some, None, refl, sym, ap, subst, ◌∙◌}
 use Rattle.std.specs.Prelude.{option_and_then, if◌then◌else◌}
 use Rattle.std.specs.Option.{option_map_or}
-use Rattle.slab.specs.Slab.{Slab, get, with_value}
+use Rattle.slab.specs.Slab.{get, with_value}
 use Rattle.slab.proofs.SlabLemmas.{Updates-with_value}
 use Rattle.mq_outside.specs.Counts.{no_link_counts, no_port_counts}
 use Rattle.mq_talk.specs.Mails.{Boxes}
@@ -11,23 +11,21 @@ use Rattle.mq_machine.specs.State.{Link, Told, Port, Held, Worker}
 use Rattle.mq_machine.specs.Acting.{Outside, Known, holds_of}
 use Rattle.mq_mem.specs.Links.{Link as LinkOf}
 use Rattle.mq_mem.specs.Ports.{Port as PortOf}
-use Rattle.mq_held.specs.declared.held.Held.{Held as HeldBy}
 use Rattle.mq_held.specs.declared.held.PortSeat.{PortSeat}
 use Rattle.mq_step.specs.Holds.{ArePorts}
-use Rattle.mq_actor.specs.Holds.{IsWorker}
 use Rattle.mq_actor.specs.Lent.{link_at, with_link, seat_at, port_at, with_port}
 use Rattle.mq_actor.specs.Steps.{sight}
 use Rattle.mq_actor.proofs.Between.{apart_of}
 use Rattle.mq_actor.proofs.Acted.{cores_map}
 use Rattle.mq_actor.proofs.Cores.{cores_of}
 use Rattle.mq_actor.proofs.Helds.{held_at}
-use Rattle.mq_actor.proofs.Lends.{link_stands, port_stands, worker_sized, value_sized}
+use Rattle.mq_actor.proofs.Lends.{link_stands, worker_sized, value_sized}
 use Rattle.mq_actor.proofs.Sighted.{own_tunnels}
 use Rattle.mq_actor.proofs.Tunnels.{known_same}
 use Rattle.mq_play.specs.Events.{at_held, at_worker, with_ports, with_held_ports}
 use Rattle.mq_world.specs.Served.{words, Plain, IsOf, Serves}
 use Rattle.mq_world.proofs.Linking.{stands_linked, lent_linked, unlent_linked, linked_same}
-use Rattle.mq_world.proofs.Porting.{Keeps, StandsAt, found_seat, stands_changed, tells_changed, unlent_same}
+use Rattle.mq_world.proofs.Porting.{Keeps, found_seat, stands_changed, tells_changed, unlent_same}
 
 -- nothing is told
 pub nowhere : Outside

@@ -1,20 +1,18 @@
 -- What a step of a worker of a world gives, by what the step of its actor promises where all is told.
-use Rattle.std.proofs.Common.{◌≡◌, ◌⊎◌, inl, inr, ℕ, zero, suc, ◌+◌, Bool, true, false, not, List, [], ◌∷◌, ◌++◌, length, All, slice_get, Option, Some, None, Result, Ok, Err, refl, sym, ap, subst, ◌∙◌}
+use Rattle.std.proofs.Common.{◌≡◌, ◌⊎◌, inl, inr, ℕ, zero, suc, Bool, true, false, not, List, [], ◌∷◌, ◌++◌, length, All, Option, Some, None, Result, Ok, Err, refl, sym, ap, subst, ◌∙◌}
 use Rattle.std.specs.Prelude.{remove, MatchOption}
 use Rattle.std.proofs.lemmas.List.Elements.{All-cons, All-head, All-tail}
 use Rattle.mq_wire.specs.declared.NoMemory.{NoMemory}
 use Rattle.mq_outside.specs.Ports.{PortsHolds, empty_port}
-use Rattle.mq_talk.specs.declared.book.Entry.{Entry}
 use Rattle.mq_talk.specs.declared.note.Note.{Note}
-use Rattle.mq_talk.specs.declared.place.Parcel.{Parcel}
 use Rattle.mq_talk.specs.Mails.{Boxes}
 use Rattle.mq_talk.specs.Offices.{Seen}
 use Rattle.mq_machine.specs.State.{Told, Worker, Shared, Orders}
 use Rattle.mq_machine.specs.Want.{Answer, Said, Bound, Replied, Judged, Pushed, Put}
 use Rattle.mq_machine.specs.Shared.{Ordered}
-use Rattle.mq_machine.specs.Silent.{Reached, WorkerStarves}
+use Rattle.mq_machine.specs.Silent.{WorkerStarves}
 use Rattle.mq_machine.specs.Turn.{WorkerTurn}
-use Rattle.mq_machine.specs.Acting.{Outside, Binder, Binds, BindFits, Known, Writes, Leaves, PlainDone, PlainQuiet, PlainSilent, PlainGives, holding, with_prepared}
+use Rattle.mq_machine.specs.Acting.{Outside, Binder, Binds, BindFits, Writes, Leaves, PlainGives, holding}
 use Rattle.mq_mem.specs.Links.{Link as LinkOf}
 use Rattle.mq_mem.specs.Mails.{Mail as MailOf}
 use Rattle.mq_mem.specs.Offices.{Office as OfficeOf, seen_of}
@@ -27,7 +25,7 @@ use Rattle.mq_actor.specs.Steps.{sight}
 use Rattle.mq_actor.proofs.Tunnels.{known_same}
 use Rattle.mq_play.specs.Events.{with_held_ports}
 use Rattle.mq_world.specs.Served.{words, Plain, IsOf, Serves}
-use Rattle.mq_world.specs.Taking.{Common, shared_of, Leads, Turns, Idles, Starves, Gives, Took}
+use Rattle.mq_world.specs.Taking.{Common, shared_of, Leads, Gives, Took}
 use Rattle.mq_world.proofs.Turned.{turn_emptied, still_emptied, starved_emptied}
 
 -- ---- the numbers that are left

@@ -1,9 +1,8 @@
 -- Behind each turn of a worker the port of the next number holds nothing, once what it was prepared to hold is gone.
-use Rattle.std.proofs.Common.{◌≡◌, ◌≢◌, ◌⊎◌, inl, inr, ℕ, zero, suc, ◌+◌, ◌<◌, Bool, true, false, List, [], ◌∷◌, length, map, All, Contains, slice_get, Option, Some, None, refl, sym, ap, subst, ◌∙◌, arith}
+use Rattle.std.proofs.Common.{◌≡◌, inl, inr, ℕ, zero, suc, ◌<◌, Bool, true, false, List, [], ◌∷◌, length, All, Contains, slice_get, Option, Some, None, refl, sym, ap, subst, ◌∙◌, arith}
 use Rattle.std.specs.Prelude.{⊤}
 use Rattle.std.proofs.lemmas.List.Elements.{All-contains_itself}
 use Rattle.slab.specs.Slab.{Slab}
-use Rattle.mq_addr.specs.declared.kind.Kind.TheVariants as kind
 use Rattle.mq_outside.specs.Ports.{empty_port}
 use Rattle.mq_talk.specs.declared.book.Call.{Call}
 use Rattle.mq_talk.specs.declared.book.Call.TheVariants as call
@@ -18,11 +17,11 @@ use Rattle.mq_talk.specs.Answers.{IsAnswer}
 use Rattle.mq_talk.specs.Mails.{Boxes}
 use Rattle.mq_talk.specs.Offices.{Seen}
 use Rattle.mq_machine.specs.declared.setup.Setup.{Setup}
-use Rattle.mq_machine.specs.State.{Tunnel, Port, Held, Offer, Worker, Shared, kind_of}
+use Rattle.mq_machine.specs.State.{Tunnel, Port, Held, Offer, Worker, Shared}
 use Rattle.mq_machine.specs.Want.{Want, Nothing, Say, Bind, Ask, Judge, Push, Send, Over, Answer, Said, Bound, Replied, Judged, Pushed, Put, want_of}
-use Rattle.mq_machine.specs.Shared.{Answers, Asks, asked_by, where_full, port_of}
+use Rattle.mq_machine.specs.Shared.{Answers, Asks, asked_by, port_of}
 use Rattle.mq_machine.specs.Silent.{Reached, WorkerStarves, SeatStarves}
-use Rattle.mq_machine.specs.Turn.{Try, Act, Frame, Write, Read, Receive, ActNext, TryNext, WriteNext, ReadNext, PortNext, ReceiveNext, Seat, Offers, Inbox, Of, SeatNext, WorkerTurn, accepted, replace, popped}
+use Rattle.mq_machine.specs.Turn.{Try, Act, Frame, Write, Read, Receive, ActNext, TryNext, WriteNext, ReadNext, PortNext, ReceiveNext, Seat, Offers, Inbox, Of, SeatNext, WorkerTurn, accepted, popped}
 use Rattle.mq_machine.specs.Acting.{Outside, Known, holding, with_prepared}
 use Rattle.mq_actor.specs.declared.ring.Ring.{Ring}
 use Rattle.mq_actor.specs.Holds.{IsWorker}

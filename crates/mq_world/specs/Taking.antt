@@ -3,8 +3,7 @@ use Rattle.std.specs.Prelude.{◌≡◌, ℕ, Bool, List, length, slice_get, Opt
 use Rattle.mq_wire.specs.declared.NoMemory.{NoMemory}
 use Rattle.mq_talk.specs.declared.note.Note.{Note}
 use Rattle.mq_talk.specs.declared.place.Parcel.{Parcel}
-use Rattle.mq_talk.specs.Mails.{Boxes}
-use Rattle.mq_machine.specs.State.{Told, Worker, Shared, Orders}
+use Rattle.mq_machine.specs.State.{Told, Worker, Shared}
 use Rattle.mq_machine.specs.Want.{Answer}
 use Rattle.mq_machine.specs.Shared.{Ordered}
 use Rattle.mq_machine.specs.Silent.{Reached, WorkerStarves}

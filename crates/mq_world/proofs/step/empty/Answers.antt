@@ -1,12 +1,9 @@
-use Rattle.std.proofs.Common.{◌≡◌, ℕ, List, [], Option, Some, None, refl, sym, ap, subst}
-use Rattle.mq_outside.specs.Ports.{PortHolds, empty_port}
-use Rattle.mq_talk.specs.Mails.{Boxes}
-use Rattle.mq_talk.specs.Offices.{Seen}
+use Rattle.std.proofs.Common.{Some, refl, sym, ap, subst}
+use Rattle.mq_outside.specs.Ports.{empty_port}
 use Rattle.mq_machine.specs.State as machine
 use Rattle.mq_machine.specs.Acting.{holding}
 use Rattle.mq_mem.specs.Ports.{Port as PortOf, holds_of as port_holds}
-use Rattle.mq_play.specs.Events.{with_held_ports}
-use Rattle.mq_world.specs.Served.{Plain, Serves}
+use Rattle.mq_world.specs.Served.{Serves}
 use Rattle.mq_world.proofs.Porting.{Keeps}
 use Rattle.mq_world.proofs.Serving.{serves_ported, serves_unported}
 use Rattle.mq_world.proofs.step.empty.Goals as goal

@@ -1,8 +1,8 @@
-use Rattle.std.proofs.Common.{◌≡◌, ℕ, Bool, true, false, List, length, Option, Some, None, refl, sym, ap, subst, ◌∙◌}
+use Rattle.std.proofs.Common.{◌≡◌, ℕ, Bool, false, length, refl, sym, ap, subst, ◌∙◌}
 use Rattle.slab.specs.Slab.{Slab}
 use Rattle.mq_outside.specs.Ports.{empty_port}
 use Rattle.mq_machine.specs.State as machine
-use Rattle.mq_machine.specs.Acting.{Outside, holding}
+use Rattle.mq_machine.specs.Acting.{holding}
 use Rattle.mq_mem.specs.Links.{Link as LinkOf}
 use Rattle.mq_mem.specs.Offices.{seen_of}
 use Rattle.mq_mem.specs.Ports.{Port as PortOf, Ports as PortsOf}
@@ -12,7 +12,7 @@ use Rattle.mq_actor.specs.Plain.{PlainStep}
 use Rattle.mq_actor.specs.Told.{TellsRing}
 use Rattle.mq_play.specs.Events.{with_held_ports}
 use Rattle.mq_world.specs.Served.{words, Plain, Serves}
-use Rattle.mq_world.specs.Taking.{Common, shared_of, Took}
+use Rattle.mq_world.specs.Taking.{Common, shared_of}
 use Rattle.mq_world.proofs.Serving.{nowhere}
 use Rattle.mq_world.proofs.Taken.{place_of, serves_ready, took}
 use Rattle.mq_book.specs.Journal.{Journal}
