@@ -5,3 +5,6 @@ pub mod Porting
 pub mod Linking
 pub mod Serving
 pub mod Taken
+pub mod Configs
+pub mod Worlds
+pub mod Stepping

@@ -1,3 +1,4 @@
 pub mod Plain
 pub mod Served
 pub mod Taking
+pub mod Worlds

@@ -1,12 +1,16 @@
-//! Links and ports in memory that tell what they hold, and the step of a worker on them.
+//! A world in memory: workers on links and ports that tell what they hold, round one book and one set of inboxes.
 #![tactic(auto)]
 
 mod link;
 mod port;
 mod ports;
 mod step;
+mod told;
+mod world;
 
 pub use link::PlainLink;
 pub use port::PlainPort;
 pub use ports::PlainPorts;
 pub use step::{Plain, take};
+pub use told::Told;
+pub use world::World;
