@@ -1,5 +1,5 @@
 -- What a step of one of its workers makes of a world.
-use Rattle.std.proofs.Common.{◌≡◌, ℕ, zero, suc, ◌+◌, ◌<◌, Bool, true, false, List, [], ◌∷◌, length, slice_get, slice_set, Option, Some, None, Result, Ok, Err, refl, sym, ap, subst, ◌∙◌, arith}
+use Rattle.std.proofs.Common.{◌≡◌, ℕ, zero, suc, ◌+◌, ◌<◌, false, List, [], ◌∷◌, length, slice_get, slice_set, Option, Some, None, Result, Ok, Err, refl, sym, ap, subst, ◌∙◌, arith}
 use Rattle.std.specs.Prelude.{unwrap_or, is_some, option_and_then}
 use Rattle.std.specs.Vec.{with_item}
 use Rattle.std.specs.Prelude.{get_or}
@@ -20,7 +20,7 @@ use Rattle.mq_actor.proofs.Others.{set_length}
 use Rattle.mq_world.specs.declared.world.World.{World}
 use Rattle.mq_world.specs.Served.{Plain, Serves}
 use Rattle.mq_world.specs.Taking.{Common, shared_of, Leads, Gives, Took}
-use Rattle.mq_world.specs.Worlds.{common_of, IsWorld, WorkerGives}
+use Rattle.mq_world.specs.Worlds.{IsWorld, WorkerGives}
 use Rattle.mq_world.proofs.Configs.{seat_config, starved_config}
 use Rattle.mq_world.proofs.Worlds.{served_turned, served_at, served_set}
 

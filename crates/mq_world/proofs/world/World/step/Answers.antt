@@ -1,9 +1,8 @@
-use Rattle.std.proofs.Common.{◌≡◌, ℕ, List, slice_get, Some, refl, sym, ap, subst, ◌∙◌}
+use Rattle.std.proofs.Common.{ℕ, sym, ap, subst, ◌∙◌}
 use Rattle.mq_mem.specs.Mails.{Mail as MailOf}
 use Rattle.mq_mem.specs.Offices.{Office as OfficeOf, seen_of}
 use Rattle.mq_world.specs.Served.{Plain, Serves}
 use Rattle.mq_world.specs.Taking.{Common}
-use Rattle.mq_world.specs.Worlds.{IsWorld, WorkerGives}
 use Rattle.mq_world.proofs.Stepping.{read_at, begins, turned_took, stepped}
 use Rattle.mq_world.proofs.world.World.step.Goals as goal
 
