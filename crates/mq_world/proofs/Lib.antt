@@ -8,3 +8,4 @@ pub mod Taken
 pub mod Configs
 pub mod Worlds
 pub mod Stepping
+pub mod Beginning

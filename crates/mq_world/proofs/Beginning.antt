@@ -1,0 +1,149 @@
+-- A world before anything happened stands for the first state of its plan.
+use Rattle.std.proofs.Common.{◌≡◌, ℕ, zero, suc, ◌+◌, ◌<◌, ◌≤◌, Bool, false, List, [], ◌∷◌, ◌++◌, length, map, All, slice_get, Some, None, refl, sym, ap, subst, ◌∙◌, arith}
+use Rattle.std.specs.Prelude.{replicate}
+use Rattle.std.proofs.lemmas.List.{length-append}
+use Rattle.std.proofs.lemmas.List.Elements.{All-nil}
+use Rattle.slab.specs.Slab.{Slab}
+use Rattle.mq_talk.specs.declared.book.Config.{Config}
+use Rattle.mq_talk.specs.declared.book.Entry.{Entry}
+use Rattle.mq_talk.specs.declared.goal.Goal.{Goal}
+use Rattle.mq_talk.specs.Mails.{Boxes}
+use Rattle.mq_talk.specs.Offices.{Seen}
+use Rattle.mq_machine.specs.declared.setup.Setup.{Setup}
+use Rattle.mq_machine.specs.State.{Told, Held, Worker, new_worker, Shared}
+use Rattle.mq_machine.specs.Acting.{Outside, Known, HasTunnel, IsOpen}
+use Rattle.mq_mem.specs.Links.{Link as LinkOf}
+use Rattle.mq_mem.specs.Mails.{Mail as MailOf, empty_boxes}
+use Rattle.mq_mem.specs.Offices.{Office as OfficeOf, seen_of}
+use Rattle.mq_mem.proofs.Boxes.{length_empty}
+use Rattle.mq_mem.specs.Ports.{Port as PortOf}
+use Rattle.mq_held.specs.declared.held.Held.{Held as HeldBy}
+use Rattle.mq_actor.specs.declared.offer.Offer.{Offer as OfferBy}
+use Rattle.mq_actor.specs.Ended.{numbers_in}
+use Rattle.mq_actor.specs.Holds.{AreHeld, AreOffered, IsWorker}
+use Rattle.mq_actor.specs.Steps.{sight}
+use Rattle.mq_actor.specs.Told.{TellsRing}
+use Rattle.mq_play.specs.declared.plan.Plan.{Plan}
+use Rattle.mq_play.specs.Events.{new_workers, state_of}
+use Rattle.mq_play.specs.Settings.{IsPlan}
+use Rattle.mq_world.specs.Served.{words, Plain, IsOf, Serves}
+use Rattle.mq_world.specs.declared.told.Told.{Told as ToldBy}
+use Rattle.mq_world.specs.declared.world.World.{World}
+use Rattle.mq_world.specs.Taking.{shared_of}
+use Rattle.mq_world.specs.Worlds.{told_of, AreServed, IsWorld}
+
+-- ---- the inboxes
+
+pub none_waits : (count : ℕ) → empty_boxes count ≡ replicate count []
+none_waits zero = refl
+none_waits (suc count) = ap (λ (boxes : Boxes). [] ∷ boxes) (none_waits count)
+
+-- ---- a worker without connections
+
+no_conns : (table : Slab PortOf) (hs : List (HeldBy LinkOf)) → AreHeld words.most table hs [] → hs ≡ []
+no_conns table [] are = refl
+no_conns table (h ∷ hs) are = absurd are
+
+no_offers : (fs : List (OfferBy LinkOf)) → AreOffered fs [] → fs ≡ []
+no_offers [] are = refl
+no_offers (f ∷ fs) are = absurd are
+
+module _ (a : Plain) (id : ℕ) (setup : Setup) (stands : IsWorker words.most a.table.table a.ring (new_worker id setup)) where
+  conns : a.ring.conns.items ≡ []
+  conns = no_conns a.table.table a.ring.conns.items stands.conns
+
+  offered : a.ring.offered.items ≡ []
+  offered = no_offers a.ring.offered.items stands.offered
+
+  tells : TellsRing words a.table.table a.ring (new_worker id setup)
+  tells = record { conns = rw conns tt; offered = rw offered tt }
+
+  numbers : numbers_in a.ring ≡ []
+  numbers = rw (conns, offered) refl
+
+  -- the office knows that it has no tunnels
+  module _ (seen : Seen) (boxes : Boxes) (few : id < seen.config.workers) (pump : setup.pump ≡ seen.config.workers) (empty : seen.entries ≡ []) (size : length boxes ≡ seen.config.workers + 1) where
+    none_open : (tunnel conn stream : ℕ) (goal : Goal) → IsOpen seen.entries id tunnel conn stream goal → ⊥
+    none_open tunnel conn stream goal is =
+        let none : slice_get [] tunnel ≡ Some is.entry = ap (λ (es : List Entry). slice_get es tunnel) (sym empty) ∙ is.at in
+        absurd cc
+
+    none_had : (tunnel conn stream : ℕ) (goal : Goal) → HasTunnel (new_worker id setup) tunnel conn stream goal → ⊥
+    none_had tunnel conn stream goal has = let none : None ≡ Some has.held = has.at in absurd cc
+
+    known : (o : Outside) → Known (sight o seen (Some boxes)) (new_worker id setup)
+    known o = record {
+      id = few;
+      pump = pump;
+      tunnels = λ tunnel conn stream goal. (λ has. absurd (none_had tunnel conn stream goal has), λ is. absurd (none_open tunnel conn stream goal is));
+      last = All-nil (λ (h : Held). h.conn.next_tunnel ≤ length seen.entries);
+      boxes = λ bs is.
+          let same : boxes ≡ bs = cc in
+          ap (λ (b : Boxes). length b) (sym same) ∙ size;
+    }
+
+    pub begins : a.table.ports.bind_fails ≡ false → Serves [] seen boxes id a (new_worker id setup)
+    begins ready = record {
+      stands = stands;
+      tells = tells;
+      known = known;
+      id = sym stands.id;
+      own = subst (λ (ns : List ℕ). All (IsOf [] id) ns) (sym numbers) (All-nil (IsOf [] id));
+      ready = ready;
+    }
+
+-- ---- one more
+
+served_push : (links : List Told) (seen : Seen) (boxes : Boxes) (from : ℕ) (actors : List Plain) (ws : List Worker) (a : Plain) (w : Worker) → AreServed links seen boxes from actors ws
+    → Serves links seen boxes (from + length actors) a w → AreServed links seen boxes from (actors ++ a ∷ []) (ws ++ w ∷ [])
+served_push links seen boxes from [] [] a w are x = let same : from + 0 ≡ from = omega arith in (subst (λ (n : ℕ). Serves links seen boxes n a w) same x, tt)
+served_push links seen boxes from [] (v ∷ ws) a w are x = absurd are
+served_push links seen boxes from (b ∷ actors) [] a w are x = absurd are
+served_push links seen boxes from (b ∷ actors) (v ∷ ws) a w are x =
+    let same : from + suc (length actors) ≡ suc from + length actors = omega arith in
+    (are.0, served_push links seen boxes (suc from) actors ws a w are.1 (subst (λ (n : ℕ). Serves links seen boxes n a w) same x))
+
+-- so many workers were made
+pub record AreNew (seen : Seen) (boxes : Boxes) (setup : Setup) (actors : List Plain) (count : ℕ) : Type 0 where
+  pub size : length actors ≡ count
+  pub served : AreServed [] seen boxes 0 actors (new_workers setup count)
+
+pub one_more : (seen : Seen) (boxes : Boxes) (setup : Setup) (actors after : List Plain) (count : ℕ) (a : Plain) → AreNew seen boxes setup actors count → Serves [] seen boxes count a (new_worker count setup)
+    → after ≡ actors ++ a ∷ [] → AreNew seen boxes setup after (count + 1)
+one_more seen boxes setup actors after count a are x is =
+    let at : 0 + length actors ≡ count = omega (arith, are.size) in
+    let more = served_push [] seen boxes 0 actors (new_workers setup count) a (new_worker count setup) are.served (subst (λ (n : ℕ). Serves [] seen boxes n a (new_worker count setup)) (sym at) x) in
+    let next : suc count ≡ count + 1 = omega arith in
+    record {
+      size = ap (λ (xs : List Plain). length xs) is ∙ length-append actors (a ∷ []) ∙ ap (λ (n : ℕ). n + 1) are.size;
+      served = subst (λ (xs : List Plain). AreServed [] seen boxes 0 xs (new_workers setup (count + 1))) (sym is) (subst (λ (n : ℕ). AreServed [] seen boxes 0 (actors ++ a ∷ []) (new_workers setup n)) next more);
+    }
+
+-- ---- all of them
+
+-- the book of a plan, in which nothing is written
+abbrev pub unwritten : Config → OfficeOf
+unwritten config = record { book = record { config = config; history = [] }; actor = 0 }
+
+abbrev pub unsent : ℕ → MailOf
+unsent workers = record { boxes = empty_boxes (workers + 1); actor = 0 }
+
+abbrev sharing : OfficeOf → MailOf → Bool → Shared
+sharing office mail fails = shared_of (record { office = office; mail = mail; bind_fails = fails })
+
+pub stands_new : (plan : Plan) (world : World) (count : ℕ) → IsPlan plan → world.links.items ≡ [] → world.office ≡ unwritten plan.book → world.mail ≡ unsent plan.workers → world.bind_fails ≡ false → count ≡ plan.workers
+    → AreNew (seen_of (unwritten plan.book)) (unsent plan.workers).boxes plan.setup world.workers.items count → IsWorld world (state_of plan)
+stands_new plan world count is_plan links office mail fails end are =
+    let workers : world.office.book.config.workers ≡ plan.workers = ap (λ (o : OfficeOf). o.book.config.workers) office ∙ is_plan.book.workers_are in
+    let served : AreServed [] (seen_of (unwritten plan.book)) (unsent plan.workers).boxes 0 world.workers.items (new_workers plan.setup plan.workers) =
+    subst (λ (n : ℕ). AreServed [] (seen_of (unwritten plan.book)) (unsent plan.workers).boxes 0 world.workers.items (new_workers plan.setup n)) end are.served in
+    record {
+      links = sym (ap (λ (ts : List ToldBy). map told_of ts) links);
+      workers = subst (λ (m : MailOf). AreServed [] (seen_of world.office) m.boxes 0 world.workers.items (new_workers plan.setup plan.workers)) (sym mail)
+          (subst (λ (o : OfficeOf). AreServed [] (seen_of o) (unsent plan.workers).boxes 0 world.workers.items (new_workers plan.setup plan.workers)) (sym office) served);
+      shared = ap (λ (boxes : Boxes). sharing (unwritten plan.book) (record { boxes = boxes; actor = 0 }) false) (sym (none_waits (plan.workers + 1)))
+          ∙ sym (ap (λ (o : OfficeOf). sharing o world.mail world.bind_fails) office ∙ ap (λ (m : MailOf). sharing (unwritten plan.book) m world.bind_fails) mail
+          ∙ ap (λ (b : Bool). sharing (unwritten plan.book) (unsent plan.workers) b) fails);
+      count = are.size ∙ end ∙ sym workers;
+      boxes = ap (λ (m : MailOf). length m.boxes) mail ∙ length_empty (plan.workers + 1) ∙ ap (λ (n : ℕ). n + 1) (sym workers);
+    }

@@ -1,0 +1,12 @@
+use Rattle.std.proofs.Common.{true, ap}
+use Rattle.mq_machine.specs.State.{Shared}
+use Rattle.mq_world.proofs.world.World.fail_bind.Goals as goal
+
+pub returns : goal.returns
+returns c = λ s is. record {
+  links = is.links;
+  workers = is.workers;
+  shared = ap (λ (sh : Shared). record sh { orders = record { bind = true } }) is.shared;
+  count = is.count;
+  boxes = is.boxes;
+}
