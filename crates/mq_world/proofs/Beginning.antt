@@ -146,4 +146,5 @@ stands_new plan world count is_plan links office mail fails end are =
           ∙ ap (λ (b : Bool). sharing (unwritten plan.book) (unsent plan.workers) b) fails);
       count = are.size ∙ end ∙ sym workers;
       boxes = ap (λ (m : MailOf). length m.boxes) mail ∙ length_empty (plan.workers + 1) ∙ ap (λ (n : ℕ). n + 1) (sym workers);
+      offered = All-nil (λ (t : Told). t.worker < length world.workers.items);
     }

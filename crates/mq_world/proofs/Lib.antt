@@ -9,3 +9,4 @@ pub mod Configs
 pub mod Worlds
 pub mod Stepping
 pub mod Beginning
+pub mod Reaching

@@ -1,5 +1,5 @@
 -- What a step of one of its workers makes of a world.
-use Rattle.std.proofs.Common.{◌≡◌, ℕ, zero, suc, ◌+◌, ◌<◌, false, List, [], ◌∷◌, length, slice_get, slice_set, Option, Some, None, Result, Ok, Err, refl, sym, ap, subst, ◌∙◌, arith}
+use Rattle.std.proofs.Common.{◌≡◌, ℕ, zero, suc, ◌+◌, ◌<◌, false, List, [], ◌∷◌, length, All, slice_get, slice_set, Option, Some, None, Result, Ok, Err, refl, sym, ap, subst, ◌∙◌, arith}
 use Rattle.std.specs.Prelude.{unwrap_or, is_some, option_and_then}
 use Rattle.std.specs.Vec.{with_item}
 use Rattle.std.specs.Prelude.{get_or}
@@ -10,7 +10,7 @@ use Rattle.mq_talk.specs.declared.book.Entry.{Entry}
 use Rattle.mq_talk.specs.declared.note.Note.{Note}
 use Rattle.mq_talk.specs.declared.place.Parcel.{Parcel}
 use Rattle.mq_talk.specs.Mails.{Boxes, box_at}
-use Rattle.mq_machine.specs.State.{Worker, Shared, Orders, State}
+use Rattle.mq_machine.specs.State.{Told, Worker, Shared, Orders, State}
 use Rattle.mq_machine.specs.Shared.{Ordered}
 use Rattle.mq_machine.specs.Silent.{WorkerStarves}
 use Rattle.mq_machine.specs.Turn.{WorkerTurn, turn_of}
@@ -95,6 +95,7 @@ module _ (old : World) (s : State) (is : IsWorld old s) (k : ℕ) (less : k < le
           shared = refl;
           count = set_length old.workers.items k b ∙ is.count ∙ sym workers;
           boxes = took.boxes ∙ is.boxes ∙ ap (λ (n : ℕ). n + 1) (sym workers);
+          offered = subst (λ (n : ℕ). All (λ (t : Told). t.worker < n) s.links) (sym (set_length old.workers.items k b)) is.offered;
         }
 
     box_is : (box : List Parcel) → slice_get old.mail.boxes w.id ≡ Some box → box ≡ box_at old.mail.boxes w.id

@@ -2,6 +2,8 @@
 #![tactic(auto)]
 
 mod link;
+mod links;
+mod missing;
 mod port;
 mod ports;
 mod step;
@@ -9,6 +11,7 @@ mod told;
 mod world;
 
 pub use link::PlainLink;
+pub use missing::Missing;
 pub use port::PlainPort;
 pub use ports::PlainPorts;
 pub use step::{Plain, take};

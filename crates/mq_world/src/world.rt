@@ -1,11 +1,14 @@
 //! All workers, round one book and one set of inboxes.
-ghost use Rattle.std.specs.Prelude.{◌<◌, length, IfOk};
+ghost use Rattle.std.specs.Prelude.{◌≡◌, ◌<◌, true, false, length, nat_lt, slice_get, Some, IfOk, OnOk, OnErr};
+ghost use Rattle.std.specs.Option.{option_map};
 ghost use Rattle.mq_machine.specs.State as machine;
-ghost use Rattle.mq_machine.specs.declared.event.Event.TheVariants.{FailBind};
+ghost use Rattle.mq_machine.specs.declared.event.Event.TheVariants.{FailBind, FailRead, FailWrite, Room};
 ghost use Rattle.mq_play.specs.Events.{happen, state_of};
 ghost use Rattle.mq_play.specs.Settings.{IsPlan};
-ghost use Rattle.mq_world.specs.Worlds.{IsWorld, WorkerGives};
+ghost use Rattle.mq_world.specs.Worlds.{Happens, IsWorld, WorkerGives};
 
+use crate::links::{fail_read, fail_write, grant};
+use crate::missing::Missing;
 use crate::ports::PlainPorts;
 use crate::step::{Plain, take};
 use crate::told::Told;
@@ -65,6 +68,52 @@ impl World {
         ensures { (s : machine.State) → IsWorld self.old s → IsWorld self.new (happen s FailBind) }
     {
         self.bind_fails = true;
+    }
+
+    /// The worker to which the link of this number was offered.
+    fn worker_of(&self, conn: u32) -> Result<usize, Missing>
+        ensures ok { OnOk result (nat_lt conn (length self.now.links.items) ≡ true) }
+        ensures told { IfOk result (λ k. option_map (λ (t : Told). t.worker) (slice_get self.now.links.items conn) ≡ Some k) }
+        ensures err { OnErr result (nat_lt conn (length self.now.links.items) ≡ false) }
+    {
+        match self.links.get(conn as usize) {
+            None => Err(Missing {}),
+            Some(told) => Ok(told.worker as usize),
+        }
+    }
+
+    /// A link takes so many bytes from now on, and then a write answers that nothing goes on now; without a number it takes
+    /// any number. Of one that is gone nothing changes.
+    pub fn grant(&mut self, conn: u32, room: Option<u32>) -> Result<(), Missing>
+        requires { (s : machine.State) × IsWorld self.old s }
+        ensures { (s : machine.State) → IsWorld self.old s → Happens (IsWorld self.new) s (Room conn room) result }
+    {
+        let place = self.worker_of(conn)?;
+        let worker = &mut self.workers[place];
+        grant(worker, conn, room);
+        Ok(())
+    }
+
+    /// The next read of a link fails. Of one that is gone nothing changes.
+    pub fn fail_read(&mut self, conn: u32) -> Result<(), Missing>
+        requires { (s : machine.State) × IsWorld self.old s }
+        ensures { (s : machine.State) → IsWorld self.old s → Happens (IsWorld self.new) s (FailRead conn) result }
+    {
+        let place = self.worker_of(conn)?;
+        let worker = &mut self.workers[place];
+        fail_read(worker, conn);
+        Ok(())
+    }
+
+    /// The next write of a link fails. Of one that is gone nothing changes.
+    pub fn fail_write(&mut self, conn: u32) -> Result<(), Missing>
+        requires { (s : machine.State) × IsWorld self.old s }
+        ensures { (s : machine.State) → IsWorld self.old s → Happens (IsWorld self.new) s (FailWrite conn) result }
+    {
+        let place = self.worker_of(conn)?;
+        let worker = &mut self.workers[place];
+        fail_write(worker, conn);
+        Ok(())
     }
 
     /// The worker of this number takes a step.

@@ -9,4 +9,5 @@ returns c = λ s is. record {
   shared = ap (λ (sh : Shared). record sh { orders = record { bind = true } }) is.shared;
   count = is.count;
   boxes = is.boxes;
+  offered = is.offered;
 }
