@@ -10,3 +10,4 @@ pub mod Worlds
 pub mod Stepping
 pub mod Beginning
 pub mod Reaching
+pub mod Saying

@@ -40,3 +40,14 @@ pub(crate) fn fail_write(worker: &mut Plain, conn: u32)
         Some(link) => link.fail_write(),
     }
 }
+
+/// Its end arrives.
+pub(crate) fn finish(worker: &mut Plain, conn: u32)
+    ensures { (links : List machine.Told) (seen : Seen) (boxes : Boxes) (number : ℕ) (w : machine.Worker) → Serves links seen boxes number worker.old w
+        → Serves links seen boxes number worker.new (at_worker conn (λ (l : machine.Link). record l { is_ended = true }) w) }
+{
+    match worker.link(conn) {
+        None => {}
+        Some(link) => link.finish(),
+    }
+}

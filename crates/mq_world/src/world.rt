@@ -2,12 +2,12 @@
 ghost use Rattle.std.specs.Prelude.{◌≡◌, ◌<◌, true, false, length, nat_lt, slice_get, Some, IfOk, OnOk, OnErr};
 ghost use Rattle.std.specs.Option.{option_map};
 ghost use Rattle.mq_machine.specs.State as machine;
-ghost use Rattle.mq_machine.specs.declared.event.Event.TheVariants.{FailBind, FailRead, FailWrite, Room};
+ghost use Rattle.mq_machine.specs.declared.event.Event.TheVariants.{End, FailBind, FailRead, FailWrite, Room};
 ghost use Rattle.mq_play.specs.Events.{happen, state_of};
 ghost use Rattle.mq_play.specs.Settings.{IsPlan};
 ghost use Rattle.mq_world.specs.Worlds.{Happens, IsWorld, WorkerGives};
 
-use crate::links::{fail_read, fail_write, grant};
+use crate::links::{fail_read, fail_write, finish, grant};
 use crate::missing::Missing;
 use crate::ports::PlainPorts;
 use crate::step::{Plain, take};
@@ -91,6 +91,18 @@ impl World {
         let place = self.worker_of(conn)?;
         let worker = &mut self.workers[place];
         grant(worker, conn, room);
+        Ok(())
+    }
+
+    /// The end of a link arrives. Of one that is gone nothing changes, but that its end was said.
+    pub fn finish(&mut self, conn: u32) -> Result<(), Missing>
+        requires { (s : machine.State) × IsWorld self.old s }
+        ensures { (s : machine.State) → IsWorld self.old s → Happens (IsWorld self.new) s (End conn) result }
+    {
+        let place = self.worker_of(conn)?;
+        self.links[conn as usize].is_ended = true;
+        let worker = &mut self.workers[place];
+        finish(worker, conn);
         Ok(())
     }
 
