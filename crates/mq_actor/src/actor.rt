@@ -1,5 +1,5 @@
 //! A worker.
-ghost use Rattle.std.specs.Prelude.{◌≡◌, ◌≢◌, ◌+◌, true, Some, None, IfOk, OnOk, IfErr, MatchOption, All, [], length};
+ghost use Rattle.std.specs.Prelude.{◌≡◌, ◌≢◌, ◌+◌, ◌++◌, ◌∷◌, true, Some, None, IfOk, OnOk, IfErr, MatchOption, All, [], length};
 ghost use Rattle.mq_addr.specs.declared.kind.Kind.TheVariants as kind;
 ghost use Rattle.mq_talk.specs.Mails.{Boxes};
 ghost use Rattle.mq_machine.specs.State as machine;
@@ -52,6 +52,7 @@ impl<L: Drop, P: Ports> Actor<L, P> {
         requires { All (λ other. other ≢ number) (numbers_of self.old.ring.conns.items self.old.ring.offered.items) }
         ensures offered { OnOk result ((w : machine.Worker) (held : machine.Link) → IsWorker P.P.most self.old.table.table self.old.ring w
             → IsWorker P.P.most self.new.table.table self.new.ring (with_offer number held w)) }
+        ensures last { OnOk result (self.new.ring.offered.items ≡ self.old.ring.offered.items ++ record { number = number; link = link } ∷ []) }
         ensures refused { IfErr result (λ back. (back ≡ link) × (self.new.ring.offered.items ≡ self.old.ring.offered.items)) }
         ensures rest { self.new ≡ record self.old { ring = record self.old.ring { offered = self.new.ring.offered } } }
     {
