@@ -36,66 +36,7 @@ escaped_by letter =
     else (if letter == 110 then Some 10
     else (if letter == 92 then Some 92 else None))
 
--- the word begins a line on links
-abbrev pub IsLinkWord : Word → Type 0
-IsLinkWord (word.Setting first) = ⊥
-IsLinkWord word.Conn = Unit {0}
-IsLinkWord word.Bytes = Unit {0}
-IsLinkWord word.Text = Unit {0}
-IsLinkWord word.Fill = Unit {0}
-IsLinkWord word.End = Unit {0}
-IsLinkWord word.Room = Unit {0}
-IsLinkWord word.FailRead = ⊥
-IsLinkWord word.FailWrite = ⊥
-IsLinkWord word.Dgram = ⊥
-IsLinkWord word.FailPort = ⊥
-IsLinkWord word.Step = ⊥
-IsLinkWord word.Run = ⊥
-
--- the word begins a line on failures
-abbrev pub IsFailWord : Word → Type 0
-IsFailWord (word.Setting first) = ⊥
-IsFailWord word.Conn = ⊥
-IsFailWord word.Bytes = ⊥
-IsFailWord word.Text = ⊥
-IsFailWord word.Fill = ⊥
-IsFailWord word.End = ⊥
-IsFailWord word.Room = ⊥
-IsFailWord word.FailRead = Unit {0}
-IsFailWord word.FailWrite = Unit {0}
-IsFailWord word.Dgram = ⊥
-IsFailWord word.FailPort = Unit {0}
-IsFailWord word.Step = ⊥
-IsFailWord word.Run = ⊥
-
--- the word begins another line that tells no setting
-abbrev pub IsOtherWord : Word → Type 0
-IsOtherWord (word.Setting first) = ⊥
-IsOtherWord word.Conn = ⊥
-IsOtherWord word.Bytes = ⊥
-IsOtherWord word.Text = ⊥
-IsOtherWord word.Fill = ⊥
-IsOtherWord word.End = ⊥
-IsOtherWord word.Room = ⊥
-IsOtherWord word.FailRead = ⊥
-IsOtherWord word.FailWrite = ⊥
-IsOtherWord word.Dgram = Unit {0}
-IsOtherWord word.FailPort = ⊥
-IsOtherWord word.Step = Unit {0}
-IsOtherWord word.Run = Unit {0}
-
 -- the word begins no setting
 abbrev pub IsPlain : Word → Type 0
 IsPlain (word.Setting first) = ⊥
-IsPlain word.Conn = Unit {0}
-IsPlain word.Bytes = Unit {0}
-IsPlain word.Text = Unit {0}
-IsPlain word.Fill = Unit {0}
-IsPlain word.End = Unit {0}
-IsPlain word.Room = Unit {0}
-IsPlain word.FailRead = Unit {0}
-IsPlain word.FailWrite = Unit {0}
-IsPlain word.Dgram = Unit {0}
-IsPlain word.FailPort = Unit {0}
-IsPlain word.Step = Unit {0}
-IsPlain word.Run = Unit {0}
+IsPlain first = Unit {0}

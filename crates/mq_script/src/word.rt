@@ -1,7 +1,7 @@
 //! The words that a line begins with.
 ghost use Rattle.mq_play.specs.Lines.{IsWord, word_text};
 ghost use Rattle.mq_play.specs.Settings.{IsKind, setting_word};
-ghost use Rattle.mq_script.specs.Reading.{IsFailWord, IsFound, IsLinkWord, IsOtherWord, IsPlain};
+ghost use Rattle.mq_script.specs.Reading.{IsFound, IsPlain};
 ghost use Rattle.std.specs.Prelude.{◌≡◌};
 
 use mq_addr::Kind;
@@ -27,9 +27,9 @@ fn parse_setting_word(text: &[u8]) -> Option<SettingWord>
     }
 }
 
-/// The word of a line on links that a text is.
-fn parse_link_word(text: &[u8]) -> Option<Word>
-    ensures { IsFound (λ word. IsLinkWord word × (text.now ≡ word_text word)) result }
+/// The word of a line that tells no setting.
+fn parse_plain_word(text: &[u8]) -> Option<Word>
+    ensures { IsFound (λ word. IsPlain word × (text.now ≡ word_text word)) result }
 {
     match text {
         b"conn" => Some(Word::Conn),
@@ -38,44 +38,13 @@ fn parse_link_word(text: &[u8]) -> Option<Word>
         b"fill" => Some(Word::Fill),
         b"end" => Some(Word::End),
         b"room" => Some(Word::Room),
-        _ => None,
-    }
-}
-
-/// The word of a line on failures that a text is.
-fn parse_fail_word(text: &[u8]) -> Option<Word>
-    ensures { IsFound (λ word. IsFailWord word × (text.now ≡ word_text word)) result }
-{
-    match text {
         b"failread" => Some(Word::FailRead),
         b"failwrite" => Some(Word::FailWrite),
-        b"failport" => Some(Word::FailPort),
-        _ => None,
-    }
-}
-
-/// The word of another line that a text is.
-fn parse_other_word(text: &[u8]) -> Option<Word>
-    ensures { IsFound (λ word. IsOtherWord word × (text.now ≡ word_text word)) result }
-{
-    match text {
         b"dgram" => Some(Word::Dgram),
+        b"failport" => Some(Word::FailPort),
         b"step" => Some(Word::Step),
         b"run" => Some(Word::Run),
         _ => None,
-    }
-}
-
-/// The word of a line that tells no setting.
-fn parse_plain_word(text: &[u8]) -> Option<Word>
-    ensures { IsFound (λ word. IsPlain word × (text.now ≡ word_text word)) result }
-{
-    if let Some(word) = parse_link_word(text) {
-        return Some(word);
-    }
-    match parse_fail_word(text) {
-        Some(word) => Some(word),
-        None => parse_other_word(text),
     }
 }
 
