@@ -7,11 +7,12 @@ use Rattle.slab.specs.Slab.{Slab}
 use Rattle.mq_talk.specs.declared.book.Config.{Config}
 use Rattle.mq_talk.specs.declared.book.Entry.{Entry}
 use Rattle.mq_talk.specs.declared.goal.Goal.{Goal}
-use Rattle.mq_talk.specs.Mails.{Boxes}
+use Rattle.mq_talk.specs.Mails.{Boxes, box_at}
 use Rattle.mq_talk.specs.Offices.{Seen}
 use Rattle.mq_machine.specs.declared.setup.Setup.{Setup}
 use Rattle.mq_machine.specs.State.{Told, Held, Worker, new_worker, Shared}
 use Rattle.mq_machine.specs.Acting.{Outside, Known, HasTunnel, IsOpen}
+use Rattle.mq_machine.specs.Turn.{last_of}
 use Rattle.mq_mem.specs.Links.{Link as LinkOf}
 use Rattle.mq_mem.specs.Mails.{Mail as MailOf, empty_boxes}
 use Rattle.mq_mem.specs.Offices.{Office as OfficeOf, seen_of}
@@ -26,10 +27,10 @@ use Rattle.mq_actor.specs.Told.{TellsRing}
 use Rattle.mq_play.specs.declared.plan.Plan.{Plan}
 use Rattle.mq_play.specs.Events.{new_workers, state_of}
 use Rattle.mq_play.specs.Settings.{IsPlan}
-use Rattle.mq_world.specs.Served.{words, Plain, IsOf, Serves}
+use Rattle.mq_plain.specs.Served.{words, Plain, IsOf, Serves}
 use Rattle.mq_world.specs.declared.told.Told.{Told as ToldBy}
-use Rattle.mq_world.specs.declared.world.World.{World}
-use Rattle.mq_world.specs.Taking.{shared_of}
+use Rattle.mq_world.specs.declared.workers.Workers.{Workers}
+use Rattle.mq_plain.specs.Taking.{shared_of}
 use Rattle.mq_world.specs.Worlds.{told_of, AreServed, IsWorld}
 
 -- ---- the inboxes
@@ -121,6 +122,12 @@ one_more seen boxes setup actors after count a are x is =
 
 -- ---- all of them
 
+-- every inbox is empty
+empty_at : (count i : ℕ) → box_at (replicate count []) i ≡ []
+empty_at zero i = refl
+empty_at (suc count) zero = refl
+empty_at (suc count) (suc i) = empty_at count i
+
 -- the book of a plan, in which nothing is written
 abbrev pub unwritten : Config → OfficeOf
 unwritten config = record { book = record { config = config; history = [] }; actor = 0 }
@@ -131,7 +138,7 @@ unsent workers = record { boxes = empty_boxes (workers + 1); actor = 0 }
 abbrev sharing : OfficeOf → MailOf → Bool → Shared
 sharing office mail fails = shared_of (record { office = office; mail = mail; bind_fails = fails })
 
-pub stands_new : (plan : Plan) (world : World) (count : ℕ) → IsPlan plan → world.links.items ≡ [] → world.office ≡ unwritten plan.book → world.mail ≡ unsent plan.workers → world.bind_fails ≡ false → count ≡ plan.workers
+pub stands_new : (plan : Plan) (world : Workers) (count : ℕ) → IsPlan plan → world.links.items ≡ [] → world.office ≡ unwritten plan.book → world.mail ≡ unsent plan.workers → world.bind_fails ≡ false → count ≡ plan.workers
     → AreNew (seen_of (unwritten plan.book)) (unsent plan.workers).boxes plan.setup world.workers.items count → IsWorld world (state_of plan)
 stands_new plan world count is_plan links office mail fails end are =
     let workers : world.office.book.config.workers ≡ plan.workers = ap (λ (o : OfficeOf). o.book.config.workers) office ∙ is_plan.book.workers_are in
@@ -145,6 +152,8 @@ stands_new plan world count is_plan links office mail fails end are =
           ∙ sym (ap (λ (o : OfficeOf). sharing o world.mail world.bind_fails) office ∙ ap (λ (m : MailOf). sharing (unwritten plan.book) m world.bind_fails) mail
           ∙ ap (λ (b : Bool). sharing (unwritten plan.book) (unsent plan.workers) b) fails);
       count = are.size ∙ end ∙ sym workers;
+      few = let size = are.size in let most = is_plan.few in omega (arith, size, end, most);
       boxes = ap (λ (m : MailOf). length m.boxes) mail ∙ length_empty (plan.workers + 1) ∙ ap (λ (n : ℕ). n + 1) (sym workers);
+      pump = record { push = refl; send = refl; arrived = refl; box = empty_at (plan.workers + 1) (last_of (state_of plan).shared.boxes) };
       offered = All-nil (λ (t : Told). t.worker < length world.workers.items);
     }

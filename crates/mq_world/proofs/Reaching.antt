@@ -1,5 +1,5 @@
 -- What comes to a link reaches the worker to which it was offered, and no other.
-use Rattle.std.proofs.Common.{◌≡◌, ◌≢◌, ℕ, zero, suc, ◌+◌, ◌<◌, ◌==◌, Bool, List, [], ◌∷◌, ◌++◌, length, map, All, find, slice_get, slice_set, Some, None, refl, sym, ap, subst, ◌∙◌, arith}
+use Rattle.std.proofs.Common.{◌≡◌, ◌≢◌, ℕ, zero, suc, ◌<◌, ◌==◌, Bool, List, [], ◌∷◌, ◌++◌, length, map, All, find, slice_get, Some, None, refl, sym, ap, subst, ◌∙◌}
 use Rattle.std.specs.Prelude.{nat_lt}
 use Rattle.std.specs.Option.{option_map}
 use Rattle.std.specs.Vec.{with_item}
@@ -15,13 +15,13 @@ use Rattle.mq_actor.specs.declared.offer.Offer.{Offer as OfferBy}
 use Rattle.mq_actor.specs.declared.ring.Ring.{Ring}
 use Rattle.mq_actor.specs.Ended.{conn_numbers, offer_numbers, numbers_in}
 use Rattle.mq_actor.specs.Lent.{link_at}
-use Rattle.mq_actor.proofs.Others.{set_length}
 use Rattle.mq_play.specs.Events.{at_worker, at_link}
 use Rattle.mq_world.specs.declared.told.Told.{Told as ToldBy}
-use Rattle.mq_world.specs.declared.world.World.{World}
-use Rattle.mq_world.specs.Served.{Plain, IsOf, Serves}
-use Rattle.mq_world.specs.Worlds.{told_of, AreServed, IsWorld}
-use Rattle.mq_world.proofs.Serving.{serves_unlinked}
+use Rattle.mq_world.specs.declared.workers.Workers.{Workers}
+use Rattle.mq_plain.specs.Served.{Plain, IsOf, Serves}
+use Rattle.mq_world.specs.Worlds.{told_of, IsWorld}
+use Rattle.mq_plain.proofs.Serving.{serves_unlinked}
+use Rattle.mq_world.proofs.Each.{stands_changed}
 
 -- ---- no other has it
 
@@ -58,32 +58,9 @@ module _ (links : List Told) (conn : ℕ) (t : Told) (at : slice_get links conn 
     one_else number a w ne x =
         subst (λ (v : Worker). Serves links seen boxes number a v) (sym (serves_unlinked links seen boxes number a w x conn change (unlent number a.ring ne x.own))) x
 
-    all_else : (from : ℕ) (actors : List Plain) (ws : List Worker) → t.worker < from → AreServed links seen boxes from actors ws → AreServed links seen boxes from actors (map (at_worker conn change) ws)
-    all_else from [] [] less are = tt
-    all_else from [] (w ∷ ws) less are = absurd are
-    all_else from (a ∷ actors) [] less are = absurd are
-    all_else from (a ∷ actors) (w ∷ ws) less are =
-        let further : t.worker < suc from = omega (arith, less) in
-        (one_else from a w (λ e. omega (arith, e, less)) are.0, all_else (suc from) actors ws further are.1)
-
-    served_reached : (from j : ℕ) (actors : List Plain) (ws : List Worker) (a b : Plain) → t.worker ≡ from + j → slice_get actors j ≡ Some a → AreServed links seen boxes from actors ws
-        → ((w : Worker) → Serves links seen boxes t.worker a w → Serves links seen boxes t.worker b (at_worker conn change w))
-        → AreServed links seen boxes from (slice_set actors j b) (map (at_worker conn change) ws)
-    served_reached from j [] ws a b is at_a are does = absurd cc
-    served_reached from j (y ∷ actors) [] a b is at_a are does = absurd are
-    served_reached from zero (y ∷ actors) (w ∷ ws) a b is at_a are does =
-        let same : t.worker ≡ from = omega (arith, is) in
-        let further : t.worker < suc from = omega (arith, same) in
-        let e : y ≡ a = cc in
-        let x : Serves links seen boxes t.worker a w = subst (λ (z : Plain). Serves links seen boxes t.worker z w) e (subst (λ (n : ℕ). Serves links seen boxes n y w) (sym same) are.0) in
-        (subst (λ (n : ℕ). Serves links seen boxes n b (at_worker conn change w)) same (does w x), all_else (suc from) actors ws further are.1)
-    served_reached from (suc j) (y ∷ actors) (w ∷ ws) a b is at_a are does =
-        let next : t.worker ≡ suc from + j = omega (arith, is) in
-        (one_else from y w (λ e. omega (arith, e, is)) are.0, served_reached (suc from) j actors ws a b next at_a are.1 does)
-
 -- ---- the world
 
-module _ (old : World) (s : State) (is : IsWorld old s) (conn k : ℕ) (told : option_map (λ (t : ToldBy). t.worker) (slice_get old.links.items conn) ≡ Some k) where
+module _ (old : Workers) (s : State) (is : IsWorld old s) (conn k : ℕ) (told : option_map (λ (t : ToldBy). t.worker) (slice_get old.links.items conn) ≡ Some k) where
   told_at : (ts : List ToldBy) (i : ℕ) → option_map (λ (t : ToldBy). t.worker) (slice_get ts i) ≡ Some k → (t : Told) × (slice_get (map told_of ts) i ≡ Some t) × (t.worker ≡ k)
   told_at [] i e = absurd cc
   told_at (t ∷ ts) zero e = (told_of t, refl, cc)
@@ -108,17 +85,10 @@ module _ (old : World) (s : State) (is : IsWorld old s) (conn k : ℕ) (told : o
       → IsWorld (record old { workers = with_item old.workers k b }) (at_link conn change s)
   stands_reached a b change at does =
       let f = said in
-      record {
-        links = is.links;
-        workers = served_reached s.links conn f.0 f.1 (seen_of old.office) old.mail.boxes change 0 k old.workers.items s.workers a b (f.2 ∙ omega arith) at is.workers
-            (subst (λ (n : ℕ). (w : Worker) → Serves s.links (seen_of old.office) old.mail.boxes n a w → Serves s.links (seen_of old.office) old.mail.boxes n b (at_worker conn change w)) (sym f.2) does);
-        shared = is.shared;
-        count = set_length old.workers.items k b ∙ is.count;
-        boxes = is.boxes;
-        offered = subst (λ (n : ℕ). All (λ (t : Told). t.worker < n) s.links) (sym (set_length old.workers.items k b)) is.offered;
-      }
+      stands_changed old s is k (at_worker conn change)
+      (λ n x w ne served. one_else s.links conn f.0 f.1 (seen_of old.office) old.mail.boxes change n x w (λ same. ne (sym same ∙ f.2)) served) a b at does
 
-pub links_long : (old : World) (s : State) → IsWorld old s → (conn : ℕ) (b : Bool) → nat_lt conn (length old.links.items) ≡ b → nat_lt conn (length s.links) ≡ b
+pub links_long : (old : Workers) (s : State) → IsWorld old s → (conn : ℕ) (b : Bool) → nat_lt conn (length old.links.items) ≡ b → nat_lt conn (length s.links) ≡ b
 links_long old s is conn b e = ap (λ (ts : List Told). nat_lt conn (length ts)) is.links ∙ ap (λ (n : ℕ). nat_lt conn n) (map_long old.links.items) ∙ e where
   map_long : (ts : List ToldBy) → length (map told_of ts) ≡ length ts
   map_long [] = refl

@@ -11,8 +11,8 @@ use Rattle.mq_actor.specs.Ended.{numbers_in}
 use Rattle.mq_actor.proofs.Lists.{get_set_same}
 use Rattle.mq_play.specs.Events.{ended_at}
 use Rattle.mq_world.specs.declared.told.Told.{Told as ToldBy}
-use Rattle.mq_world.specs.declared.world.World.{World}
-use Rattle.mq_world.specs.Served.{Plain, IsOf, Serves}
+use Rattle.mq_world.specs.declared.workers.Workers.{Workers}
+use Rattle.mq_plain.specs.Served.{Plain, IsOf, Serves}
 use Rattle.mq_world.specs.Worlds.{told_of, AreServed, IsWorld}
 
 abbrev pub ending : ToldBy → ToldBy
@@ -63,8 +63,8 @@ workers_ended n (t ∷ links) zero all =
 workers_ended n (t ∷ links) (suc i) all =
     All-cons (λ (t : Told). t.worker < n) t (ended_at i links) (All-head (λ (t : Told). t.worker < n) t links all) (workers_ended n links i (All-tail (λ (t : Told). t.worker < n) t links all))
 
-module _ (old : World) (s : State) (is : IsWorld old s) (conn : ℕ) (t : ToldBy) (at : slice_get old.links.items conn ≡ Some t) where
-  abbrev pub said : World
+module _ (old : Workers) (s : State) (is : IsWorld old s) (conn : ℕ) (t : ToldBy) (at : slice_get old.links.items conn ≡ Some t) where
+  abbrev pub said : Workers
   said = record old { links = with_item old.links conn (ending t) }
 
   abbrev pub heard : State
@@ -76,7 +76,9 @@ module _ (old : World) (s : State) (is : IsWorld old s) (conn : ℕ) (t : ToldBy
     workers = served_ended s.links conn (seen_of old.office) old.mail.boxes 0 old.workers.items s.workers is.workers;
     shared = is.shared;
     count = is.count;
+    few = is.few;
     boxes = is.boxes;
+    pump = record { push = is.pump.push; send = is.pump.send; arrived = is.pump.arrived; box = is.pump.box };
     offered = workers_ended (length old.workers.items) s.links conn is.offered;
   }
 

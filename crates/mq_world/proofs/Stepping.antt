@@ -1,5 +1,5 @@
 -- What a step of one of its workers makes of a world.
-use Rattle.std.proofs.Common.{◌≡◌, ℕ, zero, suc, ◌+◌, ◌<◌, false, List, [], ◌∷◌, length, All, slice_get, slice_set, Option, Some, None, Result, Ok, Err, refl, sym, ap, subst, ◌∙◌, arith}
+use Rattle.std.proofs.Common.{◌≡◌, ◌≢◌, ℕ, zero, suc, ◌+◌, ◌<◌, ◌≤◌, false, List, [], ◌∷◌, length, All, slice_get, slice_set, Option, Some, None, Result, Ok, Err, refl, sym, ap, subst, ◌∙◌, arith}
 use Rattle.std.specs.Prelude.{unwrap_or, is_some, option_and_then}
 use Rattle.std.specs.Vec.{with_item}
 use Rattle.std.specs.Prelude.{get_or}
@@ -13,15 +13,15 @@ use Rattle.mq_talk.specs.Mails.{Boxes, box_at}
 use Rattle.mq_machine.specs.State.{Told, Worker, Shared, Orders, State}
 use Rattle.mq_machine.specs.Shared.{Ordered}
 use Rattle.mq_machine.specs.Silent.{WorkerStarves}
-use Rattle.mq_machine.specs.Turn.{WorkerTurn, turn_of}
+use Rattle.mq_machine.specs.Turn.{WorkerTurn, turn_of, last_of}
 use Rattle.mq_mem.specs.Mails.{Mail as MailOf}
 use Rattle.mq_mem.specs.Offices.{Office as OfficeOf, seen_of}
 use Rattle.mq_actor.proofs.Others.{set_length}
-use Rattle.mq_world.specs.declared.world.World.{World}
-use Rattle.mq_world.specs.Served.{Plain, Serves}
-use Rattle.mq_world.specs.Taking.{Common, shared_of, Leads, Gives, Took}
+use Rattle.mq_world.specs.declared.workers.Workers.{Workers}
+use Rattle.mq_plain.specs.Served.{Plain, Serves}
+use Rattle.mq_plain.specs.Taking.{Common, shared_of, Leads, Gives, Took}
 use Rattle.mq_world.specs.Worlds.{IsWorld, WorkerGives}
-use Rattle.mq_world.proofs.Configs.{seat_config, starved_config}
+use Rattle.mq_world.proofs.Sharing.{PushNone, seat_kept, starved_kept}
 use Rattle.mq_world.proofs.Worlds.{served_turned, served_at, served_set}
 
 -- what stands at a place is set there
@@ -36,6 +36,11 @@ set_own {A} (y ∷ xs) (suc i) x at = ap {B = List A} (λ (zs : List A). y ∷ z
 pub read_at : {A : Type 0} (xs : List A) (i : ℕ) (x : A) → i < length xs → x ≡ get_or xs i x → slice_get xs i ≡ Some x
 read_at xs i x less is = slice_get-get_or xs i x less ∙ ap Some (sym is)
 
+-- the last inbox is the pump's
+pub last_at : (boxes : Boxes) (n : ℕ) → length boxes ≡ n + 1 → last_of boxes ≡ n
+last_at [] n size = absurd (omega (arith, size))
+last_at (box ∷ boxes) n size = omega (arith, size)
+
 -- what is shared, by its parts
 abbrev of_parts : Config → List Entry → Boxes → Orders → Shared
 of_parts config book boxes orders = record { config = config; book = book; boxes = boxes; orders = orders }
@@ -47,10 +52,10 @@ parts_same c d book read boxes kept orders config is_book is_boxes =
     ∙ ap (λ (x : Boxes). of_parts d read x orders) is_boxes
 
 -- the one whose turn it is, and what it shares then
-abbrev pub turned : World → ℕ → Common
+abbrev pub turned : Workers → ℕ → Common
 turned world k = record { office = record world.office { actor = k }; mail = record world.mail { actor = k }; bind_fails = world.bind_fails }
 
-module _ (old : World) (s : State) (is : IsWorld old s) (k : ℕ) (less : k < length old.workers.items) where
+module _ (old : Workers) (s : State) (is : IsWorld old s) (k : ℕ) (less : k < length old.workers.items) where
   -- the worker that it stands for
   pub found : (a : Plain) → slice_get old.workers.items k ≡ Some a → (w : Worker) × (slice_get s.workers k ≡ Some w) × Serves s.links (seen_of (turned old k).office) old.mail.boxes k a w
   found a at =
@@ -76,12 +81,32 @@ module _ (old : World) (s : State) (is : IsWorld old s) (k : ℕ) (less : k < le
       subst (λ (m : MailOf). Took s.links k (record { office = record old.office { actor = k }; mail = m; bind_fails = old.bind_fails }) new b w result) mail_is
       (subst (λ (o : OfficeOf). Took s.links k (record { office = o; mail = mail; bind_fails = old.bind_fails }) new b w result) office_is took)
 
-  module _ (new : Common) (b : Plain) (result : Result (Option Note) NoMemory) (w : Worker) (at : slice_get s.workers k ≡ Some w)
+  module _ (new : Common) (b : Plain) (result : Result (Option Note) NoMemory) (w : Worker) (at : slice_get s.workers k ≡ Some w) (named : w.id ≡ k) (calm : PushNone w)
       (took : Took s.links k (turned old k) new b w result) where
+    -- no other inbox changed
+    others : (r : Result (Option Note) NoMemory) → Gives (turned old k) new w r took.t → (i : ℕ) → k ≢ i → box_at new.mail.boxes i ≡ box_at old.mail.boxes i
+    others (Ok (Some note)) d i ne =
+        ap (λ (bs : Boxes). box_at bs i) d.leads.boxes
+        ∙ (seat_kept w (shared_of (turned old k)) d.turn.seat d.answer note took.t d.after calm d.turn.next).others i (λ e. ne (sym named ∙ e))
+    others (Ok None) q i ne = ap (λ (sh : Shared). box_at sh.boxes i) q.is
+    others (Err fault) q i ne =
+        ap (λ (bs : Boxes). box_at bs i) q.leads.boxes
+        ∙ (starved_kept w (shared_of (turned old k)) q.starves.seat q.reached q.answer took.t q.after calm q.starves.starves).others i (λ e. ne (sym named ∙ e))
+
+    -- the pump's is the last, and it is empty still
+    rests : box_at new.mail.boxes (last_of new.mail.boxes) ≡ []
+    rests =
+        let n : ℕ = old.office.book.config.workers in
+        let last_new : last_of new.mail.boxes ≡ n = last_at new.mail.boxes n (took.boxes ∙ is.boxes) in
+        let last_old : last_of old.mail.boxes ≡ n = last_at old.mail.boxes n is.boxes in
+        let ne : k ≢ n = λ e. omega (arith, less, is.count, e) in
+        ap (λ (i : ℕ). box_at new.mail.boxes i) last_new ∙ others result took.gives n ne ∙ ap (λ (i : ℕ). box_at old.mail.boxes i) (sym last_old)
+        ∙ ap (λ (sh : Shared). box_at sh.boxes (last_of sh.boxes)) (sym is.shared) ∙ is.pump.box
+
     abbrev after : State
     after = record s { workers = slice_set s.workers k took.t; shared = shared_of new }
 
-    abbrev behind : World
+    abbrev behind : Workers
     behind = record old { workers = with_item old.workers k b; office = new.office; mail = new.mail; bind_fails = new.bind_fails }
 
     stands : IsWorld behind after
@@ -94,7 +119,9 @@ module _ (old : World) (s : State) (is : IsWorld old s) (k : ℕ) (less : k < le
               (served_turned s.links (seen_of old.office) old.mail.boxes k 0 old.workers.items s.workers is.workers) took.serves;
           shared = refl;
           count = set_length old.workers.items k b ∙ is.count ∙ sym workers;
+          few = subst (λ (n : ℕ). n ≤ 4) (sym (set_length old.workers.items k b)) is.few;
           boxes = took.boxes ∙ is.boxes ∙ ap (λ (n : ℕ). n + 1) (sym workers);
+          pump = record { push = is.pump.push; send = is.pump.send; arrived = is.pump.arrived; box = rests };
           offered = subst (λ (n : ℕ). All (λ (t : Told). t.worker < n) s.links) (sym (set_length old.workers.items k b)) is.offered;
         }
 
@@ -121,7 +148,7 @@ module _ (old : World) (s : State) (is : IsWorld old s) (k : ℕ) (less : k < le
           at = at;
           turn = of_state (λ (sh : Shared). WorkerTurn w (box_at sh.boxes w.id) sh d.answer note took.t d.after) here;
           ordered = of_state (λ (sh : Shared). Ordered sh.orders d.answer (shared_of new).orders) d.ordered;
-          after_is = ends d.after d.leads (seat_config w (shared_of (turned old k)) d.turn.seat d.answer note took.t d.after d.turn.next);
+          after_is = ends d.after d.leads (seat_kept w (shared_of (turned old k)) d.turn.seat d.answer note took.t d.after calm d.turn.next).config;
           new_is = refl;
         }
     gives (Ok None) q =
@@ -145,7 +172,7 @@ module _ (old : World) (s : State) (is : IsWorld old s) (k : ℕ) (less : k < le
             at = at;
             starves = of_state (λ (sh : Shared). WorkerStarves w (box_at sh.boxes w.id) sh q.reached q.answer took.t q.after) here;
             ordered = of_state (λ (sh : Shared). Ordered sh.orders q.answer (shared_of new).orders) q.ordered;
-            after_is = ends q.after q.leads (starved_config w (shared_of (turned old k)) q.starves.seat q.reached q.answer took.t q.after q.starves.starves);
+            after_is = ends q.after q.leads (starved_kept w (shared_of (turned old k)) q.starves.seat q.reached q.answer took.t q.after calm q.starves.starves).config;
             new_is = refl;
           },
         )

@@ -5,9 +5,9 @@ use Rattle.mq_talk.specs.Offices.{Seen}
 use Rattle.mq_machine.specs.State.{Told, Worker}
 use Rattle.mq_machine.specs.Acting.{Outside, Known, Writes}
 use Rattle.mq_actor.specs.Steps.{sight}
-use Rattle.mq_world.specs.Served.{Plain, Serves}
+use Rattle.mq_plain.specs.Served.{Plain, Serves}
 use Rattle.mq_world.specs.Worlds.{AreServed}
-use Rattle.mq_world.proofs.Beside.{known_beside}
+use Rattle.mq_plain.proofs.Beside.{known_beside}
 
 -- ---- whose turn it is
 

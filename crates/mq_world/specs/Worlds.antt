@@ -1,20 +1,31 @@
--- For which state of the machine a world stands.
-use Rattle.std.specs.Prelude.{◌≡◌, ◌+◌, ◌<◌, ⊤, ℕ, suc, true, false, List, [], ◌∷◌, length, map, All, Option, Some, None, Result, Ok, Err}
+-- For which state of the machine a world stands, and what happens in it.
+use Rattle.std.specs.Prelude.{◌≡◌, ◌≢◌, ◌+◌, ◌<◌, ◌≤◌, ⊤, ℕ, suc, Bool, true, false, List, [], ◌∷◌, length, map, nat_lt, if◌then◌else◌, All, Option, Some, None, Result, Ok, Err}
 use Rattle.mq_wire.specs.declared.NoMemory.{NoMemory}
+use Rattle.mq_talk.specs.declared.book.Call.{Call}
+use Rattle.mq_talk.specs.declared.book.Call.TheVariants as call
+use Rattle.mq_talk.specs.declared.goal.Goal.{Goal}
+use Rattle.mq_talk.specs.declared.goal.Goal.TheVariants as goal
 use Rattle.mq_talk.specs.declared.note.Note.{Note}
-use Rattle.mq_talk.specs.Mails.{Boxes}
+use Rattle.mq_talk.specs.Mails.{Boxes, box_at}
 use Rattle.mq_talk.specs.Offices.{Seen}
 use Rattle.mq_machine.specs.declared.event.Event.{Event}
-use Rattle.mq_machine.specs.State.{Told, Worker, State}
+use Rattle.mq_machine.specs.declared.event.Event.TheVariants as event
+use Rattle.mq_machine.specs.State.{Link, Told, Worker, State}
 use Rattle.mq_machine.specs.Silent.{Reached, SilentTurn}
-use Rattle.mq_machine.specs.Turn.{WorkerOf, Turn, Quiet}
+use Rattle.mq_machine.specs.Turn.{Actor, WorkerOf, ThePump, Turn, Quiet, last_of}
 use Rattle.mq_mem.specs.Offices.{seen_of}
-use Rattle.mq_play.specs.Events.{happen, is_missing}
-use Rattle.mq_world.specs.declared.missing.Missing.{Missing}
+use Rattle.mq_play.specs.Events.{at_link, happen, has_link, is_missing}
+use Rattle.mq_play.specs.Lines.{most_payload}
+use Rattle.mq_plain.specs.Served.{Plain, Serves}
+use Rattle.mq_plain.specs.Taking.{Common, shared_of}
+use Rattle.mq_world.specs.declared.stepped.Stepped.{Stepped}
+use Rattle.mq_world.specs.declared.stepped.Stepped.TheVariants.{Done, Did, Idle, Refused}
+use Rattle.mq_world.specs.declared.stepped.WorldFault.{WorldFault}
+use Rattle.mq_world.specs.declared.stepped.WorldFault.TheVariants as fault
 use Rattle.mq_world.specs.declared.told.Told.{Told as ToldBy}
-use Rattle.mq_world.specs.declared.world.World.{World}
-use Rattle.mq_world.specs.Served.{Plain, Serves}
-use Rattle.mq_world.specs.Taking.{Common, shared_of}
+use Rattle.mq_world.specs.declared.workers.Workers.{Workers}
+
+-- ---- for which state it stands
 
 abbrev pub told_of : ToldBy → Told
 told_of t = record { worker = t.worker; is_ended = t.is_ended }
@@ -27,26 +38,106 @@ AreServed links seen boxes from (a ∷ actors) [] = ⊥
 AreServed links seen boxes from (a ∷ actors) (w ∷ ws) = Serves links seen boxes from a w × AreServed links seen boxes (suc from) actors ws
 
 -- what they share
-abbrev pub common_of : World → Common
+abbrev pub common_of : Workers → Common
 common_of world = record { office = world.office; mail = world.mail; bind_fails = world.bind_fails }
 
+-- the pump holds nothing, nothing came from the network, and no worker pushed anything to it
+pub record PumpRests (s : State) : Type 0 where
+  pub push : s.pump.to_push ≡ None
+  pub send : s.pump.to_send ≡ None
+  pub arrived : s.pump.net.arrived ≡ []
+  pub box : box_at s.shared.boxes (last_of s.shared.boxes) ≡ []
+
 -- its workers, what was said of links, the book, the inboxes and the orders are those of the state
-pub record IsWorld (world : World) (s : State) : Type 0 where
+pub record IsWorld (world : Workers) (s : State) : Type 0 where
   pub links : s.links ≡ map told_of world.links.items
   pub workers : AreServed s.links (seen_of world.office) world.mail.boxes 0 world.workers.items s.workers
   pub shared : s.shared ≡ shared_of (common_of world)
   pub count : length world.workers.items ≡ world.office.book.config.workers
+  pub few : length world.workers.items ≤ 4
   pub boxes : length world.mail.boxes ≡ world.office.book.config.workers + 1
+  pub pump : PumpRests s
   -- each link was offered to one of them
   pub offered : All (λ (t : Told). t.worker < length world.workers.items) s.links
 
--- An event happened, or it names what never was and nothing changed.
-abbrev pub Happens : (stands : State → Type 0) → State → Event → Result ⊤ Missing → Type 0
+-- ---- what happens
+
+-- An event is within its bounds, and none of the network.
+abbrev pub IsServed : Event → Type 0
+IsServed (event.Piece conn bytes) = 0 < length bytes
+IsServed (event.Datagram tunnel bytes) = length bytes ≤ most_payload
+IsServed event.FailNet = ⊥
+IsServed (event.Packet count bytes) = ⊥
+IsServed e = ⊤
+
+-- the actor of this number: the network's is the count of workers
+abbrev pub actor_at : State → ℕ → Actor
+actor_at s number = if nat_lt number (length s.workers) then WorkerOf number else ThePump
+
+-- no actor takes a step
+abbrev pub IsOutside : Event → Type 0
+IsOutside e = (actor : ℕ) → e ≢ event.Step actor
+
+-- it takes memory: a new link, a piece, a datagram
+abbrev pub TakesMemory : Event → Type 0
+TakesMemory (event.Conn actor) = ⊤
+TakesMemory (event.Piece conn bytes) = ⊤
+TakesMemory (event.Datagram tunnel bytes) = ⊤
+TakesMemory e = ⊥
+
+-- the event is a step of this actor, which is one
+pub record StepOf (s : State) (e : Event) (actor : Actor) : Type 0 where
+  pub number : ℕ
+  pub is : e ≡ event.Step number
+  pub there : is_missing s e ≡ false
+  pub named : actor ≡ actor_at s number
+
+-- What an event led to: it happened; or an actor took its turn, or has none, or was refused memory; or the event names what
+-- never was, or memory was refused, and nothing changed.
+abbrev pub StepGives : (stands : State → Type 0) → State → Event → Result Stepped WorldFault → Type 0
+StepGives stands s e (Ok Done) = IsOutside e × (is_missing s e ≡ false) × stands (happen s e)
+StepGives stands s e (Ok (Did note)) = (actor : Actor) × (t : State) × StepOf s e actor × Turn s actor note t × stands t
+StepGives stands s e (Ok Idle) = (actor : Actor) × StepOf s e actor × Quiet s actor × stands s
+StepGives stands s e (Ok Refused) = (actor : Actor) × (reached : Reached) × (t : State) × StepOf s e actor × SilentTurn s actor reached t × stands t
+StepGives stands s e (Err fault.Missing) = (is_missing s e ≡ true) × stands s
+StepGives stands s e (Err fault.NoMemory) = IsOutside e × TakesMemory e × stands s
+
+-- ---- its parts
+
+-- an event of the outside happened, or it names what never was, or memory was refused
+abbrev pub Happens : (stands : State → Type 0) → State → Event → Result ⊤ WorldFault → Type 0
 Happens stands s e (Ok done) = (is_missing s e ≡ false) × stands (happen s e)
-Happens stands s e (Err missing) = (is_missing s e ≡ true) × stands s
+Happens stands s e (Err fault.Missing) = (is_missing s e ≡ true) × stands s
+Happens stands s e (Err fault.NoMemory) = TakesMemory e × stands s
+
+-- a link, if it is there still, changed, or there was none
+abbrev pub LinkHappens : (stands : State → Type 0) → State → ℕ → (Link → Link) → Result ⊤ WorldFault → Type 0
+LinkHappens stands s conn change (Ok done) = (has_link s conn ≡ true) × stands (at_link conn change s)
+LinkHappens stands s conn change (Err fault.Missing) = (has_link s conn ≡ false) × stands s
+LinkHappens stands s conn change (Err fault.NoMemory) = ⊥
 
 -- what a step of a worker gives: its turn, or it has none, or the seat whose turn it was was refused memory
 abbrev pub WorkerGives : State → ℕ → Result (Option Note) NoMemory → State → Type 0
 WorkerGives s number (Ok (Some note)) t = Turn s (WorkerOf number) note t
 WorkerGives s number (Ok None) t = Quiet s (WorkerOf number) × (t ≡ s)
 WorkerGives s number (Err refused) t = (reached : Reached) × SilentTurn s (WorkerOf number) reached t
+
+-- as the world answers these
+abbrev pub stepped_by : Result (Option Note) NoMemory → Stepped
+stepped_by (Ok (Some note)) = Did note
+stepped_by (Ok None) = Idle
+stepped_by (Err refused) = Refused
+
+abbrev pub done_by : Result ⊤ WorldFault → Result Stepped WorldFault
+done_by (Ok done) = Ok Done
+done_by (Err why) = Err why
+
+abbrev pub is_udp : Goal → Bool
+is_udp (goal.Udp addr port) = true
+is_udp (goal.Ip area protocol) = false
+
+abbrev pub opens_udp : Call → Bool
+opens_udp (call.Open conn stream actor goal) = is_udp goal
+opens_udp (call.Assign tunnel asked) = false
+opens_udp (call.Advertise tunnel ranges) = false
+opens_udp (call.Close tunnel) = false

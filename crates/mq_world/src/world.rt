@@ -1,35 +1,41 @@
-//! All workers, round one book and one set of inboxes.
-ghost use Rattle.std.specs.Prelude.{◌≡◌, ◌<◌, true, false, length, nat_lt, slice_get, Some, IfOk, OnOk, OnErr};
-ghost use Rattle.std.specs.Option.{option_map};
-ghost use Rattle.mq_machine.specs.State as machine;
-ghost use Rattle.mq_machine.specs.declared.event.Event.TheVariants.{End, FailBind, FailRead, FailWrite, Room};
-ghost use Rattle.mq_play.specs.Events.{happen, state_of};
+//! A world in memory.
+ghost use Rattle.std.specs.Prelude.{◌≡◌, IfOk, length, not};
+ghost use Rattle.std.specs.List.{list_any};
+ghost use Rattle.mq_machine.specs.State.{State};
+ghost use Rattle.mq_machine.specs.Turn.{has_turn};
+ghost use Rattle.mq_play.specs.Events.{state_of};
+ghost use Rattle.mq_play.specs.Play.{actors_of};
 ghost use Rattle.mq_play.specs.Settings.{IsPlan};
-ghost use Rattle.mq_world.specs.Worlds.{Happens, IsWorld, WorkerGives};
+ghost use Rattle.mq_world.specs.Worlds.{IsServed, IsWorld, StepGives, done_by};
 
-use crate::links::{fail_read, fail_write, finish, grant};
-use crate::missing::Missing;
-use crate::ports::PlainPorts;
-use crate::step::{Plain, take};
-use crate::told::Told;
-use mq_mem::{PlainMail, PlainOffice};
+use crate::stepped::{Stepped, WorldFault};
+use crate::workers::Workers;
+use mq_machine::Event;
+use mq_plain::LinkEvent;
 use mq_play::Plan;
-use mq_talk::Note;
 use mq_wire::NoMemory;
 use std::alloc::Global;
+use std::marker::Model;
 
-/// The workers of a world in memory, and what they share.
+/// All actors of a proxy in memory: its workers, and the pump, which has nothing to do as long as no tunnel is for IP packets.
 #[derive(Drop)]
 pub struct World {
-    pub alloc: Global,
-    /// What was said of each link, by its number.
-    pub links: Vec<Told>,
-    /// By their numbers.
-    pub workers: Vec<Plain>,
-    pub office: PlainOffice,
-    pub mail: PlainMail,
-    /// Whether the next bind is to fail, whichever worker tries it.
-    pub bind_fails: bool,
+    inside: Workers,
+}
+
+impl Model for World {
+    ghost use Rattle.mq_machine.specs.State.{State};
+    ghost use Rattle.mq_world.specs.declared.workers.Workers.{Workers as WorkersOf};
+    ghost use Rattle.mq_world.specs.Worlds.{IsWorld};
+    ghost use Rattle.mq_world.specs.contracts.workers.Workers as workers;
+
+    ghost Value = { WorkersOf };
+
+    ghost coded = { workers.the_row.coded };
+
+    ghost view = { λ w. w.inside };
+
+    ghost invariant = { λ w. (s : State) × IsWorld w.inside s };
 }
 
 impl World {
@@ -38,111 +44,55 @@ impl World {
         requires { IsPlan plan }
         ensures { IfOk result (λ world. IsWorld world (state_of plan)) }
     {
-        let Plan {
-            workers: count,
-            setup,
-            book,
-            ..
-        } = plan;
-        let office = PlainOffice::of(alloc, book)?;
-        let mail = PlainMail::new(alloc, count + 1)?;
-        let mut workers = Vec::with_capacity(alloc, count as usize)?;
-        for number in 0..count {
-            let ports = PlainPorts::new(alloc)?;
-            let own = setup.copy(alloc)?;
-            let worker = Plain::new(alloc, number, own, ports)?;
-            workers.push(worker)?;
-        }
-        Ok(World {
-            alloc,
-            links: Vec::new(alloc),
-            workers,
-            office,
-            mail,
-            bind_fails: false,
-        })
+        let inside = Workers::new(alloc, plan)?;
+        Ok(World { inside })
     }
 
-    /// The next bind fails, whichever worker tries it.
-    pub fn fail_bind(&mut self)
-        ensures { (s : machine.State) → IsWorld self.old s → IsWorld self.new (happen s FailBind) }
+    /// How many workers there are.
+    pub fn workers(&self) -> u32
+        ensures { (s : State) → IsWorld self.now s → result ≡ length s.workers }
     {
-        self.bind_fails = true;
+        self.inside.count()
     }
 
-    /// The worker to which the link of this number was offered.
-    fn worker_of(&self, conn: u32) -> Result<usize, Missing>
-        ensures ok { OnOk result (nat_lt conn (length self.now.links.items) ≡ true) }
-        ensures told { IfOk result (λ k. option_map (λ (t : Told). t.worker) (slice_get self.now.links.items conn) ≡ Some k) }
-        ensures err { OnErr result (nat_lt conn (length self.now.links.items) ≡ false) }
+    /// Something happens: something comes from outside, or an actor takes a step. The actor of the network has the count of
+    /// workers as its number. A piece has a byte, a datagram has at most 65,527, and packets of the network aren't served.
+    /// `Missing` comes where the event names what never was; it and `NoMemory` change nothing.
+    pub fn step(&mut self, event: Event) -> Result<Stepped, WorldFault>
+        requires { IsServed event }
+        ensures { (s : State) → IsWorld self.old s → StepGives (IsWorld self.new) s event result }
     {
-        match self.links.get(conn as usize) {
-            None => Err(Missing {}),
-            Some(told) => Ok(told.worker as usize),
+        match event {
+            Event::Conn { actor } => done(self.inside.offer(actor)),
+            Event::Piece { conn, bytes } => done(self.inside.piece(conn, bytes)),
+            Event::End { conn } => done(self.inside.finish(conn)),
+            Event::Room { conn, room } => done(self.inside.change(conn, LinkEvent::Room(room))),
+            Event::FailRead { conn } => done(self.inside.change(conn, LinkEvent::FailRead)),
+            Event::FailWrite { conn } => done(self.inside.change(conn, LinkEvent::FailWrite)),
+            Event::Datagram { tunnel, bytes } => done(self.inside.arrive(tunnel, bytes)),
+            Event::FailPort { tunnel } => done(self.inside.fail_send(tunnel)),
+            Event::FailBind => {
+                self.inside.fail_bind();
+                Ok(Stepped::Done)
+            }
+            Event::Step { actor } => self.inside.act(actor),
+            Event::FailNet => unreachable!(),
+            Event::Packet { .. } => unreachable!(),
         }
     }
 
-    /// A link takes so many bytes from now on, and then a write answers that nothing goes on now; without a number it takes
-    /// any number. Of one that is gone nothing changes.
-    pub fn grant(&mut self, conn: u32, room: Option<u32>) -> Result<(), Missing>
-        requires { (s : machine.State) × IsWorld self.old s }
-        ensures { (s : machine.State) → IsWorld self.old s → Happens (IsWorld self.new) s (Room conn room) result }
+    /// Whether no actor has a step. Takes no memory.
+    pub fn quiet(&self) -> bool
+        ensures { (s : State) → IsWorld self.now s → result ≡ not (list_any (has_turn s) (actors_of s)) }
     {
-        let place = self.worker_of(conn)?;
-        let worker = &mut self.workers[place];
-        grant(worker, conn, room);
-        Ok(())
+        self.inside.are_quiet()
     }
+}
 
-    /// The end of a link arrives. Of one that is gone nothing changes, but that its end was said.
-    pub fn finish(&mut self, conn: u32) -> Result<(), Missing>
-        requires { (s : machine.State) × IsWorld self.old s }
-        ensures { (s : machine.State) → IsWorld self.old s → Happens (IsWorld self.new) s (End conn) result }
-    {
-        let place = self.worker_of(conn)?;
-        self.links[conn as usize].is_ended = true;
-        let worker = &mut self.workers[place];
-        finish(worker, conn);
-        Ok(())
-    }
-
-    /// The next read of a link fails. Of one that is gone nothing changes.
-    pub fn fail_read(&mut self, conn: u32) -> Result<(), Missing>
-        requires { (s : machine.State) × IsWorld self.old s }
-        ensures { (s : machine.State) → IsWorld self.old s → Happens (IsWorld self.new) s (FailRead conn) result }
-    {
-        let place = self.worker_of(conn)?;
-        let worker = &mut self.workers[place];
-        fail_read(worker, conn);
-        Ok(())
-    }
-
-    /// The next write of a link fails. Of one that is gone nothing changes.
-    pub fn fail_write(&mut self, conn: u32) -> Result<(), Missing>
-        requires { (s : machine.State) × IsWorld self.old s }
-        ensures { (s : machine.State) → IsWorld self.old s → Happens (IsWorld self.new) s (FailWrite conn) result }
-    {
-        let place = self.worker_of(conn)?;
-        let worker = &mut self.workers[place];
-        fail_write(worker, conn);
-        Ok(())
-    }
-
-    /// The worker of this number takes a step.
-    pub fn step(&mut self, number: u32) -> Result<Option<Note>, NoMemory>
-        requires stands { (s : machine.State) × IsWorld self.old s }
-        requires number { number < length self.old.workers.items }
-        ensures { (s : machine.State) → IsWorld self.old s → (t : machine.State) × IsWorld self.new t × WorkerGives s number result t }
-    {
-        self.office.turn_to(number);
-        self.mail.turn_to(number);
-        let worker = &mut self.workers[number as usize];
-        take(
-            self.alloc,
-            worker,
-            &mut self.office,
-            &mut self.mail,
-            &mut self.bind_fails,
-        )
-    }
+/// What happened beside a step.
+fn done(happened: Result<(), WorldFault>) -> Result<Stepped, WorldFault>
+    ensures { result ≡ done_by happened }
+{
+    happened?;
+    Ok(Stepped::Done)
 }

@@ -1,0 +1,12 @@
+pub mod Beside
+pub mod Emptied
+pub mod Turned
+pub mod Porting
+pub mod Linking
+pub mod Serving
+pub mod Taken
+pub mod Results
+pub mod Same
+pub mod Arriving
+pub mod Elsewhere
+pub mod Offering

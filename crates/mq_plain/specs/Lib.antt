@@ -1,0 +1,4 @@
+pub mod Plain
+pub mod Served
+pub mod Coming
+pub mod Taking

@@ -1,0 +1,26 @@
+//! What a world answers.
+
+use mq_talk::Note;
+
+/// What a world answers where the event names what was there.
+#[derive(Drop)]
+pub enum Stepped {
+    /// It happened. Of a link or a tunnel that is gone nothing changed.
+    Done,
+    /// The actor took a step, of which this is the note.
+    Did(Note),
+    /// The actor has no step, and nothing changed.
+    Idle,
+    /// The actor's step was refused memory: the connection whose turn it was is ending with that, or the link stays offered.
+    Refused,
+}
+
+/// Why nothing happened.
+#[derive(Clone, Copy, Debug, PartialEq, Eq)]
+pub enum WorldFault {
+    /// The event names what never was: an actor, a link or a tunnel for UDP; or it is a piece behind the end of its link, or
+    /// one link too many.
+    Missing,
+    /// Memory for a new link, a piece or a datagram was refused.
+    NoMemory,
+}

@@ -1,0 +1,280 @@
+//! All workers, what was said of their links, and what they share.
+ghost use Rattle.std.specs.Prelude.{◌≡◌, ◌<◌, ◌≤◌, ◌||◌, true, false, not, length, map, nat_le, nat_lt, slice_get, Some, Err, IfOk, OnOk, OnErr};
+ghost use Rattle.std.specs.List.{list_any};
+ghost use Rattle.std.specs.Option.{option_map};
+ghost use Rattle.mq_machine.specs.State as machine;
+ghost use Rattle.mq_machine.specs.declared.event.Event.TheVariants.{Conn, Datagram, End, FailBind, FailPort, Piece, Step};
+ghost use Rattle.mq_machine.specs.Turn.{has_turn};
+ghost use Rattle.mq_play.specs.Events.{happen, is_ended, is_missing, most_links, state_of};
+ghost use Rattle.mq_play.specs.Lines.{most_payload};
+ghost use Rattle.mq_play.specs.Play.{actors_of};
+ghost use Rattle.mq_play.specs.Settings.{IsPlan};
+ghost use Rattle.mq_plain.specs.Coming.{changed};
+ghost use Rattle.mq_world.specs.declared.stepped.WorldFault.TheVariants as fault;
+ghost use Rattle.mq_world.specs.Worlds.{Happens, IsWorld, LinkHappens, StepGives, WorkerGives, stepped_by, told_of};
+
+use crate::stepped::{Stepped, WorldFault};
+use crate::told::Told;
+use crate::tunnel::opener_of;
+use mq_mem::{PlainMail, PlainOffice};
+use mq_plain::{
+    LinkEvent, Plain, PlainPorts, arrive, change, fail_send, is_quiet, offer, piece, take,
+};
+use mq_play::Plan;
+use mq_talk::Note;
+use mq_wire::{Bytes, NoMemory};
+use std::alloc::Global;
+
+/// The most links of a world.
+const MOST_LINKS: usize = 65_536;
+
+/// The workers of a world in memory, and what they share.
+#[derive(Drop)]
+pub struct Workers {
+    pub alloc: Global,
+    /// What was said of each link, by its number.
+    pub links: Vec<Told>,
+    /// By their numbers.
+    pub workers: Vec<Plain>,
+    pub office: PlainOffice,
+    /// One inbox for each worker, and the pump's.
+    pub mail: PlainMail,
+    /// Whether the next bind is to fail, whichever worker tries it.
+    pub bind_fails: bool,
+}
+
+impl Workers {
+    /// The workers of a plan, to which nothing happened yet: they have no links, and the book and the inboxes are empty.
+    pub(crate) fn new(alloc: Global, plan: Plan) -> Result<Workers, NoMemory>
+        requires { IsPlan plan }
+        ensures { IfOk result (λ world. IsWorld world (state_of plan)) }
+    {
+        let Plan {
+            workers: count,
+            setup,
+            book,
+            ..
+        } = plan;
+        let office = PlainOffice::of(alloc, book)?;
+        let mail = PlainMail::new(alloc, count + 1)?;
+        let mut workers = Vec::with_capacity(alloc, count as usize)?;
+        for number in 0..count {
+            let ports = PlainPorts::new(alloc)?;
+            let own = setup.copy(alloc)?;
+            let worker = Plain::new(alloc, number, own, ports)?;
+            workers.push(worker)?;
+        }
+        Ok(Workers {
+            alloc,
+            links: Vec::new(alloc),
+            workers,
+            office,
+            mail,
+            bind_fails: false,
+        })
+    }
+
+    // ---- what happens to links
+
+    /// Whether there is no such worker, or no place for one more link.
+    fn has_no_place(&self, actor: u32) -> bool
+        ensures { result ≡ (nat_le (length self.now.workers.items) actor || nat_le most_links (length self.now.links.items)) }
+    {
+        actor as usize >= self.workers.len() || self.links.len() >= MOST_LINKS
+    }
+
+    /// A new link is offered to a worker.
+    pub(crate) fn offer(&mut self, actor: u32) -> Result<(), WorldFault>
+        requires { (s : machine.State) × IsWorld self.old s }
+        ensures { (s : machine.State) → IsWorld self.old s → Happens (IsWorld self.new) s (Conn actor) result }
+    {
+        if self.has_no_place(actor) {
+            return Err(WorldFault::Missing);
+        }
+        let number = self.links.len();
+        let told = Told {
+            worker: actor,
+            is_ended: false,
+        };
+        let Ok(()) = self.links.push(told) else {
+            return Err(WorldFault::NoMemory);
+        };
+        let worker = &mut self.workers[actor as usize];
+        match offer(self.alloc, worker, number as u32) {
+            Ok(()) => Ok(()),
+            Err(NoMemory) => {
+                self.links.truncate(number);
+                Err(WorldFault::NoMemory)
+            }
+        }
+    }
+
+    /// The worker to which the link of this number was offered.
+    fn worker_of(&self, conn: u32) -> Result<usize, WorldFault>
+        ensures ok { OnOk result (nat_lt conn (length self.now.links.items) ≡ true) }
+        ensures told { IfOk result (λ k. option_map (λ (t : Told). t.worker) (slice_get self.now.links.items conn) ≡ Some k) }
+        ensures err { OnErr result ((nat_lt conn (length self.now.links.items) ≡ false) × (result ≡ Err fault.Missing)) }
+    {
+        match self.links.get(conn as usize) {
+            None => Err(WorldFault::Missing),
+            Some(told) => Ok(told.worker as usize),
+        }
+    }
+
+    /// Something comes to a link, and nothing is said of that beside. Of one that is gone nothing changes.
+    pub(crate) fn change(&mut self, conn: u32, event: LinkEvent) -> Result<(), WorldFault>
+        requires { (s : machine.State) × IsWorld self.old s }
+        ensures { (s : machine.State) → IsWorld self.old s → LinkHappens (IsWorld self.new) s conn (changed event) result }
+    {
+        let place = self.worker_of(conn)?;
+        let worker = &mut self.workers[place];
+        change(worker, conn, event);
+        Ok(())
+    }
+
+    /// The end of a link arrives, and is said.
+    pub(crate) fn finish(&mut self, conn: u32) -> Result<(), WorldFault>
+        requires { (s : machine.State) × IsWorld self.old s }
+        ensures { (s : machine.State) → IsWorld self.old s → Happens (IsWorld self.new) s (End conn) result }
+    {
+        let place = self.worker_of(conn)?;
+        self.links[conn as usize].is_ended = true;
+        let worker = &mut self.workers[place];
+        change(worker, conn, LinkEvent::End);
+        Ok(())
+    }
+
+    /// The worker to which a link was offered whose end wasn't said.
+    fn worker_before_end(&self, conn: u32) -> Result<usize, WorldFault>
+        ensures told { IfOk result (λ k. option_map (λ (t : Told). t.worker) (slice_get self.now.links.items conn) ≡ Some k) }
+        ensures ok { OnOk result (is_ended (map told_of self.now.links.items) conn ≡ false) }
+        ensures err { OnErr result ((is_ended (map told_of self.now.links.items) conn ≡ true) × (result ≡ Err fault.Missing)) }
+    {
+        match self.worker_of(conn) {
+            Err(why) => Err(why),
+            Ok(place) => {
+                if self.links[conn as usize].is_ended {
+                    Err(WorldFault::Missing)
+                } else {
+                    Ok(place)
+                }
+            }
+        }
+    }
+
+    /// A piece arrives on a link.
+    pub(crate) fn piece(&mut self, conn: u32, bytes: Bytes) -> Result<(), WorldFault>
+        requires stands { (s : machine.State) × IsWorld self.old s }
+        requires some { 0 < length bytes }
+        ensures { (s : machine.State) → IsWorld self.old s → Happens (IsWorld self.new) s (Piece conn bytes) result }
+    {
+        let place = self.worker_before_end(conn)?;
+        let worker = &mut self.workers[place];
+        match piece(worker, conn, bytes) {
+            Ok(()) => Ok(()),
+            Err(NoMemory) => Err(WorldFault::NoMemory),
+        }
+    }
+
+    // ---- what happens to ports
+
+    /// A datagram arrives at the port of a tunnel. Of one that is closed nothing changes.
+    pub(crate) fn arrive(&mut self, tunnel: u32, datagram: Bytes) -> Result<(), WorldFault>
+        requires stands { (s : machine.State) × IsWorld self.old s }
+        requires few { length datagram ≤ most_payload }
+        ensures { (s : machine.State) → IsWorld self.old s → Happens (IsWorld self.new) s (Datagram tunnel datagram) result }
+    {
+        let place = opener_of(self.office.book().history(), tunnel)?;
+        let worker = &mut self.workers[place];
+        match arrive(worker, tunnel, datagram) {
+            Ok(()) => Ok(()),
+            Err(NoMemory) => Err(WorldFault::NoMemory),
+        }
+    }
+
+    /// The next send on the port of a tunnel fails. Of one that is closed nothing changes.
+    pub(crate) fn fail_send(&mut self, tunnel: u32) -> Result<(), WorldFault>
+        requires { (s : machine.State) × IsWorld self.old s }
+        ensures { (s : machine.State) → IsWorld self.old s → Happens (IsWorld self.new) s (FailPort tunnel) result }
+    {
+        let place = opener_of(self.office.book().history(), tunnel)?;
+        let worker = &mut self.workers[place];
+        fail_send(worker, tunnel);
+        Ok(())
+    }
+
+    /// The next bind fails, whichever worker tries it.
+    pub(crate) fn fail_bind(&mut self)
+        ensures { (s : machine.State) → IsWorld self.old s → IsWorld self.new (happen s FailBind) }
+    {
+        self.bind_fails = true;
+    }
+
+    // ---- steps
+
+    /// How many there are.
+    pub(crate) fn count(&self) -> u32
+        requires { (s : machine.State) × IsWorld self.now s }
+        ensures { (s : machine.State) → IsWorld self.now s → result ≡ length s.workers }
+    {
+        self.workers.len() as u32
+    }
+
+    /// An actor takes a step. The pump, whose number is the count of workers, has none.
+    pub(crate) fn act(&mut self, actor: u32) -> Result<Stepped, WorldFault>
+        requires { (s : machine.State) × IsWorld self.old s }
+        ensures { (s : machine.State) → IsWorld self.old s → StepGives (IsWorld self.new) s (Step actor) result }
+    {
+        let count = self.count();
+        if actor > count {
+            return Err(WorldFault::Missing);
+        }
+        if actor == count {
+            return Ok(Stepped::Idle);
+        }
+        Ok(stepped(self.step(actor)))
+    }
+
+    /// The worker of this number takes a step.
+    fn step(&mut self, number: u32) -> Result<Option<Note>, NoMemory>
+        requires stands { (s : machine.State) × IsWorld self.old s }
+        requires number { number < length self.old.workers.items }
+        ensures { (s : machine.State) → IsWorld self.old s → (t : machine.State) × IsWorld self.new t × WorkerGives s number result t }
+    {
+        self.office.turn_to(number);
+        self.mail.turn_to(number);
+        let worker = &mut self.workers[number as usize];
+        take(
+            self.alloc,
+            worker,
+            &mut self.office,
+            &mut self.mail,
+            &mut self.bind_fails,
+        )
+    }
+
+    /// Whether no actor has a step. Takes no memory.
+    pub(crate) fn are_quiet(&self) -> bool
+        requires { (s : machine.State) × IsWorld self.now s }
+        ensures { (s : machine.State) → IsWorld self.now s → result ≡ not (list_any (has_turn s) (actors_of s)) }
+    {
+        for number in 0..self.workers.len() {
+            let is_empty = !self.mail.waiting(number as u32);
+            if !is_quiet(&self.workers[number], is_empty) {
+                return false;
+            }
+        }
+        true
+    }
+}
+
+/// What the step of a worker gave.
+fn stepped(given: Result<Option<Note>, NoMemory>) -> Stepped
+    ensures { result ≡ stepped_by given }
+{
+    match given {
+        Ok(Some(note)) => Stepped::Did(note),
+        Ok(None) => Stepped::Idle,
+        Err(NoMemory) => Stepped::Refused,
+    }
+}
