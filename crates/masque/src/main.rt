@@ -1,36 +1,9 @@
 //! Replays scripts against a proxy for tunnels over HTTP, and prints what it does.
 #![tactic(auto)]
 
-use mq_top::{StandardSink, StandardSource, Status, run};
+use mq_top::program;
 use std::process::ExitCode;
-use std::{env, io};
-
-/// The exit status where the words aren't a command.
-const USAGE: u8 = 2;
-
-/// The words behind the program's name.
-fn words(rt: &HostRuntime) -> io::Result<Vec<String>> {
-    let mut words = Vec::new(rt.alloc());
-    for word in env::args(rt)?.skip(1) {
-        words.push(word)?;
-    }
-    Ok(words)
-}
-
-/// The exit status where the words can't be read: a word that isn't UTF-8 makes a faulty command line.
-fn unread(fault: &io::Error) -> u8 {
-    match fault.kind() {
-        io::ErrorKind::OutOfMemory => Status::NoMemory.code(),
-        _ => USAGE,
-    }
-}
 
 fn main(rt: HostRuntime) -> ExitCode {
-    let words = match words(&rt) {
-        Ok(words) => words,
-        Err(fault) => return ExitCode::from(unread(&fault)),
-    };
-    let mut source = StandardSource::new(rt.stdin());
-    let mut sink = StandardSink::new(rt.stdout());
-    ExitCode::from(run(rt.alloc(), words.as_slice(), &mut source, &mut sink))
+    program(&rt)
 }

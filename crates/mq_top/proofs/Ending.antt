@@ -1,12 +1,12 @@
 -- How a replay ends.
-use Rattle.std.proofs.Common.{◌≡◌, ℕ, ◌+◌, List, [], ◌++◌, length, Option, Some, None, Err, refl, sym, ap, subst, ◌∙◌, append_assoc, append-nil, inl, inr}
+use Rattle.std.proofs.Common.{◌≡◌, ℕ, ◌+◌, List, [], ◌∷◌, ◌++◌, length, Option, Some, None, refl, sym, ap, subst, ◌∙◌, append_assoc, append-nil, inl, inr}
 use Rattle.std.specs.Option.{IfSome, MatchOption}
-use Rattle.mq_one_machine.specs.Play.{IsPlayedSoFar, IsPlayedBad, IsPlayedPart}
-use Rattle.mq_one_machine.specs.Text.{bad_line}
-use Rattle.mq_outside.specs.Outside.{Rose, Gives}
+use Rattle.mq_play.specs.Script.{IsPlayedSoFar, IsPlayedBad, IsPlayedPart}
+use Rattle.mq_play.specs.Text.{printed, Bad}
+use Rattle.mq_outside.specs.Outside.{Gives}
+use Rattle.mq_top.proofs.Cutting.{script_lines}
 use Rattle.mq_top.proofs.Reading.{no_memory}
-use Rattle.mq_top.specs.Printing.{StopCounts}
-use Rattle.mq_top.specs.Reading.{IsRead, IsAtBad, StopsAt, SaysTo, IsSaid, IsWritten, PlayCounts, StoppedCounts, PlaysTo, FinishesTo, GoesOn}
+use Rattle.mq_top.specs.Reading.{IsRead, IsAtBad, StopsAt, SaysTo, IsWritten, PlayCounts, PlaysTo, FinishesTo, GoesOn}
 use Rattle.mq_top.specs.Replay.{Replays, SourceCounts, SinkCounts}
 use Rattle.mq_top.specs.declared.session.Session.{Session}
 use Rattle.mq_top.specs.declared.status.Status.{Status}
@@ -19,14 +19,15 @@ use Rattle.mq_top.specs.declared.status.Stop.TheVariants.{BadLine, WriteFault, N
 bad_unsaid : (whole text : List ℕ) (number : ℕ) → IsAtBad whole text number → IsPlayedPart whole text
 bad_unsaid whole text number b = record {
   before = b.before;
-  state = b.state;
+  after = b.line ∷ b.after;
+  fates = b.fates;
+  here = b.here;
   text = text;
-  part = bad_line (length b.before + 1);
-  refused = b.refused;
-  here = 0;
-  plays = b.plays;
-  stops = inr (inr (b.bad, refl, refl));
-  front = (bad_line (length b.before + 1), refl);
+  last = [];
+  part = printed (Bad (length b.before + 1));
+  reached = b.reached;
+  stops = inr (inr (refl, record { line = b.line; others = b.after; is = refl; bad = b.bad; part_is = refl }));
+  front = (printed (Bad (length b.before + 1)), refl);
 }
 
 -- nothing was said of the stop
@@ -38,31 +39,34 @@ unsaid whole text why number s = let P : List ℕ → Type 0 = λ out. IsPlayedP
   part NoMemory s = s
 
 -- that the line is bad was said
-pub bad_said : (whole text : List ℕ) (why : Stop) (number : ℕ) → why ≡ BadLine → StopsAt whole text why number → IsPlayedBad whole (text ++ bad_line (number + 1))
+pub bad_said : (whole text : List ℕ) (why : Stop) (number : ℕ) → why ≡ BadLine → StopsAt whole text why number → IsPlayedBad whole (text ++ printed (Bad (number + 1)))
 bad_said whole text why number is stopped =
     let P : Stop → Type 0 = λ w. StopsAt whole text w number in
     let b = subst P is stopped in
     record {
       before = b.before;
-      state = b.state;
+      line = b.line;
+      after = b.after;
+      fates = b.fates;
+      here = b.here;
       text = text;
-      refused = b.refused;
-      plays = b.plays;
+      reached = b.reached;
       bad = b.bad;
-      out_is = ap (λ (n : ℕ). text ++ bad_line (n + 1)) b.number_is;
+      out_is = ap (λ (n : ℕ). text ++ printed (Bad (n + 1))) b.number_is;
     }
 
 -- what was said whole was said in part
 bad_part : (whole out : List ℕ) → IsPlayedBad whole out → IsPlayedPart whole out
 bad_part whole out b = record {
   before = b.before;
-  state = b.state;
+  after = b.line ∷ b.after;
+  fates = b.fates;
+  here = b.here;
   text = b.text;
-  part = bad_line (length b.before + 1);
-  refused = b.refused;
-  here = 0;
-  plays = b.plays;
-  stops = inr (inr (b.bad, refl, refl));
+  last = [];
+  part = printed (Bad (length b.before + 1));
+  reached = b.reached;
+  stops = inr (inr (refl, record { line = b.line; others = b.after; is = refl; bad = b.bad; part_is = refl }));
   front = ([], sym b.out_is ∙ sym (append-nil out));
 }
 
@@ -72,33 +76,6 @@ says_part whole out status.WriteFault s = s
 says_part whole out status.NoMemory s = s
 says_part whole out Done s = absurd s
 says_part whole out ReadFault s = absurd s
-
--- all is written
-pub written_all : (owes : List ℕ) (answer : Status) → owes ≡ [] → IsWritten owes answer
-written_all owes BadScript e = e
-written_all owes status.WriteFault e = tt
-written_all owes status.NoMemory e = tt
-written_all owes Done e = e
-written_all owes ReadFault e = e
-
--- what was owed to the sink when the play stopped was written
-pub stop_counts : (why : Stop) (before after : ℕ) (answer : Status) → (why ≡ WriteFault → ⊥) → IsSaid answer → after ≡ before → StoppedCounts why before after answer
-stop_counts WriteFault before after answer other said e = absurd (other refl)
-stop_counts BadLine before after BadScript other said e = e
-stop_counts BadLine before after status.NoMemory other said e = e
-stop_counts BadLine before after status.WriteFault other said e = absurd said
-stop_counts BadLine before after Done other said e = absurd said
-stop_counts BadLine before after ReadFault other said e = absurd said
-stop_counts NoMemory before after BadScript other said e = e
-stop_counts NoMemory before after status.NoMemory other said e = e
-stop_counts NoMemory before after status.WriteFault other said e = absurd said
-stop_counts NoMemory before after Done other said e = absurd said
-stop_counts NoMemory before after ReadFault other said e = absurd said
-
-pub stop_fault : (why : Stop) (before after : ℕ) → (why ≡ WriteFault → ⊥) → Rose before after → StoppedCounts why before after status.WriteFault
-stop_fault WriteFault before after other rose = absurd (other refl)
-stop_fault BadLine before after other rose = rose
-stop_fault NoMemory before after other rose = rose
 
 -- where nothing was owed, and nothing is
 pub all_written : (o owes shown written : List ℕ) → o ≡ [] → owes ≡ [] → o ++ shown ≡ written ++ owes → shown ≡ written
@@ -113,12 +90,13 @@ from_none o owes shown written none e = ap (λ (xs : List ℕ). xs ++ shown) (sy
 pub part_front : (whole text shown written owes : List ℕ) → shown ≡ written ++ owes → IsPlayedPart whole (text ++ shown) → IsPlayedPart whole (text ++ written)
 part_front whole text shown written owes e p = record {
   before = p.before;
-  state = p.state;
-  text = p.text;
-  part = p.part;
-  refused = p.refused;
+  after = p.after;
+  fates = p.fates;
   here = p.here;
-  plays = p.plays;
+  text = p.text;
+  last = p.last;
+  part = p.part;
+  reached = p.reached;
   stops = p.stops;
   front = (owes ++ p.front.0, p.front.1 ∙ ap (λ (xs : List ℕ). xs ++ p.front.0) (ap (λ (xs : List ℕ). text ++ xs) e ∙ sym (append_assoc text written owes)) ∙ append_assoc (text ++ written) owes p.front.0);
 }
@@ -146,15 +124,6 @@ says_finish whole out status.NoMemory s = s
 says_finish whole out Done s = absurd s
 says_finish whole out ReadFault s = absurd s
 
--- the counts of two calls, of which the second came after a stop
-pub stopped_counts : (why : Stop) (a b c : ℕ) (answer : Status) → StopCounts {A = Unit {0}} a b (Err why) → StoppedCounts why b c answer → PlayCounts a c answer
-stopped_counts WriteFault a b c answer first next =
-    let P : Status → Type 0 = λ s. PlayCounts a c s in
-    let Q : ℕ → Type 0 = λ n. Rose a n in
-    subst P (sym next.1) (subst Q (sym next.0) first)
-stopped_counts BadLine a b c answer first next = let P : ℕ → Type 0 = λ n. PlayCounts n c answer in subst P first next
-stopped_counts NoMemory a b c answer first next = let P : ℕ → Type 0 = λ n. PlayCounts n c answer in subst P first next
-
 pub play_sink : (before after : ℕ) (answer : Status) → PlayCounts before after answer → SinkCounts before after answer
 play_sink before after status.WriteFault p = p
 play_sink before after Done p = p
@@ -168,10 +137,6 @@ play_source before after now then Done p e = e
 play_source before after now then BadScript p e = e
 play_source before after now then status.NoMemory p e = e
 play_source before after now then ReadFault p e = absurd p
-
-pub option_sink : (before after : ℕ) (answer : Option Status) → MatchOption answer (after ≡ before) (PlayCounts before after) → MatchOption answer (after ≡ before) (SinkCounts before after)
-option_sink before after None p = p
-option_sink before after (Some answer) p = play_sink before after answer p
 
 pub option_source : (before after now then : ℕ) (answer : Option Status) → MatchOption answer (after ≡ before) (PlayCounts before after) → then ≡ now → MatchOption answer (then ≡ now) (SourceCounts now then)
 option_source before after now then None p e = e
@@ -210,5 +175,13 @@ gives_more (Some left) b c x y p q =
 
 -- the source failed
 pub so_far : (x : Session) (script : List ℕ) (lines : List (List ℕ)) (text : List ℕ) → IsRead x script lines text → IsPlayedSoFar script text
-so_far x script lines text r =
-    record { lines = lines; tail = x.begun.items; new = r.state; refused = r.refused; script_is = r.script_is; fits = r.fits; begun = r.begun_fits; plays = r.plays }
+so_far x script lines text r = record {
+  lines = lines;
+  begun = x.begun.items;
+  fates = r.fates;
+  new = r.state;
+  is = script_lines script lines x.begun.items r.script_is;
+  fits = r.fits;
+  begun_fits = r.begun_fits;
+  plays = r.plays;
+}

@@ -1,5 +1,8 @@
 pub mod Shown
-pub mod Steps
+pub mod Spoken
+pub mod Onward
+pub mod Round
+pub mod Opening
 pub mod Playing
 pub mod Cutting
 pub mod Reading

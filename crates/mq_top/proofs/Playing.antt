@@ -1,128 +1,136 @@
 -- What the parts of a line's play say of the line.
-use Rattle.std.proofs.Common.{◌≡◌, ℕ, true, List, [], ◌∷◌, ◌++◌, Option, Some, None, Result, Ok, Err, refl, sym, subst, inl, inr}
-use Rattle.mq_one_machine.specs.Line.{Says}
-use Rattle.mq_one_machine.specs.Play as spec
-use Rattle.mq_one_machine.specs.Play.{Settings, Running, opened, LinePlays, IsBadHere}
-use Rattle.mq_one_machine.specs.State.{State}
-use Rattle.mq_one_machine.specs.declared.line.Line.{Line}
-use Rattle.mq_one_machine.specs.declared.line.Line.TheVariants as line
-use Rattle.mq_one_machine.specs.declared.line.Line.TheVariants.{Steps}
-use Rattle.mq_one_machine.specs.declared.setting.SettingLine.{SettingLine}
-use Rattle.mq_one_machine.specs.declared.setup.Setup.{Setup}
-use Rattle.mq_one_machine.specs.Next.{Turn}
-use Rattle.mq_one_machine.specs.Text.{note_line}
-use Rattle.mq_one_machine.specs.declared.note.Note.{Note}
-use Rattle.mq_one_script.specs.Settings as script
-use Rattle.mq_top.specs.Playing.{StepTo, RunsTo, Answers, EventTo, SilentTo, LineTo}
-use Rattle.mq_top.specs.Printing.{Spills}
-use Rattle.mq_top.specs.Stages.{MayRun, IsStage, SetTo}
+use Rattle.std.proofs.Common.{◌≡◌, ◌≢◌, ℕ, ◌≤◌, ◌<◌, Bool, true, false, List, [], ◌∷◌, ◌++◌, length, Result, Ok, Err, refl, sym, ap, subst, inl, inr}
+use Rattle.std.specs.Prelude.{if◌then◌else◌}
+use Rattle.std.proofs.lemmas.Bool.{lt-ltb, le-ltb}
+use Rattle.mq_machine.specs.declared.event.Event.{Event}
+use Rattle.mq_machine.specs.Turn.{WorkerOf, ThePump}
+use Rattle.mq_play.specs.declared.line.Line.{Line}
+use Rattle.mq_play.specs.declared.line.Line.TheVariants as line
+use Rattle.mq_play.specs.declared.line.SettingLine.{SettingLine}
+use Rattle.mq_play.specs.Events.{happen}
+use Rattle.mq_play.specs.Lines.{Says, net_number}
+use Rattle.mq_play.specs.Play as spec
+use Rattle.mq_play.specs.Play.{Fate, Until, TheEnd, SomeStop, Settings, Running, opening, opened, actor_of, is_actor, Runs, Goes, LinePlays, IsBadHere, IsWrong, Plays, PlaysLine, line_limit}
+use Rattle.mq_script.specs.Settings.{Made, IsSettings, Adds}
+use Rattle.mq_top.specs.Playing.{Answers, LedTo, RunsTo, GoesTo, SaidTo, LineTo}
+use Rattle.mq_top.specs.Stages.{IsStage}
+use Rattle.mq_top.specs.Telling.{IsSpoken, AreTold}
 use Rattle.mq_top.specs.declared.stage.Stage.{Stage}
+use Rattle.mq_top.specs.declared.stage.Stage.TheVariants as stage
 use Rattle.mq_top.specs.declared.status.Stop.{Stop}
 use Rattle.mq_top.specs.declared.status.Stop.TheVariants.{BadLine, WriteFault, NoMemory}
-use Rattle.mq_one_world.specs.declared.event.Event.{Event}
-use Rattle.mq_one_world.specs.declared.event.Event.TheVariants.{Conn, Piece, FailBind, Step}
-use Rattle.mq_one_world.specs.declared.event.Stepped.{Stepped}
-use Rattle.mq_one_world.specs.declared.event.Stepped.TheVariants.{Done, Did, Idle, Refused}
-use Rattle.mq_one_world.specs.declared.event.WorldFault.{WorldFault}
-use Rattle.mq_one_world.specs.declared.event.WorldFault.TheVariants as fault
-use Rattle.mq_one_world.specs.declared.world.World.{World}
-use Rattle.mq_one_world.specs.Worlds as world
-use Rattle.mq_one_world.specs.Worlds.{IsWorld}
+use Rattle.mq_top.proofs.Reading.{plays_more}
+use Rattle.mq_wire.specs.declared.NoMemory as wire
+use Rattle.mq_world.specs.declared.stepped.Stepped.{Stepped}
+use Rattle.mq_world.specs.declared.stepped.Stepped.TheVariants.{Done, Did, Idle, Refused}
+use Rattle.mq_world.specs.declared.stepped.WorldFault.{WorldFault}
+use Rattle.mq_world.specs.declared.stepped.WorldFault.TheVariants as fault
+use Rattle.mq_world.specs.declared.world.World.{World}
+use Rattle.mq_world.specs.Worlds.{IsWorld, IsOutside, StepGives}
 
--- the stage of a world that has begun
-abbrev pub running : script.Made → World → Stage
-running settings w = record { settings = settings; world = Some w }
+-- ---- settings
 
--- a line that prints nothing
-pub silent_line : (s : spec.Stage) (bytes : List ℕ) (said : Line) (answer : Result (Unit {0}) Stop) (x : Stage) → Says bytes said → SilentTo s said answer x → LineTo s bytes [] answer x
-silent_line s bytes said (Ok done) x says told = (said, told.0, 0, says, told.1, told.2)
-silent_line s bytes said (Err BadLine) x says told = (inr (said, says, told), refl)
-silent_line s bytes said (Err WriteFault) x says told = absurd told
-silent_line s bytes said (Err NoMemory) x says told = inl refl
+-- one more setting was told, behind those that lines told
+pub told_more : (old new : Made) (said : SettingLine) → AreTold old → IsSpoken (line.Setting said) → ((lines : List SettingLine) → IsSettings old lines → Adds old lines said (Ok true) new) → AreTold new
+told_more old new said told spoken adds =
+    let added = adds told.told told.stands in
+    record {
+      lines = told.lines ++ spoken.text ∷ [];
+      fates = told.fates ++ [] ∷ [];
+      text = told.text ++ [];
+      told = told.told ++ said ∷ [];
+      plays =
+          plays_more opening told.lines told.fates told.text (Settings told.told) spoken.text [] [] (Settings (told.told ++ said ∷ [])) told.plays
+          (record { said = line.Setting said; fits = spoken.fits; says = spoken.says; plays = ((added.0, refl), refl, refl) });
+      stands = added.1;
+    }
 
--- a line of a setting
-pub setting_line : (s : spec.Stage) (bytes : List ℕ) (said : SettingLine) (answer : Result (Unit {0}) Stop) (x : Stage) → Says bytes (line.Setting said) → SetTo s said answer x → LineTo s bytes [] answer x
-setting_line s bytes said (Ok done) x says told = (line.Setting said, told.0, 0, says, (told.1, refl, refl), told.2)
-setting_line s bytes said (Err BadLine) x says told = (inr (line.Setting said, says, told), refl)
-setting_line s bytes said (Err WriteFault) x says told = absurd told
-setting_line s bytes said (Err NoMemory) x says told = inl refl
+-- whatever the answer
+pub told_kept : (old new : Made) (said : SettingLine) (answer : Result Bool wire.NoMemory) → AreTold old → IsSpoken (line.Setting said) → ((lines : List SettingLine) → IsSettings old lines → Adds old lines said answer new)
+    → (answer ≢ Ok true → new ≡ old) → AreTold new
+told_kept old new said (Ok true) told spoken adds same = told_more old new said told spoken adds
+told_kept old new said (Ok false) told spoken adds same = subst AreTold (sym (same (λ e. cc))) told
+told_kept old new said (Err e) told spoken adds same = subst AreTold (sym (same (λ e. cc))) told
 
--- a line of steps
-pub steps_line : (s : spec.Stage) (bytes : List ℕ) (actor count : ℕ) (shown : List ℕ) (answer : Result (Unit {0}) Stop) (x : Stage) → Says bytes (Steps actor count)
-    → RunsTo (λ t. IsStage x (Running t)) (opened s) actor count shown answer → LineTo s bytes shown answer x
-steps_line s bytes actor count shown (Ok done) x says told = (Steps actor count, Running told.0, told.1, says, (told.2, told.0, told.3, refl), told.4)
-steps_line s bytes actor count shown (Err BadLine) x says told = (inr (Steps actor count, says, told.0), told.1)
-steps_line s bytes actor count shown (Err WriteFault) x says told =
-    elim told.2 [
-      | inl none ↦ inl none
-      | inr within ↦ inr (Steps actor count, told.0, says, (within, told.1))
-    ]
-steps_line s bytes actor count shown (Err NoMemory) x says told =
-    elim told.2 [
-      | inl none ↦ inl none
-      | inr within ↦ inr (Steps actor count, told.0, says, (within, told.1))
-    ]
+pub told_none : (made : Made) → IsSettings made [] → AreTold made
+told_none made stands = record { lines = []; fates = []; text = []; told = []; plays = (refl, refl); stands = stands }
 
--- one more setting stands, where the world hasn't begun
-pub setting_stands : (x new : script.Made) (found : Option World) (s : spec.Stage) (said : SettingLine) → found ≡ None → MayRun x found s
-    → ((lines : List SettingLine) → script.IsSettings x lines → script.Adds x lines said (Ok true) new) → (t : spec.Stage) × spec.Sets s said t × MayRun new found t
-setting_stands x new found (Settings lines) said none runs adds =
-    let P : Option World → Type 0 = λ o. MayRun x o (Settings lines) in
-    let Q : Option World → Type 0 = λ o. MayRun new o (Settings (lines ++ said ∷ [])) in
-    let added = adds lines (subst P none runs) in
-    (Settings (lines ++ said ∷ []), (added.0, refl), subst Q (sym none) added.1)
-setting_stands x new found (Running state) said none runs adds = let P : Option World → Type 0 = λ o. MayRun x o (Running state) in absurd (subst P none runs)
+-- one more stands
+pub set_more : (old new : Made) (s : spec.Stage) (said : SettingLine) → IsStage (stage.Settings old) s → ((lines : List SettingLine) → IsSettings old lines → Adds old lines said (Ok true) new)
+    → SaidTo s (line.Setting said) [] (Ok tt) (stage.Settings new)
+set_more old new (Settings lines) said stands adds = let added = adds lines stands in ([], Settings (lines ++ said ∷ []), ((added.0, refl), refl, refl), added.1)
+set_more old new (Running state) said stands adds = absurd stands
 
--- the world that has begun
-pub world_of : (x : script.Made) (found : Option World) (w : World) (s : State) → found ≡ Some w → MayRun x found (Running s) → IsWorld x.setup w s
-world_of x found w s is runs = let P : Option World → Type 0 = λ o. MayRun x o (Running s) in subst P is runs
+-- ---- the world begins
 
--- what happened to the world, happened at its stage
-pub event_done : (s : spec.Stage) (event : Event) (stepped : Stepped) (settings : script.Made) (w : World) → world.Happens settings.setup (opened s) event (Ok stepped) w
-    → EventTo s event (Ok tt) (running settings w)
-event_done s (Conn actor) Done settings w told = (Running told.0, (told.0, told.1, refl, refl, refl), told.2)
-event_done s (Conn actor) (Did note) settings w told = absurd told
-event_done s (Conn actor) Idle settings w told = absurd told
-event_done s (Conn actor) Refused settings w told = absurd told
-event_done s (Piece conn bytes) Done settings w told = (Running told.0, (told.0, told.1, refl, refl, refl), told.2)
-event_done s (Piece conn bytes) (Did note) settings w told = absurd told
-event_done s (Piece conn bytes) Idle settings w told = absurd told
-event_done s (Piece conn bytes) Refused settings w told = absurd told
-event_done s FailBind Done settings w told = (Running told.0, (told.0, told.1, refl, refl, refl), told.2)
-event_done s FailBind (Did note) settings w told = absurd told
-event_done s FailBind Idle settings w told = absurd told
-event_done s FailBind Refused settings w told = absurd told
-event_done s (Step actor) stepped settings w told = tt
+-- ---- lines
 
-pub event_missing : (s : spec.Stage) (event : Event) (settings : script.Made) (w : World) (x : Stage) → world.Happens settings.setup (opened s) event (Err fault.Missing) w
-    → EventTo s event (Err BadLine) x
-event_missing s (Conn actor) settings w x told = told.0
-event_missing s (Piece conn bytes) settings w x told = told.0
-event_missing s FailBind settings w x told = absurd told
-event_missing s (Step actor) settings w x told = tt
+-- what leads so in one way, leads so in another
+pub led : {A B : Type 0} (f : A → B) (Stands : A → Type 0) (Holds : B → Type 0) (Goes : Until → List Fate → A → Type 0) (Plays : Until → List Fate → B → Type 0) (IsBad IsWrong : Type 0) (shown : List ℕ) (answer : Result (Unit {0}) Stop)
+    → ((until : Until) (fates : List Fate) (t : A) → Goes until fates t → Plays until fates (f t)) → ((t : A) → Stands t → Holds (f t)) → (IsBad → IsWrong)
+    → LedTo Stands Goes IsBad shown answer → LedTo Holds Plays IsWrong shown answer
+led f Stands Holds Goes Plays IsBad IsWrong shown (Ok done) goes stands bad told = (told.0, f told.1, goes TheEnd told.0 told.1 told.2, stands told.1 told.3)
+led f Stands Holds Goes Plays IsBad IsWrong shown (Err BadLine) goes stands bad told = (bad told.0, told.1)
+led f Stands Holds Goes Plays IsBad IsWrong shown (Err WriteFault) goes stands bad (inl none) = inl none
+led f Stands Holds Goes Plays IsBad IsWrong shown (Err WriteFault) goes stands bad (inr cut) = inr (cut.0, f cut.1, goes SomeStop cut.0 cut.1 cut.2)
+led f Stands Holds Goes Plays IsBad IsWrong shown (Err NoMemory) goes stands bad (inl none) = inl none
+led f Stands Holds Goes Plays IsBad IsWrong shown (Err NoMemory) goes stands bad (inr cut) = inr (cut.0, f cut.1, goes SomeStop cut.0 cut.1 cut.2)
 
-pub event_unknown : (s : spec.Stage) (event : Event) (x : Stage) → EventTo s event (Err NoMemory) x
-event_unknown s (Conn actor) x = tt
-event_unknown s (Piece conn bytes) x = tt
-event_unknown s FailBind x = tt
-event_unknown s (Step actor) x = tt
+pub steps_said : (w : World) (s : spec.Stage) (actor count : ℕ) (shown : List ℕ) (answer : Result (Unit {0}) Stop) → is_actor (opened s) (actor_of actor) ≡ true
+    → RunsTo w (opened s) (actor_of actor) count shown answer → SaidTo s (line.Steps actor count) shown answer (stage.Running w)
+steps_said w s actor count shown answer is told =
+    led Running (IsWorld w) (IsStage (stage.Running w)) (λ until fates t. Runs until (opened s) (actor_of actor) count fates shown t)
+    (λ until fates t. LinePlays until s (line.Steps actor count) fates shown t) ⊥ (IsBadHere s (line.Steps actor count)) shown answer
+    (λ until fates t goes. (is, t, goes, refl)) (λ t stands. stands) (λ none. absurd none) told
 
--- what the world answers, by what happened to it
-pub happened : (s : spec.Stage) (event : Event) (stepped : Result Stepped WorldFault) (answer : Result (Unit {0}) Stop) (settings : script.Made) (w : World)
-    → world.Happens settings.setup (opened s) event stepped w → Answers stepped answer → EventTo s event answer (running settings w)
-happened s event (Ok stepped) answer settings w told is =
-    let P : Result (Unit {0}) Stop → Type 0 = λ r. EventTo s event r (running settings w) in subst P (sym is) (event_done s event stepped settings w told)
-happened s event (Err fault.Missing) answer settings w told is =
-    let P : Result (Unit {0}) Stop → Type 0 = λ r. EventTo s event r (running settings w) in subst P (sym is) (event_missing s event settings w (running settings w) told)
-happened s event (Err fault.NoMemory) answer settings w told is =
-    let P : Result (Unit {0}) Stop → Type 0 = λ r. EventTo s event r (running settings w) in subst P (sym is) (event_unknown s event (running settings w))
+pub turns_said : (w : World) (s : spec.Stage) (count : ℕ) (shown : List ℕ) (answer : Result (Unit {0}) Stop) → GoesTo w (opened s) count shown answer → SaidTo s (line.Run count) shown answer (stage.Running w)
+turns_said w s count shown answer told =
+    led Running (IsWorld w) (IsStage (stage.Running w)) (λ until fates t. Goes until (opened s) 0 count fates shown t)
+    (λ until fates t. LinePlays until s (line.Run count) fates shown t) ⊥ (IsBadHere s (line.Run count)) shown answer
+    (λ until fates t goes. (t, goes, refl)) (λ t stands. stands) (λ none. absurd none) told
 
--- the note of a step was printed, and the sink failed
-pub spilled : (setup : Setup) (s t : State) (actor : ℕ) (note : Note) (why : Stop) (w : World) → Turn s actor note t → Spills (Err why) → StepTo setup s actor (note_line note) (Err why) w
-spilled setup s t actor note WriteFault w turn fault = (note, t, turn, refl)
-spilled setup s t actor note BadLine w turn fault = absurd fault
-spilled setup s t actor note NoMemory w turn fault = absurd fault
+pub line_said : (x : Stage) (s : spec.Stage) (bytes : List ℕ) (said : Line) (shown : List ℕ) (answer : Result (Unit {0}) Stop) → length bytes ≤ line_limit → Says bytes said → SaidTo s said shown answer x → LineTo s bytes shown answer x
+line_said x s bytes said shown answer fits says told =
+    led (λ (t : spec.Stage). t) (IsStage x) (IsStage x) (λ until fates t. LinePlays until s said fates shown t)
+    (λ until fates t. PlaysLine until s bytes fates shown t) (IsBadHere s said) (IsWrong s bytes) shown answer
+    (λ until fates t plays. record { said = said; fits = fits; says = says; plays = plays }) (λ t stands. stands) (λ bad. inr (said, says, bad)) told
 
--- memory ran out before anything was printed
-pub unprinted : (setup : Setup) (s : State) (actor : ℕ) (why : Stop) (w : World) → why ≡ NoMemory → StepTo setup s actor [] (Err why) w
-unprinted setup s actor why w e = let P : Stop → Type 0 = λ e. StepTo setup s actor [] (Err e) w in subst P (sym e) refl
+-- a line that does nothing
+pub blank_said : (x : Stage) (s : spec.Stage) (said : Line) → said ≡ line.Blank → IsStage x s → SaidTo s said [] (Ok tt) x
+blank_said x s said is stands =
+    let P : Line → Type 0 = λ l. SaidTo s l [] (Ok tt) x in
+    subst P (sym is) ([], s, (refl, refl, refl), stands)
+
+-- memory ran out before anything was shown
+pub unsaid_spent : (x : Stage) (s : spec.Stage) (said : Line) (why : Stop) → why ≡ NoMemory → SaidTo s said [] (Err why) x
+unsaid_spent x s said why e =
+    let P : Stop → Type 0 = λ stop. SaidTo s said [] (Err stop) x in
+    subst P (sym e) (inl refl)
+
+-- ---- what happens
+
+done_so : (w : World) (s : spec.Stage) (e : Event) (stepped : Stepped) → IsOutside e → StepGives (IsWorld w) (opened s) e (Ok stepped) → SaidTo s (line.Happens e) [] (Ok tt) (stage.Running w)
+done_so w s e Done outside told = ([], Running (happen (opened s) e), (told.1, refl, refl, refl), told.2)
+done_so w s e (Did note) outside told = absurd (outside told.2.number told.2.is)
+done_so w s e Idle outside told = absurd (outside told.1.number told.1.is)
+done_so w s e Refused outside told = absurd (outside told.3.number told.3.is)
+
+pub happened : (w : World) (s : spec.Stage) (e : Event) (stepped : Result Stepped WorldFault) (answer : Result (Unit {0}) Stop) → IsOutside e → StepGives (IsWorld w) (opened s) e stepped → Answers stepped answer
+    → SaidTo s (line.Happens e) [] answer (stage.Running w)
+happened w s e (Ok stepped) answer outside told is =
+    let P : Result (Unit {0}) Stop → Type 0 = λ a. SaidTo s (line.Happens e) [] a (stage.Running w) in
+    subst P (sym is) (done_so w s e stepped outside told)
+happened w s e (Err fault.Missing) answer outside told is =
+    let P : Result (Unit {0}) Stop → Type 0 = λ a. SaidTo s (line.Happens e) [] a (stage.Running w) in
+    subst P (sym is) (told.0, refl)
+happened w s e (Err fault.NoMemory) answer outside told is =
+    let P : Result (Unit {0}) Stop → Type 0 = λ a. SaidTo s (line.Happens e) [] a (stage.Running w) in
+    subst P (sym is) (inl refl)
+
+-- ---- the number of an actor
+
+named_worker : (name : ℕ) → name < net_number → actor_of name ≡ WorkerOf name
+named_worker name h = ap (λ (b : Bool). if b then WorkerOf name else ThePump) (lt-ltb name net_number h)
+
+named_pump : (name : ℕ) → net_number ≤ name → actor_of name ≡ ThePump
+named_pump name h = ap (λ (b : Bool). if b then WorkerOf name else ThePump) (le-ltb name net_number h)

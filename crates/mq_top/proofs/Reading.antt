@@ -1,100 +1,105 @@
 -- The play of the lines that were cut.
-use Rattle.std.proofs.Common.{◌≡◌, ℕ, zero, suc, ◌+◌, ◌≤◌, List, [], ◌∷◌, ◌++◌, length, Result, Ok, Err, refl, sym, ap, subst, ◌∙◌, arith, append_assoc, append-nil, inl, inr}
+use Rattle.std.proofs.Common.{◌≡◌, ℕ, ◌+◌, ◌≤◌, List, [], ◌∷◌, ◌++◌, length, Result, Ok, Err, refl, sym, ap, subst, ◌∙◌, arith, append_assoc, append-nil, inl, inr}
 use Rattle.std.proofs.lemmas.List.{length-append}
-use Rattle.mq_one_machine.specs.Line.{Says}
-use Rattle.mq_one_machine.specs.State.{State}
-use Rattle.mq_one_machine.specs.Play.{Stage, opening, opened, Plays, Runs, RunsPart, LinePlays, LinePart, IsScript, HasFront, HasLine, HasBad, IsPlayed, IsPlayedPart, text_of, line_limit, script_limit}
-use Rattle.mq_one_machine.specs.declared.line.Line.{Line}
-use Rattle.mq_one_machine.specs.declared.line.Line.TheVariants.{Blank, Setting, Conn, Piece, FailBind, Steps}
+use Rattle.mq_play.specs.Play.{Fate, Stage, opening, Plays, PlaysLine, TheEnd}
+use Rattle.mq_play.specs.Script.{lines_of, Fits, IsReached, IsBad, IsPlayedPart}
+use Rattle.mq_play.specs.Text.{newline}
 use Rattle.mq_text.specs.Cut.{Lacks}
-use Rattle.mq_top.proofs.Cutting.{begun_more, begun_ended, parts_length, has_front, no_front, has_line, has_last, has_long, has_past}
-use Rattle.mq_top.specs.Playing.{LineTo, IsCutLine}
+use Rattle.mq_top.proofs.Cutting.{begun_more, begun_ended, parts_length, script_lines, reached, line_reached, last_reached, begun_reached, bad_long, bad_past}
+use Rattle.mq_top.specs.Playing.{LineTo, IsCutOff}
 use Rattle.mq_top.specs.Printing.{IsSilent}
-use Rattle.mq_top.specs.Reading.{IsRead, RoomTo, StopsAt, ReadsTo, EndsTo}
+use Rattle.mq_top.specs.Reading.{IsScript, IsRead, RoomTo, StopsAt, ReadsTo, EndsTo}
+use Rattle.mq_top.specs.Stages.{IsStage}
 use Rattle.mq_top.specs.declared.session.Session.{Session}
+use Rattle.mq_top.specs.declared.stage.Stage as held
 use Rattle.mq_top.specs.declared.status.Stop.{Stop}
 use Rattle.mq_top.specs.declared.status.Stop.TheVariants.{BadLine, WriteFault, NoMemory}
-use Rattle.mq_top.specs.declared.stage.Stage as held
-use Rattle.mq_top.specs.Stages.{IsStage}
 
 -- one more line
-plays_more : (old : Stage) (lines : List (List ℕ)) (before : ℕ) (text : List ℕ) (mid : Stage) (line shown : List ℕ) (said : Line) (here : ℕ) (new : Stage)
-    → Plays old lines before text mid → length line ≤ line_limit → Says line said → LinePlays mid said here shown new
-    → Plays old (lines ++ line ∷ []) (before + here) (text ++ shown) new
-plays_more old [] before text mid line shown said here new p fits says q =
-    let P : Stage → Type 0 = λ from. LinePlays from said here shown new in
-    let none = p.0 in
-    (fits, said, says, new, here, 0, shown, [], subst P p.2 q, omega (arith, none), ap (λ (xs : List ℕ). xs ++ shown) p.1 ∙ sym (append-nil shown), (refl, refl, refl))
-plays_more old (first ∷ lines) before text mid line shown said here new p fits says q =
-    let more = plays_more p.3 lines p.5 p.7 mid line shown said here new p.11 fits says q in
-    let sum = p.9 in
-    (p.0, p.1, p.2, p.3, p.4, p.5 + here, p.6, p.7 ++ shown, p.8, omega (arith, sum), ap (λ (xs : List ℕ). xs ++ shown) p.10 ∙ append_assoc p.6 p.7 shown, more)
+pub plays_more : (old : Stage) (lines : List (List ℕ)) (before : List (List Fate)) (text : List ℕ) (mid : Stage) (line shown : List ℕ) (here : List Fate) (new : Stage)
+    → Plays old lines before text mid → PlaysLine TheEnd mid line here shown new → Plays old (lines ++ line ∷ []) (before ++ here ∷ []) (text ++ shown) new
+plays_more old [] [] text mid line shown here new p q =
+    let P : Stage → Type 0 = λ from. PlaysLine TheEnd from line here shown new in
+    (new, shown, [], subst P p.1 q, (refl, refl), ap (λ (xs : List ℕ). xs ++ shown) p.0 ∙ sym (append-nil shown))
+plays_more old [] (f ∷ before) text mid line shown here new p q = absurd p
+plays_more old (first ∷ lines) [] text mid line shown here new p q = absurd p
+plays_more old (first ∷ lines) (f ∷ before) text mid line shown here new p q =
+    (p.0, p.1, p.2 ++ shown, p.3, plays_more p.0 lines before p.2 mid line shown here new p.4 q, ap (λ (xs : List ℕ). xs ++ shown) p.5 ∙ append_assoc p.1 p.2 shown)
 
--- no script was read
+-- ---- where a play stops
+
+-- no line was played
 pub nothing_yet : (whole : List ℕ) → IsPlayedPart whole []
 nothing_yet whole = record {
   before = [];
-  state = opening;
+  after = lines_of whole;
+  fates = [];
+  here = opening;
   text = [];
+  last = [];
   part = [];
-  refused = 0;
-  here = 0;
-  plays = (refl, refl, refl);
-  stops = inl (record { more = whole; is = refl; before_are = tt; fits = omega arith; front_is = tt }, refl, refl);
+  reached = record { is = refl; fits = omega arith; plays = (refl, refl) };
+  stops = inl (refl, refl);
   front = ([], refl);
 }
 
 -- the play stopped before a line
-stops_before : (whole : List ℕ) (lines : List (List ℕ)) (state : Stage) (refused : ℕ) (text shown front : List ℕ) → Plays opening lines refused text state → HasFront whole lines front → shown ≡ [] → IsPlayedPart whole (text ++ shown)
-stops_before whole lines state refused text shown front plays has none = record {
+stops_before : (whole : List ℕ) (lines after : List (List ℕ)) (fates : List (List Fate)) (state : Stage) (text shown : List ℕ) → IsReached whole lines after fates text state → shown ≡ [] → IsPlayedPart whole (text ++ shown)
+stops_before whole lines after fates state text shown far none = record {
   before = lines;
-  state = state;
+  after = after;
+  fates = fates;
+  here = state;
   text = text;
+  last = [];
   part = [];
-  refused = refused;
-  here = 0;
-  plays = plays;
-  stops = inl (no_front whole lines front has, refl, refl);
+  reached = far;
+  stops = inl (refl, refl);
   front = ([], ap (λ (xs : List ℕ). text ++ xs) (sym none) ∙ sym (append-nil (text ++ shown)));
 }
 
 -- it stopped in a line
-stops_in : (whole : List ℕ) (lines : List (List ℕ)) (state : Stage) (refused : ℕ) (text shown line : List ℕ) → Plays opening lines refused text state → HasLine whole lines line → IsCutLine state line shown → IsPlayedPart whole (text ++ shown)
-stops_in whole lines state refused text shown line plays has (inl none) = stops_before whole lines state refused text shown line plays has.has none
-stops_in whole lines state refused text shown line plays has (inr in_line) = record {
+stops_in : (whole : List ℕ) (lines others : List (List ℕ)) (fates : List (List Fate)) (state : Stage) (text shown line : List ℕ) → IsReached whole lines (line ∷ others) fates text state → Fits whole (lines ++ line ∷ [])
+    → IsCutOff (λ until here t. PlaysLine until state line here shown t) shown → IsPlayedPart whole (text ++ shown)
+stops_in whole lines others fates state text shown line far fits (inl none) = stops_before whole lines (line ∷ others) fates state text shown far none
+stops_in whole lines others fates state text shown line far fits (inr cut) = record {
   before = lines;
-  state = state;
+  after = line ∷ others;
+  fates = fates;
+  here = state;
   text = text;
+  last = cut.0;
   part = shown;
-  refused = refused;
-  here = in_line.1;
-  plays = plays;
-  stops = inr (inl (record { line = line; said = in_line.0; has = has; says = in_line.2; part = in_line.3 }));
+  reached = far;
+  stops = inr (inl (record { line = line; others = others; new = cut.1; is = refl; fits = fits; plays = cut.2 }));
   front = ([], sym (append-nil (text ++ shown)));
 }
 
 -- a whole line was played until its play stopped
-pub line_stops : (whole : List ℕ) (lines : List (List ℕ)) (state : Stage) (refused : ℕ) (text shown line : List ℕ) (why : Stop) (w : held.Stage) (number : ℕ) → Plays opening lines refused text state → HasLine whole lines line
-    → number ≡ length lines → LineTo state line shown (Err why) w → StopsAt whole (text ++ shown) why number
-line_stops whole lines state refused text shown line BadLine w number plays has count told =
-    let P : List ℕ → Type 0 = λ all. Plays opening lines refused all state in
+pub line_stops : (whole : List ℕ) (lines others : List (List ℕ)) (fates : List (List Fate)) (state : Stage) (text shown line : List ℕ) (why : Stop) (w : held.Stage) (number : ℕ) → IsReached whole lines (line ∷ others) fates text state
+    → Fits whole (lines ++ line ∷ []) → number ≡ length lines → LineTo state line shown (Err why) w → StopsAt whole (text ++ shown) why number
+line_stops whole lines others fates state text shown line BadLine w number far fits count told =
+    let P : List ℕ → Type 0 = λ all. IsReached whole lines (line ∷ others) fates all state in
     record {
       before = lines;
-      state = state;
-      refused = refused;
-      plays = subst P (sym (ap (λ (xs : List ℕ). text ++ xs) told.1 ∙ append-nil text)) plays;
-      bad = inr (inr (record { line = line; has = has; wrong = told.0 }));
+      line = line;
+      after = others;
+      fates = fates;
+      here = state;
+      reached = subst P (sym (ap (λ (xs : List ℕ). text ++ xs) told.1 ∙ append-nil text)) far;
+      bad = inl told.0;
       number_is = count;
     }
-line_stops whole lines state refused text shown line WriteFault w number plays has count told = stops_in whole lines state refused text shown line plays has told
-line_stops whole lines state refused text shown line NoMemory w number plays has count told = stops_in whole lines state refused text shown line plays has told
+line_stops whole lines others fates state text shown line WriteFault w number far fits count told = stops_in whole lines others fates state text shown line far fits told
+line_stops whole lines others fates state text shown line NoMemory w number far fits count told = stops_in whole lines others fates state text shown line far fits told
 
 -- what was read stands for a play that stopped behind its lines
 pub no_memory : (x : Session) (script : List ℕ) (lines : List (List ℕ)) (text more : List ℕ) → IsRead x script lines text → IsPlayedPart (script ++ more) text
 no_memory x script lines text more r =
     let sum = parts_length script lines x.begun.items r.script_is in
+    let far = reached script lines (lines_of (x.begun.items ++ more)) x.begun.items more r.fates text r.state r.script_is (omega (arith, sum, r.fits)) r.plays refl in
     let P : List ℕ → Type 0 = λ all. IsPlayedPart (script ++ more) all in
-    subst P (append-nil text) (stops_before (script ++ more) lines r.state r.refused text [] x.begun.items r.plays (has_front script lines x.begun.items more (omega (arith, sum, r.fits)) r.script_is) refl)
+    subst P (append-nil text) (stops_before (script ++ more) lines (lines_of (x.begun.items ++ more)) r.fates r.state text [] far refl)
 
 pub nothing_played : (x : Session) (script : List ℕ) (lines : List (List ℕ)) (text bytes more : List ℕ) → IsRead x script lines text → IsPlayedPart (script ++ bytes ++ more) (text ++ [])
 nothing_played x script lines text bytes more r =
@@ -102,7 +107,7 @@ nothing_played x script lines text bytes more r =
     let Q : List ℕ → Type 0 = λ out. IsPlayedPart (script ++ (bytes ++ more)) out in
     subst P (sym (append_assoc script bytes more)) (subst Q (sym (append-nil text)) (no_memory x script lines text (bytes ++ more) r))
 
--- nothing was read yet
+-- no bytes were read
 pub read_none : (x : Session) (script : List ℕ) (lines : List (List ℕ)) (text : List ℕ) → IsRead x script lines text → IsRead x (script ++ []) lines (text ++ [])
 read_none x script lines text r =
     let P : List ℕ → Type 0 = λ whole. IsRead x whole lines (text ++ []) in
@@ -110,13 +115,13 @@ read_none x script lines text r =
     subst P (sym (append-nil script)) (subst Q (sym (append-nil text)) r)
 
 -- a limit is no fault of the sink
-pub room_silent : (line count newline : ℕ) (why : Stop) → RoomTo line count newline (Err why) → IsSilent (Err why)
-room_silent line count newline BadLine r = tt
-room_silent line count newline WriteFault r = absurd r
-room_silent line count newline NoMemory r = absurd r
+pub room_silent : (line count ended : ℕ) (why : Stop) → RoomTo line count ended (Err why) → IsSilent (Err why)
+room_silent line count ended BadLine r = tt
+room_silent line count ended WriteFault r = absurd r
+room_silent line count ended NoMemory r = absurd r
 
 -- the begun line with more bytes of it has no room
-pub too_much : (x : Session) (script : List ℕ) (lines : List (List ℕ)) (text bytes tail : List ℕ) (why : Stop) → length tail ≤ 1 → Lacks 10 bytes → IsRead x script lines text
+pub too_much : (x : Session) (script : List ℕ) (lines : List (List ℕ)) (text bytes tail : List ℕ) (why : Stop) → length tail ≤ 1 → Lacks newline bytes → IsRead x script lines text
     → RoomTo (length x.begun.items + length bytes) (x.count + length bytes) (length tail) (Err why)
     → (more : List ℕ) → StopsAt (script ++ (bytes ++ tail) ++ more) text why x.number
 too_much x script lines text bytes tail BadLine short plain r told more =
@@ -127,66 +132,74 @@ too_much x script lines text bytes tail BadLine short plain r told more =
     let size : length line ≡ length begun + length bytes = length-append begun bytes in
     let all : length (script ++ bytes) ≡ length script + length bytes = length-append script bytes in
     let rest : length (tail ++ more) ≡ length tail + length more = length-append tail more in
-    let before_fits : length (text_of lines) ≤ script_limit = omega (arith, sum, r.fits) in
+    let far = begun_reached (script ++ bytes) lines line (tail ++ more) r.fates text r.state s (omega (arith, sum, r.fits)) r.plays in
+    let bad : IsBad ((script ++ bytes) ++ (tail ++ more)) lines r.state (line ++ far.end) =
+    elim told [
+      | inl long ↦ bad_long ((script ++ bytes) ++ (tail ++ more)) lines r.state line far.end (omega (arith, long, size))
+      | inr past ↦ bad_past (script ++ bytes) lines r.state line far.end (tail ++ more) (length tail) s (omega (arith, past, all, r.count)) short (omega (arith, rest))
+    ] in
     let whole : (script ++ bytes) ++ (tail ++ more) ≡ script ++ (bytes ++ tail) ++ more =
     sym (append_assoc (script ++ bytes) tail more) ∙ ap (λ (xs : List ℕ). xs ++ more) (append_assoc script bytes tail) in
-    let P : List ℕ → Type 0 = λ xs. HasBad xs lines r.state in
-    let bad : HasBad ((script ++ bytes) ++ (tail ++ more)) lines r.state =
-    elim told [
-      | inl long ↦ inl (has_long (script ++ bytes) lines line (tail ++ more) before_fits (omega (arith, long, size)) s)
-      | inr past ↦ inr (inl (has_past (script ++ bytes) lines line (tail ++ more) before_fits (omega (arith, past, all, short, r.count)) (omega (arith, past, all, rest, r.count)) s))
-    ] in
-    record { before = lines; state = r.state; refused = r.refused; plays = r.plays; bad = subst P whole bad; number_is = r.number }
+    let P : List ℕ → Type 0 = λ xs. StopsAt xs text BadLine x.number in
+    subst P whole (record {
+      before = lines;
+      line = line ++ far.end;
+      after = far.after;
+      fates = r.fates;
+      here = r.state;
+      reached = far.reached;
+      bad = bad;
+      number_is = r.number;
+    })
 too_much x script lines text bytes tail WriteFault short plain r told more = absurd told
 too_much x script lines text bytes tail NoMemory short plain r told more = absurd told
 
 -- the script up to a newline, as the begun line and its newline
-ended_script : (script bytes : List ℕ) → (script ++ bytes) ++ 10 ∷ [] ≡ script ++ (bytes ++ 10 ∷ [])
-ended_script script bytes = append_assoc script bytes (10 ∷ [])
+ended_script : (script bytes : List ℕ) → (script ++ bytes) ++ newline ∷ [] ≡ script ++ (bytes ++ newline ∷ [])
+ended_script script bytes = append_assoc script bytes (newline ∷ [])
 
 -- the begun line ended and was good
-pub line_read : (x y : Session) (script : List ℕ) (lines : List (List ℕ)) (text bytes shown : List ℕ) (now : ℕ) → Lacks 10 bytes → (r : IsRead x script lines text)
+pub line_read : (x y : Session) (script : List ℕ) (lines : List (List ℕ)) (text bytes shown : List ℕ) (now : ℕ) → Lacks newline bytes → (r : IsRead x script lines text)
     → RoomTo (length x.begun.items + length bytes) (x.count + length bytes) 1 (Ok now) → LineTo r.state (x.begun.items ++ bytes) shown (Ok tt) y.stage
-    → y.begun.items ≡ [] → y.number ≡ x.number + 1 → y.count ≡ now → IsRead y (script ++ (bytes ++ 10 ∷ [])) (lines ++ (x.begun.items ++ bytes) ∷ []) (text ++ shown)
+    → y.begun.items ≡ [] → y.number ≡ x.number + 1 → y.count ≡ now → IsRead y (script ++ (bytes ++ newline ∷ [])) (lines ++ (x.begun.items ++ bytes) ∷ []) (text ++ shown)
 line_read x y script lines text bytes shown now plain r room told none number count =
     let begun = x.begun.items in
     let line = begun ++ bytes in
     let s = begun_more script lines begun bytes plain r.script_is in
-    let size : length line ≡ length begun + length bytes = length-append begun bytes in
-    let all : length (script ++ (bytes ++ 10 ∷ [])) ≡ length script + length (bytes ++ 10 ∷ []) = length-append script (bytes ++ 10 ∷ []) in
-    let last : length (bytes ++ 10 ∷ []) ≡ length bytes + 1 = length-append bytes (10 ∷ []) in
+    let all : length (script ++ (bytes ++ newline ∷ [])) ≡ length script + length (bytes ++ newline ∷ []) = length-append script (bytes ++ newline ∷ []) in
+    let last : length (bytes ++ newline ∷ []) ≡ length bytes + 1 = length-append bytes (newline ∷ []) in
     let counted : length (lines ++ line ∷ []) ≡ length lines + 1 = length-append lines (line ∷ []) in
     let P : List ℕ → Type 0 = λ whole. IsScript whole (lines ++ line ∷ []) [] in
-    let Q : List ℕ → Type 0 = λ tail. IsScript (script ++ (bytes ++ 10 ∷ [])) (lines ++ line ∷ []) tail in
+    let Q : List ℕ → Type 0 = λ tail. IsScript (script ++ (bytes ++ newline ∷ [])) (lines ++ line ∷ []) tail in
     record {
       state = told.1;
-      refused = r.refused + told.2;
-      plays = plays_more opening lines r.refused text r.state line shown told.0 told.2 told.1 r.plays (omega (arith, size, room.2)) told.3 told.4;
-      stands = told.5;
+      fates = r.fates ++ told.0 ∷ [];
+      plays = plays_more opening lines r.fates text r.state line shown told.0 told.1 r.plays told.2;
+      stands = told.3;
       number = omega (arith, number, counted, r.number);
       script_is = subst Q (sym none) (subst P (ended_script script bytes) (begun_ended (script ++ bytes) lines line s));
       count = omega (arith, count, room.0, all, last, r.count);
       fits = omega (arith, room.0, room.1, all, last, r.count);
-      begun_fits = omega (arith, ap length none);
+      begun_fits = omega (arith, ap (λ (xs : List ℕ). length xs) none);
     }
 
 -- it ended and stopped the play
-pub line_stopped : (x : Session) (script : List ℕ) (lines : List (List ℕ)) (text bytes shown : List ℕ) (now : ℕ) (why : Stop) (w : held.Stage) → Lacks 10 bytes → (r : IsRead x script lines text)
+pub line_stopped : (x : Session) (script : List ℕ) (lines : List (List ℕ)) (text bytes shown : List ℕ) (now : ℕ) (why : Stop) (w : held.Stage) → Lacks newline bytes → (r : IsRead x script lines text)
     → RoomTo (length x.begun.items + length bytes) (x.count + length bytes) 1 (Ok now) → LineTo r.state (x.begun.items ++ bytes) shown (Err why) w
-    → (more : List ℕ) → StopsAt (script ++ (bytes ++ 10 ∷ []) ++ more) (text ++ shown) why x.number
+    → (more : List ℕ) → StopsAt (script ++ (bytes ++ newline ∷ []) ++ more) (text ++ shown) why x.number
 line_stopped x script lines text bytes shown now why w plain r room told more =
     let begun = x.begun.items in
     let line = begun ++ bytes in
     let s = begun_more script lines begun bytes plain r.script_is in
-    let size : length line ≡ length begun + length bytes = length-append begun bytes in
     let all : length (script ++ bytes) ≡ length script + length bytes = length-append script bytes in
-    let last : length ((script ++ bytes) ++ 10 ∷ []) ≡ length (script ++ bytes) + 1 = length-append (script ++ bytes) (10 ∷ []) in
-    let P : List ℕ → Type 0 = λ whole. HasLine (whole ++ more) lines line in
-    let has = subst P (ended_script script bytes) (has_line (script ++ bytes) lines line more (omega (arith, size, room.2)) (omega (arith, room.0, room.1, all, last, r.count)) s) in
-    line_stops (script ++ (bytes ++ 10 ∷ []) ++ more) lines r.state r.refused text shown line why w x.number r.plays has r.number told
+    let last : length ((script ++ bytes) ++ newline ∷ []) ≡ length (script ++ bytes) + 1 = length-append (script ++ bytes) (newline ∷ []) in
+    let far = line_reached (script ++ bytes) lines line more r.fates text r.state s (omega (arith, room.0, room.1, all, last, r.count)) r.plays in
+    let P : List ℕ → Type 0 = λ whole. StopsAt (whole ++ more) (text ++ shown) why x.number in
+    subst P (ended_script script bytes)
+    (line_stops (((script ++ bytes) ++ newline ∷ []) ++ more) lines (lines_of more) r.fates r.state text shown line why w x.number far.0 far.1 r.number told)
 
 -- the begun line goes on
-pub kept : (x y : Session) (script : List ℕ) (lines : List (List ℕ)) (text bytes : List ℕ) (now : ℕ) → Lacks 10 bytes → IsRead x script lines text
+pub kept : (x y : Session) (script : List ℕ) (lines : List (List ℕ)) (text bytes : List ℕ) (now : ℕ) → Lacks newline bytes → IsRead x script lines text
     → RoomTo (length x.begun.items + length bytes) (x.count + length bytes) 0 (Ok now) → y.stage ≡ x.stage
     → y.begun.items ≡ x.begun.items ++ bytes → y.number ≡ x.number → y.count ≡ now → IsRead y (script ++ bytes) lines text
 kept x y script lines text bytes now plain r room world begun number count =
@@ -197,14 +210,14 @@ kept x y script lines text bytes now plain r room world begun number count =
     let Q : held.Stage → Type 0 = λ w. IsStage w r.state in
     record {
       state = r.state;
-      refused = r.refused;
+      fates = r.fates;
       plays = r.plays;
       stands = subst Q (sym world) r.stands;
       number = number ∙ r.number;
       script_is = subst P (sym begun) s;
       count = omega (arith, count, room.0, all, r.count);
       fits = omega (arith, room.0, room.1, all, r.count);
-      begun_fits = omega (arith, ap length begun, size, room.2);
+      begun_fits = omega (arith, ap (λ (xs : List ℕ). length xs) begun, size, room.2);
     }
 
 -- the stop at a front is one of all
@@ -228,10 +241,10 @@ regrouped script front last whole text shown s answer x e r =
     subst Q (append_assoc text shown s) (subst P script_is r)
 
 -- the bytes up to a newline and those behind it
-pub cut_here : (bytes front rest end behind : List ℕ) → bytes ≡ front ++ rest → rest ≡ end ++ 10 ∷ behind → bytes ≡ (front ++ (end ++ 10 ∷ [])) ++ behind
+pub cut_here : (bytes front rest end behind : List ℕ) → bytes ≡ front ++ rest → rest ≡ end ++ newline ∷ behind → bytes ≡ (front ++ (end ++ newline ∷ [])) ++ behind
 cut_here bytes front rest end behind e cut =
-    let is : rest ≡ (end ++ 10 ∷ []) ++ behind = cut ∙ sym (append_assoc end (10 ∷ []) behind) in
-    e ∙ ap (λ (xs : List ℕ). front ++ xs) is ∙ sym (append_assoc front (end ++ 10 ∷ []) behind)
+    let is : rest ≡ (end ++ newline ∷ []) ++ behind = cut ∙ sym (append_assoc end (newline ∷ []) behind) in
+    e ∙ ap (λ (xs : List ℕ). front ++ xs) is ∙ sym (append_assoc front (end ++ newline ∷ []) behind)
 
 -- the last bytes
 pub regrouped_last : (script front rest whole text : List ℕ) (answer : Result (Unit {0}) Stop) (x : Session) → whole ≡ front ++ rest → ReadsTo ((script ++ front) ++ rest) text answer x → ReadsTo (script ++ whole) text answer x
@@ -243,42 +256,22 @@ pub no_bytes : (xs : List ℕ) → length xs ≡ 0 → xs ≡ []
 no_bytes [] h = refl
 no_bytes (x ∷ xs) h = absurd (omega (arith, h))
 
--- a script without a begun line is played
-pub ends_empty : (x : Session) (script : List ℕ) (lines : List (List ℕ)) (text : List ℕ) → x.begun.items ≡ [] → IsRead x script lines text → IsPlayed script text × IsPlayedPart script text
-ends_empty x script lines text none r =
-    let P : List ℕ → Type 0 = λ tail. IsScript script lines tail in
-    let Q : List ℕ → Type 0 = λ whole. IsPlayedPart whole text in (
-      record { lines = lines; tail = []; new = r.state; refused = r.refused; script_is = subst P none r.script_is; fits = r.fits; plays = r.plays },
-      subst Q (append-nil script) (no_memory x script lines text [] r),
+-- ---- the end of a script
+
+-- its last line was played
+pub ends_line : (x y : Session) (script : List ℕ) (lines : List (List ℕ)) (text shown : List ℕ) (answer : Result (Unit {0}) Stop) → (r : IsRead x script lines text) → y.number ≡ x.number
+    → LineTo r.state x.begun.items shown answer y.stage → EndsTo script (text ++ shown) answer y
+ends_line x y script lines text shown (Ok done) r number told =
+    let line = x.begun.items in
+    let all = script_lines script lines line r.script_is in
+    let plays = plays_more opening lines r.fates text r.state line shown told.0 told.1 r.plays told.2 in
+    let P : List (List ℕ) → Type 0 = λ ls. Plays opening ls (r.fates ++ told.0 ∷ []) (text ++ shown) told.1 in
+    let Q : List ℕ → Type 0 = λ out. IsPlayedPart script out in (
+      record { fates = r.fates ++ told.0 ∷ []; new = told.1; fits = r.fits; plays = subst P (sym all) plays },
+      subst Q (append-nil (text ++ shown))
+          (stops_before script (lines ++ line ∷ []) [] (r.fates ++ told.0 ∷ []) told.1 (text ++ shown) []
+          (record { is = all ∙ sym (append-nil (lines ++ line ∷ [])); fits = omega (arith, r.fits); plays = plays }) refl),
     )
-
--- what is played whole is played in part
-runs_part : (old : State) (actor n refused : ℕ) (text : List ℕ) (new : State) → Runs old actor n refused text new → RunsPart old actor n refused text
-runs_part old actor zero refused text new r = (r.0, r.1)
-runs_part old actor (suc n) refused text new (inl r) = inr (inl (r.0, r.1, r.2, r.3, r.4, runs_part r.1 actor n refused r.2 new r.5))
-runs_part old actor (suc n) refused text new (inr (inl r)) = inr (inr (inl (r.0, r.1, r.2, r.3, runs_part r.0 actor n r.1 text new r.4)))
-runs_part old actor (suc n) refused text new (inr (inr r)) = inr (inr (inr (r.0, r.1, r.2)))
-
-line_part : (old : Stage) (said : Line) (refused : ℕ) (text : List ℕ) (new : Stage) → LinePlays old said refused text new → LinePart old said refused text
-line_part old Blank refused text new p = (p.1, p.2)
-line_part old (Setting said) refused text new p = (p.1, p.2)
-line_part old (Conn worker) refused text new p = (p.3, p.4)
-line_part old (Piece conn bytes) refused text new p = (p.3, p.4)
-line_part old FailBind refused text new p = (p.3, p.4)
-line_part old (Steps actor count) refused text new p = (p.0, runs_part (opened old) actor count refused text p.1 p.2)
-
--- the last line, with no newline
-last_played : (script : List ℕ) (lines : List (List ℕ)) (line : List ℕ) (refused : ℕ) (text : List ℕ) (new : Stage) → (line ≡ [] → ⊥) → IsScript script lines line → length script ≤ script_limit
-    → Plays opening (lines ++ line ∷ []) refused text new → IsPlayed script text
-last_played script lines [] refused text new some s fits plays = absurd (some refl)
-last_played script lines (b ∷ bs) refused text new some s fits plays = record { lines = lines; tail = b ∷ bs; new = new; refused = refused; script_is = s; fits = fits; plays = plays }
-
-pub ends_line : (x y : Session) (script : List ℕ) (lines : List (List ℕ)) (text shown : List ℕ) (answer : Result (Unit {0}) Stop) → (x.begun.items ≡ [] → ⊥) → (r : IsRead x script lines text)
-    → y.number ≡ x.number → LineTo r.state x.begun.items shown answer y.stage → EndsTo script (text ++ shown) answer y
-ends_line x y script lines text shown (Ok done) some r number told = (
-  last_played script lines x.begun.items (r.refused + told.2) (text ++ shown) told.1 some r.script_is r.fits
-      (plays_more opening lines r.refused text r.state x.begun.items shown told.0 told.2 told.1 r.plays r.begun_fits told.3 told.4),
-  stops_in script lines r.state r.refused text shown x.begun.items r.plays (has_last script lines x.begun.items r.begun_fits r.fits r.script_is) (inr (told.0, told.2, told.3, line_part r.state told.0 told.2 shown told.1 told.4)),
-)
-ends_line x y script lines text shown (Err why) some r number told =
-    line_stops script lines r.state r.refused text shown x.begun.items why y.stage y.number r.plays (has_last script lines x.begun.items r.begun_fits r.fits r.script_is) (number ∙ r.number) told
+ends_line x y script lines text shown (Err why) r number told =
+    let far = last_reached script lines x.begun.items r.fates text r.state r.script_is r.fits r.plays in
+    line_stops script lines [] r.fates r.state text shown x.begun.items why y.stage y.number far.0 far.1 (number ∙ r.number) told

@@ -1,3 +1,4 @@
+pub mod Telling
 pub mod Stages
 pub mod Printing
 pub mod Playing

@@ -1,81 +1,93 @@
 -- What the functions that play a line answer.
-use Rattle.std.specs.Prelude.{◌≡◌, ℕ, ◌≤◌, ◌<◌, ◌⊎◌, List, [], length, Result, Ok, Err}
-use Rattle.mq_one_machine.specs.declared.line.Line.{Line}
-use Rattle.mq_one_machine.specs.declared.line.Line.TheVariants as line
-use Rattle.mq_one_machine.specs.Line.{Says}
-use Rattle.mq_one_machine.specs.Next.{Turn, SilentTurn, Quiet}
-use Rattle.mq_one_machine.specs.declared.setup.Setup.{Setup}
-use Rattle.mq_one_machine.specs.Play as spec
-use Rattle.mq_one_machine.specs.Play.{Runs, RunsPart, LinePlays, LinePart, IsBad, IsBadHere}
-use Rattle.mq_one_machine.specs.State.{State}
-use Rattle.mq_one_machine.specs.Text.{note_line, idle_line}
-use Rattle.mq_one_machine.specs.declared.note.Note.{Note}
-use Rattle.mq_top.specs.declared.play.Moved.{Moved}
-use Rattle.mq_top.specs.declared.play.Moved.TheVariants.{Acted, Idle}
+use Rattle.std.specs.Prelude.{◌≡◌, ℕ, zero, suc, ◌+◌, ◌≤◌, ◌⊎◌, true, false, List, [], ◌∷◌, length, find, Option, Some, None, Result, Ok, Err}
+use Rattle.mq_machine.specs.State.{State}
+use Rattle.mq_machine.specs.Turn.{Actor, WorkerOf, has_turn, Quiet}
+use Rattle.mq_play.specs.declared.line.Line.{Line}
+use Rattle.mq_play.specs.Play as spec
+use Rattle.mq_play.specs.Play.{Fate, StepsTo, Until, TheEnd, SomeStop, Runs, Goes, place_behind, actor_of, is_actor, LinePlays, IsBadHere, PlaysLine, IsWrong}
+use Rattle.mq_top.specs.declared.stage.Stage.{Stage}
 use Rattle.mq_top.specs.declared.status.Stop.{Stop}
 use Rattle.mq_top.specs.declared.status.Stop.TheVariants.{BadLine, WriteFault, NoMemory}
-use Rattle.mq_one_world.specs.declared.event.Event.{Event}
-use Rattle.mq_one_world.specs.declared.event.Event.TheVariants.{Conn, Piece, FailBind, Step}
-use Rattle.mq_one_world.specs.declared.event.Stepped.{Stepped}
-use Rattle.mq_one_world.specs.declared.event.WorldFault.{WorldFault}
-use Rattle.mq_one_world.specs.declared.event.WorldFault.TheVariants as fault
-use Rattle.mq_top.specs.declared.stage.Stage.{Stage}
+use Rattle.mq_top.specs.declared.steps.Moved.{Moved}
+use Rattle.mq_top.specs.declared.steps.Moved.TheVariants.{Acted, Idle}
 use Rattle.mq_top.specs.Stages.{IsStage}
-use Rattle.mq_one_world.specs.declared.world.World.{World}
-use Rattle.mq_one_world.specs.Worlds.{IsWorld}
+use Rattle.mq_world.specs.declared.stepped.Stepped.{Stepped}
+use Rattle.mq_world.specs.declared.stepped.WorldFault.{WorldFault}
+use Rattle.mq_world.specs.declared.stepped.WorldFault.TheVariants as fault
+use Rattle.mq_world.specs.declared.world.World.{World}
+use Rattle.mq_world.specs.Worlds.{IsWorld, actor_at}
 
--- a step had a note, and showed it; or it was refused memory, and showed nothing
-abbrev pub Moves : Setup → State → ℕ → List ℕ → World → Type 0
-Moves setup s actor shown w =
-    ((note : Note) × (t : State) × Turn s actor note t × (shown ≡ note_line note) × IsWorld setup w t)
-    ⊎ ((t : State) × SilentTurn s actor t × (shown ≡ []) × IsWorld setup w t)
+-- ---- one step
 
--- an actor's step, and what it showed
-abbrev pub StepTo : Setup → State → ℕ → List ℕ → Result Moved Stop → World → Type 0
-StepTo setup s actor shown (Ok Acted) w = Moves setup s actor shown w
-StepTo setup s actor shown (Ok Idle) w = Quiet s actor × (shown ≡ idle_line actor) × IsWorld setup w s
-StepTo setup s actor shown (Err BadLine) w = (length s.workers ≤ actor) × (shown ≡ [])
-StepTo setup s actor shown (Err WriteFault) w = (note : Note) × (t : State) × Turn s actor note t × (shown ≡ note_line note)
-StepTo setup s actor shown (Err NoMemory) w = shown ≡ []
+-- the actor has this number in the world
+pub record IsAt (s : State) (number : ℕ) (actor : Actor) : Type 0 where
+  pub within : number ≤ length s.workers
+  pub is : actor ≡ actor_at s number
 
--- nothing was shown, or the actor is one
-abbrev pub IsActor : State → ℕ → List ℕ → Type 0
-IsActor s actor shown = (shown ≡ []) ⊎ (actor < length s.workers)
+-- the number in the world of the actor that a line names so, where it is one
+abbrev pub NumberTo : State → ℕ → Option ℕ → Type 0
+NumberTo s name None = is_actor s (actor_of name) ≡ false
+NumberTo s name (Some number) = (is_actor s (actor_of name) ≡ true) × IsAt s number (actor_of name)
 
--- Up to so many steps, what they showed, and what stands for the state behind them.
-abbrev pub RunsTo : (State → Type 0) → State → ℕ → ℕ → List ℕ → Result (Unit {0}) Stop → Type 0
-RunsTo Stands s actor count shown (Ok done) = (t : State) × (refused : ℕ) × (actor < length s.workers) × Runs s actor count refused shown t × Stands t
-RunsTo Stands s actor count shown (Err BadLine) = (length s.workers ≤ actor) × (shown ≡ [])
-RunsTo Stands s actor count shown (Err WriteFault) = (refused : ℕ) × RunsPart s actor count refused shown × IsActor s actor shown
-RunsTo Stands s actor count shown (Err NoMemory) = (refused : ℕ) × RunsPart s actor count refused shown × IsActor s actor shown
+-- an actor that has a turn makes a step, which prints this
+pub record Acts (s : State) (actor : Actor) (shown : List ℕ) (t : State) : Type 0 where
+  pub fate : Fate
+  pub has : has_turn s actor ≡ true
+  pub steps : StepsTo s actor fate shown t
 
--- whether the play goes on behind what is no step
+-- an actor's step, and what it showed; where the sink failed, that was to be written
+abbrev pub StepTo : World → State → Actor → List ℕ → Result Moved Stop → Type 0
+StepTo w s actor shown (Ok Acted) = (t : State) × Acts s actor shown t × IsWorld w t
+StepTo w s actor shown (Ok Idle) = Quiet s actor × (shown ≡ []) × IsWorld w s
+StepTo w s actor shown (Err BadLine) = ⊥
+StepTo w s actor shown (Err WriteFault) = (t : State) × Acts s actor shown t
+StepTo w s actor shown (Err NoMemory) = shown ≡ []
+
+-- so many workers, from the one of this number on
+abbrev pub workers_from : ℕ → ℕ → List Actor
+workers_from number zero = []
+workers_from number (suc count) = WorkerOf number ∷ workers_from (number + 1) count
+
+-- The first of these actors that has a turn makes a step; the answer is the place behind it.
+abbrev pub FirstTo : World → State → List Actor → List ℕ → Result (Option ℕ) Stop → Type 0
+FirstTo w s actors shown (Ok (Some next)) =
+    (actor : Actor) × (t : State) × (find (has_turn s) actors ≡ Some actor) × (next ≡ place_behind actor) × Acts s actor shown t × IsWorld w t
+FirstTo w s actors shown (Ok None) = (find (has_turn s) actors ≡ None) × (shown ≡ []) × IsWorld w s
+FirstTo w s actors shown (Err BadLine) = ⊥
+FirstTo w s actors shown (Err WriteFault) = (actor : Actor) × (t : State) × (find (has_turn s) actors ≡ Some actor) × Acts s actor shown t
+FirstTo w s actors shown (Err NoMemory) = shown ≡ []
+
+-- ---- lines
+
+-- nothing was shown, or it went so until it stopped somewhere
+abbrev pub IsCutOff : {A : Type 0} → (Goes : Until → List Fate → A → Type 0) → List ℕ → Type 0
+IsCutOff {A = A} Goes shown = (shown ≡ []) ⊎ ((fates : List Fate) × (t : A) × Goes SomeStop fates t)
+
+-- It went so to its end, and what stands for the state behind it is known; or it is bad, and nothing was shown; or it was cut off.
+abbrev pub LedTo : {A : Type 0} → (Stands : A → Type 0) → (Goes : Until → List Fate → A → Type 0) → (IsBad : Type 0) → List ℕ → Result (Unit {0}) Stop → Type 0
+LedTo {A = A} Stands Goes IsBad shown (Ok done) = (fates : List Fate) × (t : A) × Goes TheEnd fates t × Stands t
+LedTo Stands Goes IsBad shown (Err BadLine) = IsBad × (shown ≡ [])
+LedTo Stands Goes IsBad shown (Err WriteFault) = IsCutOff Goes shown
+LedTo Stands Goes IsBad shown (Err NoMemory) = IsCutOff Goes shown
+
+-- whether the play goes on behind what was no step
 abbrev pub Answers : Result Stepped WorldFault → Result (Unit {0}) Stop → Type 0
 Answers (Ok stepped) answer = answer ≡ Ok tt
 Answers (Err fault.Missing) answer = answer ≡ Err BadLine
 Answers (Err fault.NoMemory) answer = answer ≡ Err NoMemory
 
--- a line that prints nothing
-abbrev pub SilentTo : spec.Stage → Line → Result (Unit {0}) Stop → Stage → Type 0
-SilentTo s said (Ok done) x = (t : spec.Stage) × LinePlays s said 0 [] t × IsStage x t
-SilentTo s said (Err BadLine) x = IsBadHere s said
-SilentTo s said (Err WriteFault) x = ⊥
-SilentTo s said (Err NoMemory) x = Unit {0}
+-- up to so many steps of an actor
+abbrev pub RunsTo : World → State → Actor → ℕ → List ℕ → Result (Unit {0}) Stop → Type 0
+RunsTo w s actor count shown answer = LedTo (IsWorld w) (λ until fates t. Runs until s actor count fates shown t) ⊥ shown answer
 
--- what is no step
-abbrev pub EventTo : spec.Stage → Event → Result (Unit {0}) Stop → Stage → Type 0
-EventTo s (Conn actor) answer x = SilentTo s (line.Conn actor) answer x
-EventTo s (Piece conn bytes) answer x = SilentTo s (line.Piece conn bytes) answer x
-EventTo s FailBind answer x = SilentTo s line.FailBind answer x
-EventTo s (Step actor) answer x = Unit {0}
+-- up to so many steps of all actors in turn
+abbrev pub GoesTo : World → State → ℕ → List ℕ → Result (Unit {0}) Stop → Type 0
+GoesTo w s count shown answer = LedTo (IsWorld w) (λ until fates t. Goes until s 0 count fates shown t) ⊥ shown answer
 
--- a line was cut off: before it, or in what it says
-abbrev pub IsCutLine : spec.Stage → List ℕ → List ℕ → Type 0
-IsCutLine s bytes shown = (shown ≡ []) ⊎ ((said : Line) × (refused : ℕ) × Says bytes said × LinePart s said refused shown)
+-- what a line says
+abbrev pub SaidTo : spec.Stage → Line → List ℕ → Result (Unit {0}) Stop → Stage → Type 0
+SaidTo s said shown answer x = LedTo (IsStage x) (λ until fates t. LinePlays until s said fates shown t) (IsBadHere s said) shown answer
 
--- a whole line within its limit, and what it showed
+-- a whole line within its limit
 abbrev pub LineTo : spec.Stage → List ℕ → List ℕ → Result (Unit {0}) Stop → Stage → Type 0
-LineTo s bytes shown (Ok done) x = (said : Line) × (t : spec.Stage) × (refused : ℕ) × Says bytes said × LinePlays s said refused shown t × IsStage x t
-LineTo s bytes shown (Err BadLine) x = IsBad s bytes × (shown ≡ [])
-LineTo s bytes shown (Err WriteFault) x = IsCutLine s bytes shown
-LineTo s bytes shown (Err NoMemory) x = IsCutLine s bytes shown
+LineTo s bytes shown answer x = LedTo (IsStage x) (λ until fates t. PlaysLine until s bytes fates shown t) (IsWrong s bytes) shown answer

@@ -1,6 +1,9 @@
 -- How far a script was read and played.
-use Rattle.std.specs.Prelude.{◌≡◌, ℕ, ◌+◌, ◌≤◌, ◌<◌, ◌⊎◌, List, [], ◌++◌, length, Option, Some, None, Result, Ok, Err}
-use Rattle.mq_one_machine.specs.Play.{Stage, opening, Plays, IsScript, HasBad, IsPlayed, IsPlayedBad, IsPlayedPart, line_limit, script_limit}
+use Rattle.std.specs.Prelude.{◌≡◌, ℕ, ◌+◌, ◌≤◌, ◌<◌, ◌⊎◌, List, [], ◌∷◌, ◌++◌, length, Option, Some, None, Result, Ok, Err}
+use Rattle.mq_text.specs.Cut.{Lacks}
+use Rattle.mq_play.specs.Play.{Fate, Stage, opening, Plays, line_limit}
+use Rattle.mq_play.specs.Script.{text_of, AreLines, script_limit, IsReached, IsBad, IsPlayed, IsPlayedBad, IsPlayedPart}
+use Rattle.mq_play.specs.Text.{newline}
 use Rattle.mq_top.specs.Stages.{IsStage}
 use Rattle.mq_top.specs.declared.session.Session.{Session}
 use Rattle.mq_outside.specs.Outside.{Rose}
@@ -11,11 +14,17 @@ use Rattle.mq_top.specs.declared.status.Status.TheVariants.{Done, ReadFault, Bad
 use Rattle.mq_top.specs.declared.status.Stop.{Stop}
 use Rattle.mq_top.specs.declared.status.Stop.TheVariants.{BadLine, WriteFault, NoMemory}
 
+-- the script is these lines with their newlines, and then a begun one
+pub record IsScript (script : List ℕ) (lines : List (List ℕ)) (begun : List ℕ) : Type 0 where
+  pub is : script ≡ text_of lines ++ begun
+  pub lines_are : AreLines lines
+  pub begun_is : Lacks newline begun
+
 -- The script so far is these lines and the begun one. The lines were played, and printed the text.
 pub record IsRead (x : Session) (script : List ℕ) (lines : List (List ℕ)) (text : List ℕ) : Type 0 where
   pub state : Stage
-  pub refused : ℕ
-  pub plays : Plays opening lines refused text state
+  pub fates : List (List Fate)
+  pub plays : Plays opening lines fates text state
   pub stands : IsStage x.stage state
   pub number : x.number ≡ length lines
   pub script_is : IsScript script lines x.begun.items
@@ -25,18 +34,20 @@ pub record IsRead (x : Session) (script : List ℕ) (lines : List (List ℕ)) (t
 
 -- a line of this length, at this place of the script, with its newline where that was read, is within both limits
 abbrev pub RoomTo : ℕ → ℕ → ℕ → Result ℕ Stop → Type 0
-RoomTo line count newline (Ok now) = (now ≡ count + newline) × (now ≤ script_limit) × (line ≤ line_limit)
-RoomTo line count newline (Err BadLine) = (line_limit < line) ⊎ (script_limit < count + newline)
-RoomTo line count newline (Err WriteFault) = ⊥
-RoomTo line count newline (Err NoMemory) = ⊥
+RoomTo line count ended (Ok now) = (now ≡ count + ended) × (now ≤ script_limit) × (line ≤ line_limit)
+RoomTo line count ended (Err BadLine) = (line_limit < line) ⊎ (script_limit < count + ended)
+RoomTo line count ended (Err WriteFault) = ⊥
+RoomTo line count ended (Err NoMemory) = ⊥
 
 -- so many lines were played and printed the text, and the one behind them is bad
 pub record IsAtBad (whole text : List ℕ) (number : ℕ) : Type 0 where
   pub before : List (List ℕ)
-  pub state : Stage
-  pub refused : ℕ
-  pub plays : Plays opening before refused text state
-  pub bad : HasBad whole before state
+  pub line : List ℕ
+  pub after : List (List ℕ)
+  pub fates : List (List Fate)
+  pub here : Stage
+  pub reached : IsReached whole before (line ∷ after) fates text here
+  pub bad : IsBad whole before here line
   pub number_is : number ≡ length before
 
 -- what this script printed when its play stopped behind so many lines

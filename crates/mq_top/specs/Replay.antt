@@ -2,7 +2,7 @@
 -- do with one another.
 use Rattle.std.specs.Prelude.{◌≡◌, ℕ, ◌⊎◌, List, [], ◌∷◌, ◌++◌, Option, Some, codes, string_bytes, String}
 use Rattle.std.specs.Global.{Global}
-use Rattle.mq_one_machine.specs.Play.{IsPlayed, IsPlayedSoFar, IsPlayedBad, IsPlayedPart}
+use Rattle.mq_play.specs.Script.{IsPlayed, IsPlayedSoFar, IsPlayedBad, IsPlayedPart}
 use Rattle.mq_outside.specs.Outside.{Rose, Gives}
 use Rattle.mq_top.specs.declared.status.Status.{Status}
 use Rattle.mq_top.specs.declared.status.Status.TheVariants.{Done, ReadFault, WriteFault, BadScript, NoMemory}

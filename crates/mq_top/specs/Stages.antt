@@ -1,29 +1,21 @@
 -- What the stage of a script stands for.
-use Rattle.std.specs.Prelude.{Option, Some, None, Result, Ok, Err}
-use Rattle.mq_one_machine.specs.Play as spec
-use Rattle.mq_one_machine.specs.Play.{Settings, Running, Sets, IsUnset}
-use Rattle.mq_one_machine.specs.declared.setting.SettingLine.{SettingLine}
-use Rattle.mq_one_script.specs.Settings as script
-use Rattle.mq_one_script.specs.Settings.{IsSettings}
+use Rattle.mq_play.specs.Play as spec
+use Rattle.mq_play.specs.Play.{Settings, Running}
+use Rattle.mq_script.specs.Settings.{IsSettings}
 use Rattle.mq_top.specs.declared.stage.Stage.{Stage}
-use Rattle.mq_top.specs.declared.status.Stop.{Stop}
-use Rattle.mq_top.specs.declared.status.Stop.TheVariants.{BadLine, WriteFault, NoMemory}
-use Rattle.mq_one_world.specs.declared.world.World.{World}
-use Rattle.mq_one_world.specs.Worlds.{IsWorld}
+use Rattle.mq_top.specs.declared.stage.Stage.TheVariants as stage
+use Rattle.mq_world.specs.Worlds.{IsWorld}
 
--- settings alone, or a world of their setup
-abbrev pub MayRun : script.Made → Option World → spec.Stage → Type 0
-MayRun settings None (Settings lines) = IsSettings settings lines
-MayRun settings None (Running s) = ⊥
-MayRun settings (Some world) (Settings lines) = ⊥
-MayRun settings (Some world) (Running s) = IsWorld settings.setup world s
-
+-- settings alone, or a world
 abbrev pub IsStage : Stage → spec.Stage → Type 0
-IsStage x s = MayRun x.settings x.world s
+IsStage (stage.Settings told) (Settings lines) = IsSettings told lines
+IsStage (stage.Settings told) (Running s) = ⊥
+IsStage (stage.Running world) (Settings lines) = ⊥
+IsStage (stage.Running world) (Running s) = IsWorld world s
+IsStage stage.Spent s = ⊥
 
--- one more setting, or it is bad here
-abbrev pub SetTo : spec.Stage → SettingLine → Result (Unit {0}) Stop → Stage → Type 0
-SetTo s said (Ok done) x = (t : spec.Stage) × Sets s said t × IsStage x t
-SetTo s said (Err BadLine) x = IsUnset s said
-SetTo s said (Err WriteFault) x = ⊥
-SetTo s said (Err NoMemory) x = Unit {0}
+-- the world has begun
+abbrev pub IsRunning : Stage → Type 0
+IsRunning (stage.Settings told) = ⊥
+IsRunning (stage.Running world) = Unit {0}
+IsRunning stage.Spent = ⊥

@@ -8,7 +8,7 @@ use mq_outside::{Sink, Source};
 use std::alloc::Global;
 
 /// The exit status where the words ask for nothing that there is.
-const USAGE: u8 = 2;
+pub(crate) const USAGE: u8 = 2;
 
 /// Does what the words say, and answers the exit status. The one word `replay` reads a script, plays it and prints what
 /// happens.

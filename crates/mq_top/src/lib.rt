@@ -2,6 +2,7 @@
 #![tactic(auto)]
 
 mod command;
+mod entry;
 mod play;
 mod print;
 mod script;
@@ -9,10 +10,14 @@ mod session;
 mod stage;
 mod standard;
 mod status;
+mod steps;
 #[cfg(test)]
 mod tests;
+mod told;
+mod turns;
 
 pub use command::run;
+pub use entry::program;
 pub use script::replay;
 pub use standard::{StandardSink, StandardSource};
 pub use status::Status;

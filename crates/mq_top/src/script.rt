@@ -8,8 +8,8 @@ ghost use Rattle.mq_top.specs.Replay.{Replayed, SourceCounts, SinkCounts};
 use crate::print::flush;
 use crate::session::Session;
 use crate::status::{Status, Stop};
-use mq_one_script::print_bad_line;
 use mq_outside::{Got, Sink, Source};
+use mq_script::print_bad_line;
 use std::alloc::Global;
 
 /// The most bytes that one read asks for.
@@ -133,9 +133,7 @@ pub fn replay<S: Source, K: Sink>(alloc: Global, source: &mut S, sink: &mut K) -
     };
     let buffer = room.as_mut_slice();
     let mut owed = Vec::new(alloc);
-    let Ok(mut session) = Session::new(alloc) else {
-        return Status::NoMemory;
-    };
+    let mut session = Session::new(alloc);
     for _turn in 0..u64::MAX {
         if let Some(status) = read_more(alloc, &mut session, buffer, source, &mut owed, sink) {
             return status;

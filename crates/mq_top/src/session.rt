@@ -1,6 +1,7 @@
 //! The bytes of a script are cut into lines, and each line is played as soon as it is whole.
-ghost use Rattle.std.specs.Prelude.{◌≡◌, ◌≢◌, ℕ, ◌+◌, ◌<◌, ◌≤◌, List, [], ◌∷◌, ◌++◌, length, Ok, Err, IfOk};
-ghost use Rattle.mq_one_machine.specs.Play as spec;
+ghost use Rattle.std.specs.Prelude.{◌≡◌, ◌≢◌, ℕ, ◌+◌, ◌<◌, ◌≤◌, List, [], ◌∷◌, ◌++◌, length, Ok, Err};
+ghost use Rattle.mq_play.specs.Play as spec;
+ghost use Rattle.mq_play.specs.Play.{line_limit};
 ghost use Rattle.mq_top.specs.Stages.{IsStage};
 ghost use Rattle.mq_text.specs.Cut.{Lacks};
 ghost use Rattle.mq_top.specs.Printing.{Prints, StopCounts, IsSilent};
@@ -12,7 +13,6 @@ use crate::stage::Stage;
 use crate::status::Stop;
 use mq_outside::Sink;
 use mq_text::cut;
-use mq_wire::NoMemory;
 use std::alloc::Global;
 
 /// The most bytes of a line, without its newline.
@@ -35,15 +35,15 @@ pub struct Session {
 
 impl Session {
     /// Nothing was read.
-    pub fn new(alloc: Global) -> Result<Session, NoMemory>
-        ensures { IfOk result (λ session. IsRead session [] [] []) }
+    pub fn new(alloc: Global) -> Session
+        ensures { IsRead result [] [] [] }
     {
-        Ok(Session {
-            stage: Stage::new(alloc)?,
+        Session {
+            stage: Stage::new(alloc),
             begun: Vec::new(alloc),
             number: 0,
             count: 0,
-        })
+        }
     }
 
     /// How many bytes will have been read with so many more of the begun line, and its newline where that was read too.
@@ -118,7 +118,7 @@ impl Session {
         self.keep(rest)
     }
 
-    /// The script is at its end, and the begun line is a line where it isn't empty.
+    /// The script is at its end, and the begun line is its last one.
     pub fn finish<K: Sink>(
         &mut self,
         alloc: Global,
@@ -130,9 +130,7 @@ impl Session {
             → EndsTo script (text ++ shown) result self.new) }
         ensures counts { StopCounts (K.faults sink.old) (K.faults sink.new) result }
     {
-        if self.begun.is_empty() {
-            return Ok(());
-        }
+        self.room(0, 0)?;
         play_line(alloc, &mut self.stage, self.begun.as_slice(), owed, sink)
     }
 }
@@ -146,6 +144,7 @@ fn play_whole<K: Sink>(
     owed: &mut Vec<u8>,
     sink: &mut K,
 ) -> Result<(), Stop>
+    requires { length begun.old.items + length end.now ≤ line_limit }
     ensures line { (shown : List ℕ) × Prints (K.taken sink.old) (K.taken sink.new) owed.old.items owed.new.items shown
         × ((s : spec.Stage) → IsStage stage.old s → LineTo s (begun.old.items ++ end.now) shown result stage.new) }
     ensures counts { StopCounts (K.faults sink.old) (K.faults sink.new) result }

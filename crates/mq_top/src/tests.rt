@@ -2,6 +2,8 @@
 
 mod capsules;
 mod limits;
+mod lines;
+mod many;
 mod requests;
 mod rows;
 
@@ -9,10 +11,13 @@ use crate::{StandardSink, StandardSource, Status, replay, run};
 use mq_mem::{MemSink, MemSource};
 use mq_wire::{Bytes, NoMemory, Seq};
 use rows::{
-    BAD, BAD_PRINTS, BIND_FAILS, BIND_FAILS_PRINTS, DENIED, DENIED_PRINTS, FIRST, FIRST_PRINTS,
-    LONG_FOR_PORT, LONG_FOR_PORT_PRINTS, LONG_FOR_UDP, LONG_FOR_UDP_PRINTS, NO_UPGRADE,
-    NO_UPGRADE_PRINTS, NOT_FOUND, NOT_FOUND_PRINTS, OTHER_CONTEXT, OTHER_CONTEXT_PRINTS, REFUSED,
-    REFUSED_PRINTS, UNBOUND, UNBOUND_PRINTS, UNKNOWN_CAPSULE, UNKNOWN_CAPSULE_PRINTS,
+    BAD, BAD_PRINTS, BIND_FAILS, BIND_FAILS_PRINTS, CUT_CAPSULE, CUT_CAPSULE_PRINTS, DENIED,
+    DENIED_PRINTS, FIRST, FIRST_PRINTS, FULL_WORKER, FULL_WORKER_PRINTS, HISTORY_FULL,
+    HISTORY_FULL_PRINTS, LONG_FOR_PORT, LONG_FOR_PORT_PRINTS, LONG_FOR_UDP, LONG_FOR_UDP_PRINTS,
+    LOOKALIKE, LOOKALIKE_PRINTS, NO_UPGRADE, NO_UPGRADE_PRINTS, NOT_FOUND, NOT_FOUND_PRINTS,
+    OTHER_CONTEXT, OTHER_CONTEXT_PRINTS, PORT_FAILS, PORT_FAILS_PRINTS, READ_FAILS,
+    READ_FAILS_PRINTS, REFUSED, REFUSED_PRINTS, UNBOUND, UNBOUND_PRINTS, UNKNOWN_CAPSULE,
+    UNKNOWN_CAPSULE_PRINTS, WRITE_FAILS, WRITE_FAILS_PRINTS,
 };
 use std::alloc::Global;
 use std::collections::VecDeque;
@@ -74,11 +79,14 @@ fn rows_print_what_they_should(rt: HostRuntime) -> Result<(), Fail> {
         (UNKNOWN_CAPSULE, Status::Done, UNKNOWN_CAPSULE_PRINTS),
         (LONG_FOR_PORT, Status::Done, LONG_FOR_PORT_PRINTS),
         (LONG_FOR_UDP, Status::Done, LONG_FOR_UDP_PRINTS),
+        (CUT_CAPSULE, Status::Done, CUT_CAPSULE_PRINTS),
+        (LOOKALIKE, Status::Done, LOOKALIKE_PRINTS),
+        (HISTORY_FULL, Status::Done, HISTORY_FULL_PRINTS),
+        (PORT_FAILS, Status::Done, PORT_FAILS_PRINTS),
+        (READ_FAILS, Status::Done, READ_FAILS_PRINTS),
+        (WRITE_FAILS, Status::Done, WRITE_FAILS_PRINTS),
+        (FULL_WORKER, Status::Done, FULL_WORKER_PRINTS),
         (BAD, Status::BadScript, BAD_PRINTS),
-        (b"# said\n\nstep 1\n", Status::BadScript, b"bad line 3\n"),
-        (b"conn 0\nconn 0\n", Status::BadScript, b"bad line 2\n"),
-        (b"bytes 0 00\nconn 0\n", Status::BadScript, b"bad line 1\n"),
-        (b"conn 1\n", Status::BadScript, b"bad line 1\n"),
         (b"conn 0\n\n# said\n\n", Status::Done, nothing),
         (b"step 0", Status::Done, b"idle 0\n"),
         (

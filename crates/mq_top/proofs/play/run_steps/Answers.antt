@@ -1,25 +1,40 @@
-use Rattle.std.proofs.Common.{[], refl, sym, subst, inl}
-use Rattle.mq_one_machine.specs.Play.{opened}
-use Rattle.mq_one_machine.specs.declared.setup.Setup.{Setup}
-use Rattle.mq_one_world.specs.Worlds.{IsWorld}
-use Rattle.mq_top.specs.Playing.{RunsTo}
-use Rattle.mq_top.proofs.Playing.{world_of}
+use Rattle.std.proofs.Common.{[], refl, subst}
+use Rattle.std.proofs.lemmas.Result.{err_from_is_err_and}
+use Rattle.mq_play.specs.declared.line.Line.TheVariants as line
+use Rattle.mq_play.specs.Play.{Running, opened}
+use Rattle.mq_top.proofs.Playing.{steps_said, unsaid_spent}
 use Rattle.mq_top.proofs.Shown.{prints_none}
-use Rattle.mq_top.proofs.Steps.{runs_none}
+use Rattle.mq_top.specs.Stages.{IsStage}
+use Rattle.mq_top.specs.declared.stage.Stage.{Stage}
 use Rattle.mq_top.proofs.play.run_steps.Goals as goal
 
-pub returns-in_default-clause-runs : goal.returns-in_default-clause-runs
-returns-in_default-clause-runs g c = ([], prints_none _ _, λ s is some. (0, runs_none (opened s) c.args.actor c.args.count, inl refl))
+pub returns-in_err-open-clause-said : goal.returns-in_err-open-clause-said
+returns-in_err-open-clause-said g c = (
+  [],
+  prints_none _ _,
+  λ s stands.
+      let p = err_from_is_err_and c.from_residual.result c.from_residual.ensures.1 in
+      rw p.1 (unsaid_spent c.open.new.self s (line.Steps c.args.actor c.args.count) _ p.2),
+)
 
-pub returns-clause-runs : goal.returns-clause-runs
-returns-clause-runs g c =
-    let settings = c.open.new.self.settings in
+pub returns-in-Some-clause-said : goal.returns-in-Some-clause-said
+returns-in-Some-clause-said g c =
     let told = c.take_steps.ensures.runs in (
       told.0,
       told.1,
-      λ s is some.
-          let P : Setup → Type 0 = λ setup. IsWorld setup c.in-Some.world (opened s) in
-          let Q : Setup → Type 0 = λ setup. RunsTo (λ t. IsWorld setup c.take_steps.new.world t) (opened s) c.args.actor c.args.count told.0 c.take_steps.result in
-          let stands = subst P (sym c.setup.ensures.now) (world_of settings c.open.new.self.world c.in-Some.world (opened s) c.in-Some.is (c.open.ensures s is)) in
-          subst Q c.setup.ensures.now (told.2 (opened s) stands some),
+      λ s stands.
+          let P : Stage → Type 0 = λ x. IsStage x (Running (opened s)) in
+          let world = subst P c.in-Running.is (c.in_ok-open.ensures.opens s stands) in
+          let at = c.in-Some.ensures (opened s) world in
+          steps_said c.take_steps.new.world s c.args.actor c.args.count told.0 c.take_steps.result at.0 (told.2 (opened s) world at.1),
     )
+
+pub returns-in-None-clause-said : goal.returns-in-None-clause-said
+returns-in-None-clause-said g c = (
+  [],
+  prints_none _ _,
+  λ s stands.
+      let P : Stage → Type 0 = λ x. IsStage x (Running (opened s)) in
+      let world = subst P c.in-Running.is (c.in_ok-open.ensures.opens s stands) in
+      (c.in-None.ensures (opened s) world, refl),
+)

@@ -13,15 +13,6 @@ returns-in_default-clause-replayed g c = record {
   replays = λ rest e. inl (λ more. nothing_yet more);
 }
 
-pub returns-in_default-new-clause-replayed : goal.returns-in_default-new-clause-replayed
-returns-in_default-new-clause-replayed g c = record {
-  script = [];
-  out = [];
-  gave = gives_none _ _ refl;
-  took_more = adds_none _;
-  replays = λ rest e. inl (λ more. nothing_yet more);
-}
-
 pub loop-turn-init : goal.loop-turn-init
 loop-turn-init g c = record {
   script = [];
@@ -29,7 +20,7 @@ loop-turn-init g c = record {
   out = [];
   gave = gives_none _ _ refl;
   took = adds_none _;
-  read = c.in-Ok-new.ensures;
+  read = c.new-session.ensures;
   written = c.new-owed.ensures.items;
   reading = refl;
   writing = refl;

@@ -2,7 +2,7 @@ use Rattle.std.proofs.Common.{◌≡◌, ℕ, ◌++◌, List, [], refl, sym, sub
 use Rattle.std.proofs.lemmas.Grind.{common_steps}
 use Rattle.std.proofs.lemmas.Result.{err_from_is_err_and}
 use Rattle.mq_top.proofs.Reading.{too_much, kept, no_memory, room_silent}
-use Rattle.mq_one_machine.specs.Play.{IsPlayedPart}
+use Rattle.mq_play.specs.Script.{IsPlayedPart}
 use Rattle.mq_top.specs.Reading.{StopsAt}
 use Rattle.mq_top.specs.declared.session.Session.{Session}
 use Rattle.mq_top.proofs.session.Session.keep.Goals as goal

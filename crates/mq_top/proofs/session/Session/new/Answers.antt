@@ -1,5 +1,6 @@
 use Rattle.std.proofs.Common.{ℕ, List, [], length, refl, sym, ap, subst, arith}
-use Rattle.mq_one_machine.specs.Play.{IsScript, opening}
+use Rattle.mq_play.specs.Play.{opening}
+use Rattle.mq_top.specs.Reading.{IsScript}
 use Rattle.mq_top.proofs.session.Session.new.Goals as goal
 
 pub returns : goal.returns
@@ -8,11 +9,11 @@ returns c =
     let Q : List ℕ → Type 0 = λ begun. IsScript [] [] begun in
     record {
       state = opening;
-      refused = 0;
-      plays = (refl, refl, refl);
-      stands = c.in_ok-new.ensures;
+      fates = [];
+      plays = (refl, refl);
+      stands = c.new.ensures;
       number = refl;
-      script_is = subst Q (sym none) (record { is = refl; lines_are = tt; tail_is = tt });
+      script_is = subst Q (sym none) (record { is = refl; lines_are = tt; begun_is = tt });
       count = refl;
       fits = omega arith;
       begun_fits = omega (arith, ap length none);

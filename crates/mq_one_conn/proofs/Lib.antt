@@ -1,4 +1,0 @@
-pub mod Doing
-pub mod HeadsRead
-pub mod Items
-pub mod Phases

@@ -1,8 +1,0 @@
-use Rattle.std.proofs.lemmas.Result.{err_from_is_err_and}
-use Rattle.mq_one_script.proofs.Printed.{front_before}
-use Rattle.mq_one_script.proofs.part.append_parts.Goals as goal
-
-pub returns-in_err-append_part : goal.returns-in_err-append_part
-returns-in_err-append_part c =
-    let p = err_from_is_err_and c.from_residual.result c.from_residual.ensures.1 in
-    rw p.1 (front_before _ _ _ _ c.loop-part.invariant c.in_err-append_part.ensures)

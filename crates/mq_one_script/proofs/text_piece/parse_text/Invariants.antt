@@ -1,6 +1,0 @@
-use Rattle.std.proofs.Common.{◌≡◌, drop, false, []}
-use Rattle.mq_one_script.proofs.Texts.{scan}
-use Rattle.mq_one_script.proofs.text_piece.parse_text.Given as goal
-
-abbrev pub invariant-loop-byte : goal.invariant-loop-byte
-invariant-loop-byte l = scan l.is_escape l.bytes.items (drop l.byte-index l.text) ≡ scan false [] l.text

@@ -1,5 +1,0 @@
-pub mod Arriving
-pub mod Going
-pub mod Linked
-pub mod Reading
-pub mod Turning

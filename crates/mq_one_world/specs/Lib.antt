@@ -1,3 +1,0 @@
-pub mod Links
-pub mod Pieces
-pub mod Worlds

@@ -1,0 +1,35 @@
+//! The program: its words, standard input and standard output.
+
+use crate::command::{USAGE, run};
+use crate::standard::{StandardSink, StandardSource};
+use crate::status::Status;
+use std::process::ExitCode;
+use std::{env, io};
+
+/// The words behind the program's name.
+fn words(rt: &HostRuntime) -> io::Result<Vec<String>> {
+    let mut words = Vec::new(rt.alloc());
+    for word in env::args(rt)?.skip(1) {
+        words.push(word)?;
+    }
+    Ok(words)
+}
+
+/// The exit status where the words can't be read: a word that isn't UTF-8 makes a faulty command line.
+fn unread(fault: &io::Error) -> u8 {
+    match fault.kind() {
+        io::ErrorKind::OutOfMemory => Status::NoMemory.code(),
+        _ => USAGE,
+    }
+}
+
+/// Does what the words of the command line say, from standard input to standard output, and answers the exit status.
+pub fn program(rt: &HostRuntime) -> ExitCode {
+    let words = match words(rt) {
+        Ok(words) => words,
+        Err(fault) => return ExitCode::from(unread(&fault)),
+    };
+    let mut source = StandardSource::new(rt.stdin());
+    let mut sink = StandardSink::new(rt.stdout());
+    ExitCode::from(run(rt.alloc(), words.as_slice(), &mut source, &mut sink))
+}

@@ -1,0 +1,90 @@
+//! Steps of one actor.
+ghost use Rattle.std.specs.Prelude.{◌≡◌, ℕ, List, []};
+ghost use Rattle.mq_machine.specs.State.{State};
+ghost use Rattle.mq_machine.specs.Turn.{Actor};
+ghost use Rattle.mq_play.specs.Play.{actor_of};
+ghost use Rattle.mq_top.specs.Playing.{IsAt, NumberTo, RunsTo, StepTo};
+ghost use Rattle.mq_top.specs.Printing.{Prints, StopCounts};
+ghost use Rattle.mq_world.specs.Worlds.{IsWorld};
+
+use crate::print::spill;
+use crate::status::Stop;
+use mq_machine::{Event, silent_or_quiet, turn_or_quiet};
+use mq_outside::Sink;
+use mq_script::{print_idle, print_note};
+use mq_world::{Stepped, World};
+
+/// The number by which a line names the network.
+const NET: u32 = u32::MAX;
+
+/// What an actor did.
+#[derive(Clone, Copy, Debug, PartialEq, Eq)]
+pub enum Moved {
+    /// It took a step, or was refused memory in one.
+    Acted,
+    /// It has no step.
+    Idle,
+}
+
+/// The number in the world of the actor that a line names so, where it is one. The network's is the count of workers.
+pub fn number_of(world: &World, name: u32) -> Option<u32>
+    ensures { (s : State) → IsWorld world.now s → NumberTo s name result }
+{
+    let count = world.workers();
+    if name == NET {
+        return Some(count);
+    }
+    (name < count).then_some(name)
+}
+
+/// An actor of the world takes a step, and its note is printed. A step that is refused memory prints nothing.
+pub fn take_step<K: Sink>(
+    world: &mut World,
+    number: u32,
+    owed: &mut Vec<u8>,
+    sink: &mut K,
+) -> Result<Moved, Stop>
+    ensures step { (shown : List ℕ) × Prints (K.taken sink.old) (K.taken sink.new) owed.old.items owed.new.items shown
+        × ((s : State) (actor : Actor) → IsWorld world.old s → IsAt s number actor → StepTo world.new s actor shown result) }
+    ensures counts { StopCounts (K.faults sink.old) (K.faults sink.new) result }
+{
+    turn_or_quiet();
+    silent_or_quiet();
+    match world.step(Event::Step { actor: number }) {
+        Ok(Stepped::Did(note)) => {
+            print_note(owed, &note)?;
+            spill(owed, sink)?;
+            Ok(Moved::Acted)
+        }
+        Ok(Stepped::Refused) => Ok(Moved::Acted),
+        Ok(Stepped::Idle) => Ok(Moved::Idle),
+        // No actor of the world is answered so.
+        Ok(Stepped::Done) | Err(_) => Err(Stop::NoMemory),
+    }
+}
+
+/// An actor, which a line names so, takes up to so many steps. Where it has none left, that is printed.
+pub fn take_steps<K: Sink>(
+    world: &mut World,
+    number: u32,
+    name: u32,
+    count: u32,
+    owed: &mut Vec<u8>,
+    sink: &mut K,
+) -> Result<(), Stop>
+    ensures runs { (shown : List ℕ) × Prints (K.taken sink.old) (K.taken sink.new) owed.old.items owed.new.items shown
+        × ((s : State) → IsWorld world.old s → IsAt s number (actor_of name) → RunsTo world.new s (actor_of name) count shown result) }
+    ensures counts { StopCounts (K.faults sink.old) (K.faults sink.new) result }
+{
+    let mut left = count;
+    while left > 0 {
+        match take_step(world, number, owed, sink)? {
+            Moved::Acted => left -= 1,
+            Moved::Idle => {
+                print_idle(owed, name)?;
+                return Ok(());
+            }
+        }
+    }
+    Ok(())
+}

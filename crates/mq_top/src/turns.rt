@@ -1,0 +1,82 @@
+//! Steps of all actors in turn: the workers by their numbers, then the network, in a ring.
+ghost use Rattle.std.specs.Prelude.{◌≡◌, ◌-◌, ◌≤◌, ◌++◌, ℕ, List, [], drop, length, take};
+ghost use Rattle.mq_machine.specs.State.{State};
+ghost use Rattle.mq_play.specs.Play.{actors_of};
+ghost use Rattle.mq_top.specs.Playing.{FirstTo, GoesTo, workers_from};
+ghost use Rattle.mq_top.specs.Printing.{Prints, StopCounts};
+ghost use Rattle.mq_world.specs.Worlds.{IsWorld};
+
+use crate::status::Stop;
+use crate::steps::{Moved, take_step};
+use mq_outside::Sink;
+use mq_script::print_more;
+use mq_world::World;
+
+/// The first of these workers that has a step takes it. Answers the place behind it.
+fn take_worker<K: Sink>(
+    world: &mut World,
+    from: u32,
+    to: u32,
+    owed: &mut Vec<u8>,
+    sink: &mut K,
+) -> Result<Option<u32>, Stop>
+    ensures first { (shown : List ℕ) × Prints (K.taken sink.old) (K.taken sink.new) owed.old.items owed.new.items shown
+        × ((s : State) → IsWorld world.old s → to ≤ length s.workers → FirstTo world.new s (workers_from from (to - from)) shown result) }
+    ensures counts { StopCounts (K.faults sink.old) (K.faults sink.new) result }
+{
+    let mut number = from;
+    while number < to {
+        match take_step(world, number, owed, sink)? {
+            Moved::Acted => return Ok(Some(number + 1)),
+            Moved::Idle => number += 1,
+        }
+    }
+    Ok(None)
+}
+
+/// The first actor in the ring from this place on that has a step takes it. Answers the place behind it.
+fn take_turn<K: Sink>(
+    world: &mut World,
+    at: u32,
+    owed: &mut Vec<u8>,
+    sink: &mut K,
+) -> Result<Option<u32>, Stop>
+    ensures first { (shown : List ℕ) × Prints (K.taken sink.old) (K.taken sink.new) owed.old.items owed.new.items shown
+        × ((s : State) → IsWorld world.old s → at ≤ length s.workers → FirstTo world.new s (drop at (actors_of s) ++ take at (actors_of s)) shown result) }
+    ensures counts { StopCounts (K.faults sink.old) (K.faults sink.new) result }
+{
+    let count = world.workers();
+    if let Some(next) = take_worker(world, at, count, owed, sink)? {
+        return Ok(Some(next));
+    }
+    match take_step(world, count, owed, sink)? {
+        Moved::Acted => Ok(Some(0)),
+        Moved::Idle => take_worker(world, 0, at, owed, sink),
+    }
+}
+
+/// All actors take up to so many steps in turn. Where all were taken and some actor has one left, that is printed.
+pub fn take_turns<K: Sink>(
+    world: &mut World,
+    count: u32,
+    owed: &mut Vec<u8>,
+    sink: &mut K,
+) -> Result<(), Stop>
+    ensures goes { (shown : List ℕ) × Prints (K.taken sink.old) (K.taken sink.new) owed.old.items owed.new.items shown
+        × ((s : State) → IsWorld world.old s → GoesTo world.new s count shown result) }
+    ensures counts { StopCounts (K.faults sink.old) (K.faults sink.new) result }
+{
+    let mut at = 0;
+    let mut left = count;
+    while left > 0 {
+        match take_turn(world, at, owed, sink)? {
+            Some(next) => at = next,
+            None => return Ok(()),
+        }
+        left -= 1;
+    }
+    if !world.quiet() {
+        print_more(owed)?;
+    }
+    Ok(())
+}
