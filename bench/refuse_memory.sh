@@ -1,42 +1,69 @@
 #!/usr/bin/env bash
-# Refuses the program one allocation after another, until a run meets no refusal: bench/refuse_memory.sh [SCRIPT]
-# Each run must end with status 0 or 7. At status 7 it prints a front of what the run without a refusal prints; at status 0
-# such a front, and behind it that the connection which was refused memory ended, and who is idle then.
+# Refuses the program one allocation after another: bench/refuse_memory.sh [SCRIPT [FIRST]]
+# The program is run as it is, unproved, and is built for each run. FIRST is the first allocation that is refused, 1 without it.
+# Each run must end with status 0 or 7. At status 7 it prints a front of what the run without a refusal prints, which is the
+# whole. At status 0 it prints such a front, and behind it that the connection which was refused memory ended, and who is idle
+# then. Or its link stayed offered and was accepted a step later: then it prints the whole but for its last line. Or it prints
+# the whole, since it got by with less: where room for a whole name is refused, room for less of it is asked for. Where three
+# runs in a row print the whole, no allocation is taken to be left.
+# SCRIPT has one connection, and its last line has its only steps, one more than there is to do. Had it more of them, nothing
+# would be missing where a link stayed offered.
 set -eu
 cd "$(dirname "$0")/.."
 script=$(realpath "${1:-examples/first_datagram.script}")
+first=${2:-1}
 work=$(mktemp -d)
 trap 'rm -rf "$work"' EXIT
 cd crates/masque
-rt run -- replay < "$script" > "$work/whole" 2> /dev/null
+
+fail() {
+  echo "allocation $number: $1" >&2
+  exit 1
+}
 
 is_front() {
   head -c "$(wc -c < "$1")" "$work/whole" | cmp -s - "$1"
 }
 
-number=0
+rt try -- replay < "$script" > "$work/whole" 2> /dev/null || true
+tail -n 1 "$work/whole" | grep -q '^idle ' || { echo "the last step of $script has something to do" >&2; exit 1; }
+sed '$d' "$work/whole" > "$work/later"
+
+number=$first
 stopped=0
 ended=0
-while true; do
-  number=$((number + 1))
+offered=0
+got_by=0
+in_a_row=0
+while [ "$in_a_row" -lt 3 ]; do
   rt try --fail-alloc "$number" -- replay < "$script" > "$work/printed" 2> "$work/told" || true
   status=$(sed -n 's/^checked: ended status=//p' "$work/told")
+  in_a_row=$((in_a_row + 1))
   case "$status" in
     0)
-      cmp -s "$work/whole" "$work/printed" && break
-      sed -e '/^closed [0-9]* Conn left [0-9]*$/d' -e '/^ended [0-9]* NoMemory$/d' -e '/^idle [0-9]*$/d' \
-        "$work/printed" > "$work/front"
-      { is_front "$work/front" && grep -q '^ended [0-9]* NoMemory$' "$work/printed"; } ||
-        { echo "allocation $number: what is printed is no front of the whole and an end" >&2; exit 1; }
-      ended=$((ended + 1))
+      if cmp -s "$work/whole" "$work/printed"; then
+        got_by=$((got_by + 1))
+      elif grep -q '^ended [0-9]* NoMemory$' "$work/printed"; then
+        sed -e '/^closed [0-9]* Conn left [0-9]*$/d' -e '/^ended [0-9]* NoMemory$/d' -e '/^idle [0-9]*$/d' \
+          "$work/printed" > "$work/front"
+        is_front "$work/front" || fail "what is printed is no front of the whole and an end"
+        ended=$((ended + 1))
+        in_a_row=0
+      else
+        cmp -s "$work/later" "$work/printed" || fail "what is printed is neither an end nor the whole a step later"
+        offered=$((offered + 1))
+        in_a_row=0
+      fi
       ;;
     7)
-      is_front "$work/printed" ||
-        { echo "allocation $number: what is printed is no front of the whole" >&2; exit 1; }
+      is_front "$work/printed" || fail "what is printed is no front of the whole"
       stopped=$((stopped + 1))
+      in_a_row=0
       ;;
-    *) echo "allocation $number: status ${status:-not told}" >&2; exit 1 ;;
+    *) fail "status ${status:-not told}" ;;
   esac
+  number=$((number + 1))
 done
-echo "allocation $number is never made; of those before, refused one by one, $stopped ended with status 7," \
-  "and $ended with status 0 and the end of their connection"
+echo "allocations $first to $((number - 4)), refused one by one: $stopped runs ended with status 7," \
+  "$ended with status 0 and the end of their connection, $offered with status 0 and a step that accepted nothing," \
+  "and $((got_by - 3)) got by with less"
