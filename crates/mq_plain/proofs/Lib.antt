@@ -10,3 +10,4 @@ pub mod Same
 pub mod Arriving
 pub mod Elsewhere
 pub mod Offering
+pub mod Begun

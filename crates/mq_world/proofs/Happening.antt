@@ -1,6 +1,6 @@
 -- What comes from outside, as an event of the machine.
-use Rattle.std.proofs.Common.{◌≡◌, ℕ, zero, suc, ◌<◌, ◌≤◌, Bool, true, false, not, List, [], ◌∷◌, length, map, slice_get, Option, Some, Result, Ok, Err, refl, sym, ap, subst, ◌∙◌, arith}
-use Rattle.std.specs.Prelude.{⊤, nat_lt, take}
+use Rattle.std.proofs.Common.{◌≡◌, ℕ, zero, suc, ◌<◌, ◌≤◌, Bool, true, false, not, List, [], ◌∷◌, length, map, slice_get, Option, Some, refl, sym, ap, subst, ◌∙◌, arith}
+use Rattle.std.specs.Prelude.{nat_lt, take}
 use Rattle.std.specs.Vec.{with_item}
 use Rattle.std.proofs.lemmas.Bool.{leb-false}
 use Rattle.std.proofs.lemmas.Option.{slice_get_within, get_or_from_slice_get}
@@ -12,17 +12,14 @@ use Rattle.mq_talk.specs.declared.book.Entry.{Entry}
 use Rattle.mq_talk.specs.declared.goal.Goal.TheVariants as goal
 use Rattle.mq_talk.specs.Answers.{IsLegal, MayCall}
 use Rattle.mq_talk.specs.Book.{History}
-use Rattle.mq_machine.specs.declared.event.Event.{Event}
-use Rattle.mq_machine.specs.State.{Link, Port, Told, Worker, State}
+use Rattle.mq_machine.specs.State.{Port, Told, Worker, State}
 use Rattle.mq_mem.specs.Offices.{seen_of}
-use Rattle.mq_play.specs.Events.{at_link, happen, has_link, is_ended, is_missing, opens_port, with_held_ports, with_port}
+use Rattle.mq_play.specs.Events.{is_ended, opens_port, with_held_ports, with_port}
 use Rattle.mq_plain.specs.Served.{Plain, Serves}
 use Rattle.mq_plain.proofs.Elsewhere.{still_elsewhere}
-use Rattle.mq_world.specs.declared.stepped.WorldFault.{WorldFault}
-use Rattle.mq_world.specs.declared.stepped.WorldFault.TheVariants as fault
 use Rattle.mq_world.specs.declared.told.Told.{Told as ToldBy}
 use Rattle.mq_world.specs.declared.workers.Workers.{Workers}
-use Rattle.mq_world.specs.Worlds.{told_of, IsWorld, Happens, LinkHappens, opens_udp}
+use Rattle.mq_world.specs.Worlds.{told_of, IsWorld, opens_udp}
 use Rattle.mq_world.proofs.Each.{stands_changed}
 
 -- ---- links

@@ -7,7 +7,8 @@ use Rattle.mq_mem.specs.Ports.{Ports as PortsOf}
 use Rattle.mq_mem.proofs.Boxes.{length_empty}
 use Rattle.mq_actor.specs.Holds.{IsWorker}
 use Rattle.mq_plain.specs.Served.{words, Plain}
-use Rattle.mq_world.proofs.Beginning.{begins, one_more, unwritten, unsent, stands_new}
+use Rattle.mq_plain.proofs.Begun.{begins}
+use Rattle.mq_world.proofs.Beginning.{one_more, unwritten, unsent, stands_new}
 use Rattle.mq_world.proofs.workers.Workers.new.Goals as goal
 
 pub loop-number-preserved : goal.loop-number-preserved

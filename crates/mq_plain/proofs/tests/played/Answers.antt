@@ -1,0 +1,23 @@
+use Rattle.std.proofs.Common.{◌≡◌, length, sym, ap, ◌∙◌}
+use Rattle.mq_mem.specs.Mails.{Mail as MailOf}
+use Rattle.mq_mem.specs.Offices.{seen_of}
+use Rattle.mq_plain.proofs.Serving.{nowhere}
+use Rattle.mq_plain.proofs.tests.played.Goals as goal
+
+pub steps-requires-clause-known : goal.steps-requires-clause-known
+steps-requires-clause-known c =
+    let size : length c.in_ok-mail.mail.boxes ≡ 2 = ap (λ (m : MailOf). length m.boxes) c.in_ok-mail.ensures in
+    let x = c.in_ok-worker.ensures (seen_of c.in_ok-office.office.office) c.in_ok-mail.mail.boxes c.in_ok-office.ensures.config c.in_ok-office.ensures.empty size in
+    (nowhere, x.1, x.2.stands, x.2.known nowhere)
+
+pub steps-requires-clause-office : goal.steps-requires-clause-office
+steps-requires-clause-office c =
+    let size : length c.in_ok-mail.mail.boxes ≡ 2 = ap (λ (m : MailOf). length m.boxes) c.in_ok-mail.ensures in
+    let x = c.in_ok-worker.ensures (seen_of c.in_ok-office.office.office) c.in_ok-mail.mail.boxes c.in_ok-office.ensures.config c.in_ok-office.ensures.empty size in
+    c.in_ok-office.ensures.actor ∙ sym x.2.id
+
+pub steps-requires-clause-mail : goal.steps-requires-clause-mail
+steps-requires-clause-mail c =
+    let size : length c.in_ok-mail.mail.boxes ≡ 2 = ap (λ (m : MailOf). length m.boxes) c.in_ok-mail.ensures in
+    let x = c.in_ok-worker.ensures (seen_of c.in_ok-office.office.office) c.in_ok-mail.mail.boxes c.in_ok-office.ensures.config c.in_ok-office.ensures.empty size in
+    ap (λ (m : MailOf). m.actor) c.in_ok-mail.ensures ∙ sym x.2.id

@@ -1,0 +1,151 @@
+//! A worker whose office refuses memory to one call.
+
+ghost use Rattle.std.specs.Prelude.{◌≡◌, [], Some, IfOk, List, length};
+ghost use Rattle.mq_addr.specs.declared.kind.Kind.TheVariants as kind;
+ghost use Rattle.mq_talk.specs.Mails.{Boxes};
+ghost use Rattle.mq_talk.specs.Offices.{Seen};
+ghost use Rattle.mq_machine.specs.State as machine;
+ghost use Rattle.mq_machine.specs.Acting.{Outside, Known};
+ghost use Rattle.mq_mem.specs.Offices.{seen_of};
+ghost use Rattle.mq_actor.specs.Holds.{IsWorker};
+ghost use Rattle.mq_actor.specs.Steps.{sight};
+ghost use Rattle.mq_plain.specs.Served.{Serves, words};
+
+use crate::{Plain, PlainPorts, offer, piece};
+use mq_addr::Kind;
+use mq_book::Config;
+use mq_machine::Setup;
+use mq_mem::{PlainMail, PlainOffice, RefusingOffice};
+use mq_policy::Policy;
+use mq_talk::{End, Note};
+use mq_target::Template;
+use mq_wire::{Bytes, NoMemory, Seq};
+use std::alloc::Global;
+use std::test::Fail;
+
+/// A request for a tunnel to 192.0.2.6, port 443 (RFC 9298, section 3.2).
+const REQUEST: &[u8] =
+    b"GET https://example.org/.well-known/masque/udp/192.0.2.6/443/ HTTP/1.1\r\nHost: example.org\r\nConnection: Upgrade\r\nUpgrade: connect-udp\r\nCapsule-Protocol: ?1\r\n\r\n";
+
+fn nothing<T: Drop>(alloc: Global) -> Seq<T>
+    ensures { result ≡ [] }
+{
+    Seq::from_vec(Vec::new(alloc))
+}
+
+/// What the only worker is set up with.
+fn setup(alloc: Global) -> Result<Setup, NoMemory>
+    ensures { IfOk result (λ s. (s.udp.kind ≡ kind.Udp) × (s.pump ≡ 1)) }
+{
+    let udp = Template::well_known(alloc, Kind::Udp)?;
+    let ip = Template::well_known(alloc, Kind::Ip)?;
+    Ok(Setup {
+        udp,
+        ip,
+        policy: Policy::new(alloc),
+        mtu: 1500,
+        pump: 1,
+    })
+}
+
+/// The only worker, to which a link was offered on which the request arrived.
+fn asked(alloc: Global) -> Result<Plain, NoMemory>
+    ensures { IfOk result (λ worker. (seen : Seen) (boxes : Boxes) → seen.config.workers ≡ 1 → seen.entries ≡ [] → length boxes ≡ 2
+        → (links : List machine.Told) × (w : machine.Worker) × Serves links seen boxes 0 worker w) }
+{
+    let ports = PlainPorts::new(alloc)?;
+    let setup = setup(alloc)?;
+    let mut worker = Plain::new(alloc, 0, setup, ports)?;
+    offer(alloc, &mut worker, 0)?;
+    let request = Bytes::from_vec(Vec::from_slice(alloc, REQUEST)?);
+    piece(&mut worker, 0, request)?;
+    Ok(worker)
+}
+
+/// The office of one worker, whose call of this number is refused memory. Its book is empty.
+fn office(alloc: Global, refused: u64) -> Result<RefusingOffice, NoMemory>
+    ensures config { IfOk result (λ o. o.office.book.config.workers ≡ 1) }
+    ensures empty { IfOk result (λ o. o.office.book.history ≡ []) }
+    ensures actor { IfOk result (λ o. o.office.actor ≡ 0) }
+{
+    let config = Config {
+        pool: nothing(alloc),
+        reach: nothing(alloc),
+        routes: nothing(alloc),
+        history: 8,
+        workers: 1,
+    };
+    Ok(RefusingOffice::new(PlainOffice::of(alloc, config)?, refused))
+}
+
+/// What a step gave, in a word. None where it gave no note.
+fn word(step: Result<Option<Note>, NoMemory>) -> Option<&'static str> {
+    match step {
+        Ok(None) => None,
+        Err(NoMemory) => Some("no memory"),
+        Ok(Some(Note::Accepted { .. })) => Some("accepted"),
+        Ok(Some(Note::Took { .. })) => Some("took"),
+        Ok(Some(Note::Ported { .. })) => Some("ported"),
+        Ok(Some(Note::Opened { .. })) => Some("opened"),
+        Ok(Some(Note::Wrote { .. })) => Some("wrote"),
+        Ok(
+            Some(
+                Note::Ended {
+                    why: End::NoMemory,
+                    ..
+                },
+            ),
+        ) => Some("ended for want of memory"),
+        Ok(Some(_)) => Some("another note"),
+    }
+}
+
+/// A worker takes steps until one gives no note, twenty at most. Answers what they gave.
+fn steps(
+    alloc: Global,
+    worker: &mut Plain,
+    office: &mut RefusingOffice,
+    mail: &mut PlainMail,
+) -> Result<Vec<&'static str>, NoMemory>
+    requires known { (o : Outside) × (w : machine.Worker) × IsWorker words.most worker.old.table.table worker.old.ring w × Known (sight o (seen_of office.old.office) (Some mail.old.boxes)) w }
+    requires office { office.old.office.actor ≡ worker.old.ring.id }
+    requires mail { mail.old.actor ≡ worker.old.ring.id }
+{
+    let mut gave = Vec::new(alloc);
+    for _ in 0..20 {
+        let Some(word) = word(worker.step(office, mail)) else {
+            break;
+        };
+        gave.push(word)?;
+    }
+    Ok(gave)
+}
+
+/// What the steps of the only worker gave where the call of this number is refused memory, and the office then.
+fn played(alloc: Global, refused: u64) -> Result<(Vec<&'static str>, RefusingOffice), NoMemory> {
+    let mut worker = asked(alloc)?;
+    let mut office = office(alloc, refused)?;
+    let mut mail = PlainMail::new(alloc, 2)?;
+    let gave = steps(alloc, &mut worker, &mut office, &mut mail)?;
+    Ok((gave, office))
+}
+
+// A connection whose open is refused memory ends, and leaves no entry behind.
+#[test]
+fn an_open_that_is_refused_memory_ends_its_connection(rt: HostRuntime) -> Result<(), Fail> {
+    let starved = [
+        "accepted",
+        "took",
+        "ported",
+        "no memory",
+        "ended for want of memory",
+    ];
+    let served = ["accepted", "took", "ported", "opened", "wrote"];
+    for (refused, want, entries) in [(0, starved, 0), (1, served, 1), (2, served, 1)] {
+        let (gave, office) = played(rt.alloc(), refused)?;
+        assert_eq!(rt; gave.as_slice(), want.as_slice(), "call {refused}");
+        assert_eq!(rt; office.book().count(), entries);
+        assert_eq!(rt; office.made(), 1);
+    }
+    Ok(())
+}
