@@ -5,3 +5,5 @@ pub mod Stepping
 pub mod Answering
 pub mod Texts
 pub mod Growth
+pub mod Checksums
+pub mod Generating

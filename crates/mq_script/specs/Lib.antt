@@ -1,3 +1,5 @@
 pub mod Words
 pub mod Reading
 pub mod Settings
+pub mod Generated
+pub mod Left

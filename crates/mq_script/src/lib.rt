@@ -1,15 +1,20 @@
-//! The lines of a script, which are read, and the lines that a replay prints.
+//! The lines of a script, which are read or generated, and the lines that a replay prints.
 #![tactic(auto)]
 
 mod block_setting;
+mod draw;
+mod drawn_line;
 mod fault;
 mod fill_piece;
+mod generator;
 mod happen;
 mod hex_piece;
 mod line;
 mod name_setting;
 mod number;
+mod opening;
 mod orders;
+mod packet;
 mod part;
 mod print;
 mod rule_setting;
@@ -21,6 +26,10 @@ mod text_piece;
 mod word;
 
 pub use fault::LineFault;
+pub use generator::{Generator, generate};
 pub use line::parse_line;
 pub use print::{print_bad_line, print_idle, print_more, print_note};
 pub use settings::Settings;
+
+#[cfg(test)]
+mod tests;

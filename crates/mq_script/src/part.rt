@@ -21,22 +21,24 @@ pub enum Part<'a> {
     Hex(&'a [u8]),
 }
 
-fn append(out: &mut Vec<u8>, text: &[u8]) -> Result<(), NoMemory>
+/// Appends a text; an `Err` leaves a part of it.
+pub fn append(out: &mut Vec<u8>, text: &[u8]) -> Result<(), NoMemory>
     ensures { Appends out.old.items text.now out.new.items result }
 {
     out.extend_from_slice(text)?;
     Ok(())
 }
 
-fn append_number(out: &mut Vec<u8>, number: u64) -> Result<(), NoMemory>
+/// Appends a number in decimal; an `Err` leaves a part of it.
+pub fn append_number(out: &mut Vec<u8>, number: u64) -> Result<(), NoMemory>
     ensures { Appends out.old.items (decimal number) out.new.items result }
 {
     let mut buffer = Buffer::new();
     append(out, buffer.format(number).as_bytes())
 }
 
-/// Twice as many digits as bytes.
-fn append_hex(out: &mut Vec<u8>, bytes: &[u8]) -> Result<(), NoMemory>
+/// Appends bytes in hex, in twice as many digits; an `Err` leaves a part of them.
+pub fn append_hex(out: &mut Vec<u8>, bytes: &[u8]) -> Result<(), NoMemory>
     ensures { Appends out.old.items (encode_lower bytes.now) out.new.items result }
 {
     let start = out.len();
