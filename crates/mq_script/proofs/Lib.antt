@@ -7,3 +7,4 @@ pub mod Texts
 pub mod Growth
 pub mod Checksums
 pub mod Generating
+pub mod Taking

@@ -3,3 +3,4 @@ pub mod Reading
 pub mod Settings
 pub mod Generated
 pub mod Left
+pub mod Laws

@@ -9,6 +9,7 @@ mod fill_piece;
 mod generator;
 mod happen;
 mod hex_piece;
+mod laws;
 mod line;
 mod name_setting;
 mod number;
@@ -27,6 +28,7 @@ mod word;
 
 pub use fault::LineFault;
 pub use generator::{Generator, generate};
+pub use laws::packets_are_taken;
 pub use line::parse_line;
 pub use print::{print_bad_line, print_idle, print_more, print_note};
 pub use settings::Settings;
