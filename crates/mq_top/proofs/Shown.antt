@@ -1,8 +1,9 @@
 -- What was shown, written and owed.
-use Rattle.std.proofs.Common.{◌≡◌, ℕ, List, [], ◌++◌, take, Option, Some, None, Result, Ok, Err, refl, sym, ap, subst, ◌∙◌, append_assoc, append-nil}
+use Rattle.std.proofs.Common.{◌≡◌, ℕ, List, [], ◌++◌, take, Option, Some, None, Result, Ok, Err, refl, sym, ap, subst, ◌∙◌, MutBor, append_assoc, append-nil}
 use Rattle.mq_outside.specs.Outside.{Writes}
 use Rattle.mq_outside.specs.declared.Put.TheVariants.{Took}
-use Rattle.mq_top.specs.Printing.{Adds, Prints, StopCounts, IsSilent}
+use Rattle.mq_top.specs.Printing.{Adds, Takes, Prints, StopCounts, IsSilent}
+use Rattle.mq_top.specs.declared.output.Output.{Output}
 use Rattle.mq_top.specs.declared.status.Stop.{Stop}
 use Rattle.mq_top.specs.declared.status.Stop.TheVariants.{BadLine, WriteFault, NoMemory}
 
@@ -21,36 +22,52 @@ pub adds_took : (a b : Option (List ℕ)) (bytes : List ℕ) (count : ℕ) → W
 adds_took None b bytes count w = w
 adds_took (Some taken) b bytes count w = w
 
--- nothing was shown
-pub prints_none : (a : Option (List ℕ)) (owed : List ℕ) → Prints a a owed owed []
-prints_none a owed = record { written = []; adds = adds_none a; is = append-nil owed }
+module _ {K : Type 0} where
+  pub takes_none : (taken : K → Option (List ℕ)) (o p : Output K) → p.sink ≡ o.sink → Takes taken o p []
+  takes_none taken o p same =
+      let P : MutBor K → Type 0 = λ s. Adds (taken o.sink.now) (taken s.now) [] in
+      record { same_sink = ap (λ (s : MutBor K). s.ghost_name) same; adds = subst P (sym same) (adds_none (taken o.sink.now)) }
 
--- what was shown is owed
-pub prints_said : (a : Option (List ℕ)) (owed owes shown : List ℕ) → owes ≡ owed ++ shown → Prints a a owed owes shown
-prints_said a owed owes shown e = record { written = []; adds = adds_none a; is = sym e }
+  pub takes_more : (taken : K → Option (List ℕ)) (o p q : Output K) (x y : List ℕ) → Takes taken o p x → Takes taken p q y → Takes taken o q (x ++ y)
+  takes_more taken o p q x y first next = record {
+    same_sink = next.same_sink ∙ first.same_sink;
+    adds = adds_more (taken o.sink.now) (taken p.sink.now) (taken q.sink.now) x y first.adds next.adds;
+  }
 
--- nothing more is owed
-pub prints_unsaid : (a : Option (List ℕ)) (owed owes : List ℕ) → owes ≡ owed → Prints a a owed owes []
-prints_unsaid a owed owes e = record { written = []; adds = adds_none a; is = append-nil owed ∙ sym e }
+  -- nothing was shown
+  pub prints_none : (taken : K → Option (List ℕ)) (o : Output K) → Prints taken o o []
+  prints_none taken o = record { written = []; takes = takes_none taken o o refl; is = append-nil o.owed.now.items }
 
--- one after the other
-pub prints_more : (a b c : Option (List ℕ)) (o p q x y : List ℕ) → Prints a b o p x → Prints b c p q y → Prints a c o q (x ++ y)
-prints_more a b c o p q x y first next = record {
-  written = first.written ++ next.written;
-  adds = adds_more a b c first.written next.written first.adds next.adds;
-  is =
-      sym (append_assoc o x y)
-      ∙ ap (λ (xs : List ℕ). xs ++ y) first.is
-      ∙ append_assoc first.written p y
-      ∙ ap (λ (xs : List ℕ). first.written ++ xs) next.is
-      ∙ sym (append_assoc first.written next.written q);
-}
+  -- what was shown is owed
+  pub prints_said : (taken : K → Option (List ℕ)) (o p : Output K) (shown : List ℕ) → p.sink ≡ o.sink → p.owed.now.items ≡ o.owed.now.items ++ shown → Prints taken o p shown
+  prints_said taken o p shown same e = record { written = []; takes = takes_none taken o p same; is = sym e }
 
--- what was shown was then written in part
-pub prints_flushed : (a b c : Option (List ℕ)) (o p q x : List ℕ) → Prints a b o p x → Prints b c p q [] → Prints a c o q x
-prints_flushed a b c o p q x first next =
-    let P : List ℕ → Type 0 = λ shown. Prints a c o q shown in
-    subst P (append-nil x) (prints_more a b c o p q x [] first next)
+  -- nothing more is owed
+  pub prints_unsaid : (taken : K → Option (List ℕ)) (o p : Output K) → p.sink ≡ o.sink → p.owed.now.items ≡ o.owed.now.items → Prints taken o p []
+  prints_unsaid taken o p same e = prints_said taken o p [] same (e ∙ sym (append-nil o.owed.now.items))
+
+  -- one after the other
+  pub prints_more : (taken : K → Option (List ℕ)) (o p q : Output K) (x y : List ℕ) → Prints taken o p x → Prints taken p q y → Prints taken o q (x ++ y)
+  prints_more taken o p q x y first next = record {
+    written = first.written ++ next.written;
+    takes = takes_more taken o p q first.written next.written first.takes next.takes;
+    is =
+        sym (append_assoc o.owed.now.items x y)
+        ∙ ap (λ (xs : List ℕ). xs ++ y) first.is
+        ∙ append_assoc first.written p.owed.now.items y
+        ∙ ap (λ (xs : List ℕ). first.written ++ xs) next.is
+        ∙ sym (append_assoc first.written next.written q.owed.now.items);
+  }
+
+  -- what was shown was then written in part
+  pub prints_flushed : (taken : K → Option (List ℕ)) (o p q : Output K) (x : List ℕ) → Prints taken o p x → Prints taken p q [] → Prints taken o q x
+  prints_flushed taken o p q x first next =
+      let P : List ℕ → Type 0 = λ shown. Prints taken o q shown in
+      subst P (append-nil x) (prints_more taken o p q x [] first next)
+
+  -- what was shown is owed, and was then written in part
+  pub prints_shown : (taken : K → Option (List ℕ)) (o p q : Output K) (shown : List ℕ) → Prints taken p q [] → p.sink ≡ o.sink → p.owed.now.items ≡ o.owed.now.items ++ shown → Prints taken o q shown
+  prints_shown taken o p q shown next same e = prints_flushed taken o p q shown (prints_said taken o p shown same e) next
 
 -- a sink that wasn't called
 pub silent_counts : (before after : ℕ) (answer : Result (Unit {0}) Stop) → after ≡ before → IsSilent answer → StopCounts before after answer

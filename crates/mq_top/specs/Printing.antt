@@ -1,6 +1,7 @@
 -- What a sink takes of what is printed.
 use Rattle.std.specs.Prelude.{◌≡◌, ℕ, ◌<◌, List, [], ◌++◌, Option, Some, None, Result, Ok, Err}
 use Rattle.mq_outside.specs.Outside.{Rose}
+use Rattle.mq_top.specs.declared.output.Output.{Output}
 use Rattle.mq_top.specs.declared.status.Stop.{Stop}
 use Rattle.mq_top.specs.declared.status.Stop.TheVariants.{BadLine, WriteFault, NoMemory}
 
@@ -9,11 +10,17 @@ abbrev pub Adds : Option (List ℕ) → Option (List ℕ) → List ℕ → Type 
 Adds None after text = after ≡ None
 Adds (Some taken) after text = after ≡ Some (taken ++ text)
 
--- What was owed to a sink, and then what was shown, was written to it or is owed.
-pub record Prints (before after : Option (List ℕ)) (owed owes shown : List ℕ) : Type 0 where
-  pub written : List ℕ
-  pub adds : Adds before after written
-  pub is : owed ++ shown ≡ written ++ owes
+module _ {K : Type 0} where
+  -- the sink is the same, and took these bytes more
+  pub record Takes (taken : K → Option (List ℕ)) (old new : Output K) (bytes : List ℕ) : Type 0 where
+    pub same_sink : new.sink.ghost_name ≡ old.sink.ghost_name
+    pub adds : Adds (taken old.sink.now) (taken new.sink.now) bytes
+
+  -- What was owed, and then what was shown, was written to the sink or is owed.
+  pub record Prints (taken : K → Option (List ℕ)) (old new : Output K) (shown : List ℕ) : Type 0 where
+    pub written : List ℕ
+    pub takes : Takes taken old new written
+    pub is : old.owed.now.items ++ shown ≡ written ++ new.owed.now.items
 
 -- a sink's faults rose exactly where it took less than all
 pub record FrontCounts (before after taken all : ℕ) : Type 0 where

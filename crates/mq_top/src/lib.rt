@@ -3,8 +3,8 @@
 
 mod command;
 mod entry;
+mod output;
 mod play;
-mod print;
 mod script;
 mod session;
 mod stage;

@@ -8,6 +8,7 @@ ghost use Rattle.mq_top.specs.Printing.{IsSilent, Prints, StopCounts};
 ghost use Rattle.mq_top.specs.Stages.{IsStage};
 ghost use Rattle.mq_top.specs.Telling.{IsSpoken};
 
+use crate::output::Output;
 use crate::stage::Stage;
 use crate::status::Stop;
 use crate::steps::{number_of, take_steps};
@@ -50,19 +51,18 @@ fn run_steps<K: Sink>(
     stage: &mut Stage,
     actor: u32,
     count: u32,
-    owed: &mut Vec<u8>,
-    sink: &mut K,
+    output: &mut Output<'_, K>,
 ) -> Result<(), Stop>
-    ensures said { (shown : List ℕ) × Prints (K.taken sink.old) (K.taken sink.new) owed.old.items owed.new.items shown
+    ensures said { (shown : List ℕ) × Prints K.taken output.old output.new shown
         × ((s : spec.Stage) → IsStage stage.old s → SaidTo s (line.Steps actor count) shown result stage.new) }
-    ensures counts { StopCounts (K.faults sink.old) (K.faults sink.new) result }
+    ensures counts { StopCounts (K.faults output.old.sink.now) (K.faults output.new.sink.now) result }
 {
     stage.open(alloc)?;
     let Stage::Running(world) = stage else {
         unreachable!()
     };
     match number_of(world, actor) {
-        Some(number) => take_steps(world, number, actor, count, owed, sink),
+        Some(number) => take_steps(world, number, actor, count, output),
         None => Err(Stop::BadLine),
     }
 }
@@ -72,18 +72,17 @@ fn run_turns<K: Sink>(
     alloc: Global,
     stage: &mut Stage,
     count: u32,
-    owed: &mut Vec<u8>,
-    sink: &mut K,
+    output: &mut Output<'_, K>,
 ) -> Result<(), Stop>
-    ensures said { (shown : List ℕ) × Prints (K.taken sink.old) (K.taken sink.new) owed.old.items owed.new.items shown
+    ensures said { (shown : List ℕ) × Prints K.taken output.old output.new shown
         × ((s : spec.Stage) → IsStage stage.old s → SaidTo s (line.Run count) shown result stage.new) }
-    ensures counts { StopCounts (K.faults sink.old) (K.faults sink.new) result }
+    ensures counts { StopCounts (K.faults output.old.sink.now) (K.faults output.new.sink.now) result }
 {
     stage.open(alloc)?;
     let Stage::Running(world) = stage else {
         unreachable!()
     };
-    take_turns(world, count, owed, sink)
+    take_turns(world, count, output)
 }
 
 /// Does what a line says.
@@ -91,20 +90,19 @@ fn play_said<K: Sink>(
     alloc: Global,
     stage: &mut Stage,
     said: Line,
-    owed: &mut Vec<u8>,
-    sink: &mut K,
+    output: &mut Output<'_, K>,
 ) -> Result<(), Stop>
     requires { IsSpoken said }
-    ensures said { (shown : List ℕ) × Prints (K.taken sink.old) (K.taken sink.new) owed.old.items owed.new.items shown
+    ensures said { (shown : List ℕ) × Prints K.taken output.old output.new shown
         × ((s : spec.Stage) → IsStage stage.old s → SaidTo s said shown result stage.new) }
-    ensures counts { StopCounts (K.faults sink.old) (K.faults sink.new) result }
+    ensures counts { StopCounts (K.faults output.old.sink.now) (K.faults output.new.sink.now) result }
 {
     match said {
         Line::Blank => Ok(()),
         Line::Setting(setting) => stage.set(setting),
         Line::Happens(event) => happen(alloc, stage, event),
-        Line::Steps { actor, count } => run_steps(alloc, stage, actor, count, owed, sink),
-        Line::Run { count } => run_turns(alloc, stage, count, owed, sink),
+        Line::Steps { actor, count } => run_steps(alloc, stage, actor, count, output),
+        Line::Run { count } => run_turns(alloc, stage, count, output),
     }
 }
 
@@ -113,16 +111,15 @@ pub fn play_line<K: Sink>(
     alloc: Global,
     stage: &mut Stage,
     text: &[u8],
-    owed: &mut Vec<u8>,
-    sink: &mut K,
+    output: &mut Output<'_, K>,
 ) -> Result<(), Stop>
     requires { length text.now ≤ line_limit }
-    ensures line { (shown : List ℕ) × Prints (K.taken sink.old) (K.taken sink.new) owed.old.items owed.new.items shown
+    ensures line { (shown : List ℕ) × Prints K.taken output.old output.new shown
         × ((s : spec.Stage) → IsStage stage.old s → LineTo s text.now shown result stage.new) }
-    ensures counts { StopCounts (K.faults sink.old) (K.faults sink.new) result }
+    ensures counts { StopCounts (K.faults output.old.sink.now) (K.faults output.new.sink.now) result }
 {
     match parse_line(alloc, text) {
-        Ok(said) => play_said(alloc, stage, said, owed, sink),
+        Ok(said) => play_said(alloc, stage, said, output),
         Err(LineFault::Syntax) => Err(Stop::BadLine),
         Err(LineFault::NoMemory) => Err(Stop::NoMemory),
     }

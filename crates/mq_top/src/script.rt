@@ -1,11 +1,11 @@
 //! A script is read to its end, played and printed.
 ghost use Rattle.std.specs.Prelude.{◌≡◌, ℕ, ◌<◌, List, [], ◌++◌, length, Option, Some, None, MatchOption};
 ghost use Rattle.mq_outside.specs.Outside.{Gives};
-ghost use Rattle.mq_top.specs.Printing.{Adds, Prints};
+ghost use Rattle.mq_top.specs.Printing.{Prints, Takes};
 ghost use Rattle.mq_top.specs.Reading.{IsRead, StopsAt, SaysTo, IsSaid, IsWritten, PlayCounts, StoppedCounts, PlaysTo, FinishesTo, GoesOn};
-ghost use Rattle.mq_top.specs.Replay.{Replayed, SourceCounts, SinkCounts};
+ghost use Rattle.mq_top.specs.Replay.{Replayed, Replays, SourceCounts, SinkCounts};
 
-use crate::print::flush;
+use crate::output::Output;
 use crate::session::Session;
 use crate::status::{Status, Stop};
 use mq_outside::{Got, Sink, Source};
@@ -31,17 +31,17 @@ fn say(why: Stop, number: u64, owed: &mut Vec<u8>) -> Status
 }
 
 /// The play stopped in the line behind so many. What is owed is written, where the sink didn't fail.
-fn stop<K: Sink>(why: Stop, number: u64, owed: &mut Vec<u8>, sink: &mut K) -> Status
-    ensures stops { (shown : List ℕ) × Prints (K.taken sink.old) (K.taken sink.new) owed.old.items owed.new.items shown
+fn stop<K: Sink>(why: Stop, number: u64, output: &mut Output<'_, K>) -> Status
+    ensures stops { (shown : List ℕ) × Prints K.taken output.old output.new shown
         × ((whole : List ℕ) (text : List ℕ) → StopsAt whole text why number → SaysTo whole (text ++ shown) result) }
-    ensures written { IsWritten owed.new.items result }
-    ensures counts { StoppedCounts why (K.faults sink.old) (K.faults sink.new) result }
+    ensures written { IsWritten output.new.owed.now.items result }
+    ensures counts { StoppedCounts why (K.faults output.old.sink.now) (K.faults output.new.sink.now) result }
 {
     if why == Stop::WriteFault {
         return Status::WriteFault;
     }
-    let status = say(why, number, owed);
-    match flush(owed, sink) {
+    let status = say(why, number, output.owed);
+    match output.flush() {
         Ok(()) => status,
         Err(_) => Status::WriteFault,
     }
@@ -52,39 +52,33 @@ fn play_bytes<K: Sink>(
     alloc: Global,
     session: &mut Session,
     bytes: &[u8],
-    owed: &mut Vec<u8>,
-    sink: &mut K,
+    output: &mut Output<'_, K>,
 ) -> Option<Status>
-    ensures plays { (out : List ℕ) × Adds (K.taken sink.old) (K.taken sink.new) out
-        × ((script : List ℕ) (lines : List (List ℕ)) (text : List ℕ) → owed.old.items ≡ [] → IsRead session.old script lines text
-        → PlaysTo (script ++ bytes.now) (text ++ out) owed.new.items result session.new) }
-    ensures counts { MatchOption result (K.faults sink.new ≡ K.faults sink.old) (PlayCounts (K.faults sink.old) (K.faults sink.new)) }
+    ensures plays { (out : List ℕ) × Takes K.taken output.old output.new out
+        × ((script : List ℕ) (lines : List (List ℕ)) (text : List ℕ) → output.old.owed.now.items ≡ [] → IsRead session.old script lines text
+        → PlaysTo (script ++ bytes.now) (text ++ out) output.new.owed.now.items result session.new) }
+    ensures counts { MatchOption result (K.faults output.new.sink.now ≡ K.faults output.old.sink.now) (PlayCounts (K.faults output.old.sink.now) (K.faults output.new.sink.now)) }
 {
-    match session.feed(alloc, bytes, owed, sink) {
-        Ok(()) => match flush(owed, sink) {
+    match session.feed(alloc, bytes, output) {
+        Ok(()) => match output.flush() {
             Ok(()) => None,
             Err(_) => Some(Status::WriteFault),
         },
-        Err(why) => Some(stop(why, session.number, owed, sink)),
+        Err(why) => Some(stop(why, session.number, output)),
     }
 }
 
 /// The script is at its end, and what is left of it is played and written.
-fn play_end<K: Sink>(
-    alloc: Global,
-    session: &mut Session,
-    owed: &mut Vec<u8>,
-    sink: &mut K,
-) -> Status
-    ensures ends { (out : List ℕ) × Adds (K.taken sink.old) (K.taken sink.new) out
-        × ((script : List ℕ) (lines : List (List ℕ)) (text : List ℕ) → owed.old.items ≡ [] → IsRead session.old script lines text
+fn play_end<K: Sink>(alloc: Global, session: &mut Session, output: &mut Output<'_, K>) -> Status
+    ensures ends { (out : List ℕ) × Takes K.taken output.old output.new out
+        × ((script : List ℕ) (lines : List (List ℕ)) (text : List ℕ) → output.old.owed.now.items ≡ [] → IsRead session.old script lines text
         → FinishesTo script (text ++ out) result) }
-    ensures counts { PlayCounts (K.faults sink.old) (K.faults sink.new) result }
+    ensures counts { PlayCounts (K.faults output.old.sink.now) (K.faults output.new.sink.now) result }
 {
-    if let Err(why) = session.finish(alloc, owed, sink) {
-        return stop(why, session.number, owed, sink);
+    if let Err(why) = session.finish(alloc, output) {
+        return stop(why, session.number, output);
     }
-    match flush(owed, sink) {
+    match output.flush() {
         Ok(()) => Status::Done,
         Err(_) => Status::WriteFault,
     }
@@ -96,24 +90,44 @@ fn read_more<S: Source, K: Sink>(
     session: &mut Session,
     buffer: &mut [u8],
     source: &mut S,
-    owed: &mut Vec<u8>,
-    sink: &mut K,
+    output: &mut Output<'_, K>,
 ) -> Option<Status>
     requires { 0 < length buffer.old }
-    ensures reads { (gave : List ℕ) × (out : List ℕ) × Gives (S.left source.old) (S.left source.new) gave × Adds (K.taken sink.old) (K.taken sink.new) out
-        × ((script : List ℕ) (lines : List (List ℕ)) (text : List ℕ) → owed.old.items ≡ [] → IsRead session.old script lines text
-        → GoesOn (script ++ gave) (text ++ out) owed.new.items (S.left source.new) result session.new) }
+    ensures reads { (gave : List ℕ) × (out : List ℕ) × Gives (S.left source.old) (S.left source.new) gave × Takes K.taken output.old output.new out
+        × ((script : List ℕ) (lines : List (List ℕ)) (text : List ℕ) → output.old.owed.now.items ≡ [] → IsRead session.old script lines text
+        → GoesOn (script ++ gave) (text ++ out) output.new.owed.now.items (S.left source.new) result session.new) }
     ensures reading { MatchOption result (S.faults source.new ≡ S.faults source.old) (SourceCounts (S.faults source.old) (S.faults source.new)) }
-    ensures writing { MatchOption result (K.faults sink.new ≡ K.faults sink.old) (SinkCounts (K.faults sink.old) (K.faults sink.new)) }
+    ensures writing { MatchOption result (K.faults output.new.sink.now ≡ K.faults output.old.sink.now) (SinkCounts (K.faults output.old.sink.now) (K.faults output.new.sink.now)) }
 {
     match source.read(buffer) {
         Got::Bytes(count) => {
             let (bytes, _) = buffer.split_at(count as usize);
-            play_bytes(alloc, session, bytes, owed, sink)
+            play_bytes(alloc, session, bytes, output)
         }
-        Got::End => Some(play_end(alloc, session, owed, sink)),
+        Got::End => Some(play_end(alloc, session, output)),
         Got::Failed => Some(Status::ReadFault),
     }
+}
+
+/// Reads a script to its end, plays it and prints what happens, where nothing is owed.
+fn read_all<S: Source, K: Sink>(alloc: Global, source: &mut S, output: &mut Output<'_, K>) -> Status
+    requires { output.old.owed.now.items ≡ [] }
+    ensures replays { (script : List ℕ) × (out : List ℕ) × Gives (S.left source.old) (S.left source.new) script × Takes K.taken output.old output.new out
+        × ((rest : List ℕ) → S.left source.new ≡ Some rest → Replays script rest out result) }
+    ensures reading { SourceCounts (S.faults source.old) (S.faults source.new) result }
+    ensures writing { SinkCounts (K.faults output.old.sink.now) (K.faults output.new.sink.now) result }
+{
+    let Ok(mut room) = vec![in alloc; 0u8; MOST_READ] else {
+        return Status::NoMemory;
+    };
+    let buffer = room.as_mut_slice();
+    let mut session = Session::new(alloc);
+    for _turn in 0..u64::MAX {
+        if let Some(status) = read_more(alloc, &mut session, buffer, source, output) {
+            return status;
+        }
+    }
+    Status::NoMemory
 }
 
 /// Reads a script to its end, plays it, and prints what happens: one line for each note, and where a line of the script
@@ -128,16 +142,10 @@ pub fn replay<S: Source, K: Sink>(alloc: Global, source: &mut S, sink: &mut K) -
     ensures reading { SourceCounts (S.faults source.old) (S.faults source.new) result }
     ensures writing { SinkCounts (K.faults sink.old) (K.faults sink.new) result }
 {
-    let Ok(mut room) = vec![in alloc; 0u8; MOST_READ] else {
-        return Status::NoMemory;
-    };
-    let buffer = room.as_mut_slice();
     let mut owed = Vec::new(alloc);
-    let mut session = Session::new(alloc);
-    for _turn in 0..u64::MAX {
-        if let Some(status) = read_more(alloc, &mut session, buffer, source, &mut owed, sink) {
-            return status;
-        }
-    }
-    Status::NoMemory
+    let mut output = Output {
+        owed: &mut owed,
+        sink,
+    };
+    read_all(alloc, source, &mut output)
 }

@@ -8,6 +8,7 @@ ghost use Rattle.mq_top.specs.Printing.{Prints, StopCounts, IsSilent};
 ghost use Rattle.mq_top.specs.Playing.{LineTo};
 ghost use Rattle.mq_top.specs.Reading.{IsRead, RoomTo, ReadsTo, EndsTo};
 
+use crate::output::Output;
 use crate::play::play_line;
 use crate::stage::Stage;
 use crate::status::Stop;
@@ -63,20 +64,19 @@ impl Session {
         &mut self,
         alloc: Global,
         end: &[u8],
-        owed: &mut Vec<u8>,
-        sink: &mut K,
+        output: &mut Output<'_, K>,
     ) -> Result<(), Stop>
-        ensures reads { (shown : List ℕ) × Prints (K.taken sink.old) (K.taken sink.new) owed.old.items owed.new.items shown
+        ensures reads { (shown : List ℕ) × Prints K.taken output.old output.new shown
             × ((script : List ℕ) (lines : List (List ℕ)) (text : List ℕ) → Lacks 10 end.now → IsRead self.old script lines text
             → ReadsTo (script ++ (end.now ++ 10 ∷ [])) (text ++ shown) result self.new) }
-        ensures counts { StopCounts (K.faults sink.old) (K.faults sink.new) result }
+        ensures counts { StopCounts (K.faults output.old.sink.now) (K.faults output.new.sink.now) result }
     {
         let count = self.room(end.len(), 1)?;
         if self.number == u64::MAX {
             return Err(Stop::NoMemory);
         }
         let number = self.number + 1;
-        play_whole(alloc, &mut self.stage, &mut self.begun, end, owed, sink)?;
+        play_whole(alloc, &mut self.stage, &mut self.begun, end, output)?;
         self.begun.clear();
         self.number = number;
         self.count = count;
@@ -102,36 +102,30 @@ impl Session {
         &mut self,
         alloc: Global,
         bytes: &[u8],
-        owed: &mut Vec<u8>,
-        sink: &mut K,
+        output: &mut Output<'_, K>,
     ) -> Result<(), Stop>
-        ensures reads { (shown : List ℕ) × Prints (K.taken sink.old) (K.taken sink.new) owed.old.items owed.new.items shown
+        ensures reads { (shown : List ℕ) × Prints K.taken output.old output.new shown
             × ((script : List ℕ) (lines : List (List ℕ)) (text : List ℕ) → IsRead self.old script lines text
             → ReadsTo (script ++ bytes.now) (text ++ shown) result self.new) }
-        ensures counts { StopCounts (K.faults sink.old) (K.faults sink.new) result }
+        ensures counts { StopCounts (K.faults output.old.sink.now) (K.faults output.new.sink.now) result }
     {
         let mut rest = bytes;
         while let Some((end, behind)) = cut(b'\n', rest) {
-            self.end_line(alloc, end, owed, sink)?;
+            self.end_line(alloc, end, output)?;
             rest = behind;
         }
         self.keep(rest)
     }
 
     /// The script is at its end, and the begun line is its last one.
-    pub fn finish<K: Sink>(
-        &mut self,
-        alloc: Global,
-        owed: &mut Vec<u8>,
-        sink: &mut K,
-    ) -> Result<(), Stop>
-        ensures ends { (shown : List ℕ) × Prints (K.taken sink.old) (K.taken sink.new) owed.old.items owed.new.items shown
+    pub fn finish<K: Sink>(&mut self, alloc: Global, output: &mut Output<'_, K>) -> Result<(), Stop>
+        ensures ends { (shown : List ℕ) × Prints K.taken output.old output.new shown
             × ((script : List ℕ) (lines : List (List ℕ)) (text : List ℕ) → IsRead self.old script lines text
             → EndsTo script (text ++ shown) result self.new) }
-        ensures counts { StopCounts (K.faults sink.old) (K.faults sink.new) result }
+        ensures counts { StopCounts (K.faults output.old.sink.now) (K.faults output.new.sink.now) result }
     {
         self.room(0, 0)?;
-        play_line(alloc, &mut self.stage, self.begun.as_slice(), owed, sink)
+        play_line(alloc, &mut self.stage, self.begun.as_slice(), output)
     }
 }
 
@@ -141,19 +135,18 @@ fn play_whole<K: Sink>(
     stage: &mut Stage,
     begun: &mut Vec<u8>,
     end: &[u8],
-    owed: &mut Vec<u8>,
-    sink: &mut K,
+    output: &mut Output<'_, K>,
 ) -> Result<(), Stop>
     requires { length begun.old.items + length end.now ≤ line_limit }
-    ensures line { (shown : List ℕ) × Prints (K.taken sink.old) (K.taken sink.new) owed.old.items owed.new.items shown
+    ensures line { (shown : List ℕ) × Prints K.taken output.old output.new shown
         × ((s : spec.Stage) → IsStage stage.old s → LineTo s (begun.old.items ++ end.now) shown result stage.new) }
-    ensures counts { StopCounts (K.faults sink.old) (K.faults sink.new) result }
+    ensures counts { StopCounts (K.faults output.old.sink.now) (K.faults output.new.sink.now) result }
 {
     if begun.is_empty() {
-        return play_line(alloc, stage, end, owed, sink);
+        return play_line(alloc, stage, end, output);
     }
     if begun.extend_from_slice(end).is_err() {
         return Err(Stop::NoMemory);
     }
-    play_line(alloc, stage, begun.as_slice(), owed, sink)
+    play_line(alloc, stage, begun.as_slice(), output)
 }

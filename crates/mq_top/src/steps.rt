@@ -7,7 +7,7 @@ ghost use Rattle.mq_top.specs.Playing.{IsAt, NumberTo, RunsTo, StepTo};
 ghost use Rattle.mq_top.specs.Printing.{Prints, StopCounts};
 ghost use Rattle.mq_world.specs.Worlds.{IsWorld};
 
-use crate::print::spill;
+use crate::output::Output;
 use crate::status::Stop;
 use mq_machine::{Event, silent_or_quiet, turn_or_quiet};
 use mq_outside::Sink;
@@ -41,19 +41,18 @@ pub fn number_of(world: &World, name: u32) -> Option<u32>
 pub fn take_step<K: Sink>(
     world: &mut World,
     number: u32,
-    owed: &mut Vec<u8>,
-    sink: &mut K,
+    output: &mut Output<'_, K>,
 ) -> Result<Moved, Stop>
-    ensures step { (shown : List ℕ) × Prints (K.taken sink.old) (K.taken sink.new) owed.old.items owed.new.items shown
+    ensures step { (shown : List ℕ) × Prints K.taken output.old output.new shown
         × ((s : State) (actor : Actor) → IsWorld world.old s → IsAt s number actor → StepTo world.new s actor shown result) }
-    ensures counts { StopCounts (K.faults sink.old) (K.faults sink.new) result }
+    ensures counts { StopCounts (K.faults output.old.sink.now) (K.faults output.new.sink.now) result }
 {
     turn_or_quiet();
     silent_or_quiet();
     match world.step(Event::Step { actor: number }) {
         Ok(Stepped::Did(note)) => {
-            print_note(owed, &note)?;
-            spill(owed, sink)?;
+            print_note(output.owed, &note)?;
+            output.spill()?;
             Ok(Moved::Acted)
         }
         Ok(Stepped::Refused) => Ok(Moved::Acted),
@@ -69,19 +68,18 @@ pub fn take_steps<K: Sink>(
     number: u32,
     name: u32,
     count: u32,
-    owed: &mut Vec<u8>,
-    sink: &mut K,
+    output: &mut Output<'_, K>,
 ) -> Result<(), Stop>
-    ensures runs { (shown : List ℕ) × Prints (K.taken sink.old) (K.taken sink.new) owed.old.items owed.new.items shown
+    ensures runs { (shown : List ℕ) × Prints K.taken output.old output.new shown
         × ((s : State) → IsWorld world.old s → IsAt s number (actor_of name) → RunsTo world.new s (actor_of name) count shown result) }
-    ensures counts { StopCounts (K.faults sink.old) (K.faults sink.new) result }
+    ensures counts { StopCounts (K.faults output.old.sink.now) (K.faults output.new.sink.now) result }
 {
     let mut left = count;
     while left > 0 {
-        match take_step(world, number, owed, sink)? {
+        match take_step(world, number, output)? {
             Moved::Acted => left -= 1,
             Moved::Idle => {
-                print_idle(owed, name)?;
+                print_idle(output.owed, name)?;
                 return Ok(());
             }
         }

@@ -6,6 +6,7 @@ ghost use Rattle.mq_top.specs.Playing.{FirstTo, GoesTo, workers_from};
 ghost use Rattle.mq_top.specs.Printing.{Prints, StopCounts};
 ghost use Rattle.mq_world.specs.Worlds.{IsWorld};
 
+use crate::output::Output;
 use crate::status::Stop;
 use crate::steps::{Moved, take_step};
 use mq_outside::Sink;
@@ -17,16 +18,15 @@ fn take_worker<K: Sink>(
     world: &mut World,
     from: u32,
     to: u32,
-    owed: &mut Vec<u8>,
-    sink: &mut K,
+    output: &mut Output<'_, K>,
 ) -> Result<Option<u32>, Stop>
-    ensures first { (shown : List ℕ) × Prints (K.taken sink.old) (K.taken sink.new) owed.old.items owed.new.items shown
+    ensures first { (shown : List ℕ) × Prints K.taken output.old output.new shown
         × ((s : State) → IsWorld world.old s → to ≤ length s.workers → FirstTo world.new s (workers_from from (to - from)) shown result) }
-    ensures counts { StopCounts (K.faults sink.old) (K.faults sink.new) result }
+    ensures counts { StopCounts (K.faults output.old.sink.now) (K.faults output.new.sink.now) result }
 {
     let mut number = from;
     while number < to {
-        match take_step(world, number, owed, sink)? {
+        match take_step(world, number, output)? {
             Moved::Acted => return Ok(Some(number + 1)),
             Moved::Idle => number += 1,
         }
@@ -38,20 +38,19 @@ fn take_worker<K: Sink>(
 fn take_turn<K: Sink>(
     world: &mut World,
     at: u32,
-    owed: &mut Vec<u8>,
-    sink: &mut K,
+    output: &mut Output<'_, K>,
 ) -> Result<Option<u32>, Stop>
-    ensures first { (shown : List ℕ) × Prints (K.taken sink.old) (K.taken sink.new) owed.old.items owed.new.items shown
+    ensures first { (shown : List ℕ) × Prints K.taken output.old output.new shown
         × ((s : State) → IsWorld world.old s → at ≤ length s.workers → FirstTo world.new s (drop at (actors_of s) ++ take at (actors_of s)) shown result) }
-    ensures counts { StopCounts (K.faults sink.old) (K.faults sink.new) result }
+    ensures counts { StopCounts (K.faults output.old.sink.now) (K.faults output.new.sink.now) result }
 {
     let count = world.workers();
-    if let Some(next) = take_worker(world, at, count, owed, sink)? {
+    if let Some(next) = take_worker(world, at, count, output)? {
         return Ok(Some(next));
     }
-    match take_step(world, count, owed, sink)? {
+    match take_step(world, count, output)? {
         Moved::Acted => Ok(Some(0)),
-        Moved::Idle => take_worker(world, 0, at, owed, sink),
+        Moved::Idle => take_worker(world, 0, at, output),
     }
 }
 
@@ -59,24 +58,23 @@ fn take_turn<K: Sink>(
 pub fn take_turns<K: Sink>(
     world: &mut World,
     count: u32,
-    owed: &mut Vec<u8>,
-    sink: &mut K,
+    output: &mut Output<'_, K>,
 ) -> Result<(), Stop>
-    ensures goes { (shown : List ℕ) × Prints (K.taken sink.old) (K.taken sink.new) owed.old.items owed.new.items shown
+    ensures goes { (shown : List ℕ) × Prints K.taken output.old output.new shown
         × ((s : State) → IsWorld world.old s → GoesTo world.new s count shown result) }
-    ensures counts { StopCounts (K.faults sink.old) (K.faults sink.new) result }
+    ensures counts { StopCounts (K.faults output.old.sink.now) (K.faults output.new.sink.now) result }
 {
     let mut at = 0;
     let mut left = count;
     while left > 0 {
-        match take_turn(world, at, owed, sink)? {
+        match take_turn(world, at, output)? {
             Some(next) => at = next,
             None => return Ok(()),
         }
         left -= 1;
     }
     if !world.quiet() {
-        print_more(owed)?;
+        print_more(output.owed)?;
     }
     Ok(())
 }

@@ -7,9 +7,9 @@ use Rattle.mq_top.proofs.script.play_bytes.Goals as goal
 pub returns-in-Ok-flush-clause-plays : goal.returns-in-Ok-flush-clause-plays
 returns-in-Ok-flush-clause-plays g c =
     let fed = c.in-Ok.ensures.reads in
-    let all = prints_flushed _ _ _ _ _ _ fed.0 fed.1 c.in-Ok-flush.ensures.prints in (
+    let all = prints_flushed _ _ _ _ fed.0 fed.1 c.in-Ok-flush.ensures.prints in (
       all.written,
-      all.adds,
+      all.takes,
       λ script lines text none r.
           let told = fed.2 script lines text r in
           let P : List ℕ → Type 0 = λ out. IsRead c.feed.new.self (script ++ c.args.bytes.now) told.0 (text ++ out) in
@@ -19,9 +19,9 @@ returns-in-Ok-flush-clause-plays g c =
 pub returns-in-Err-flush-clause-plays : goal.returns-in-Err-flush-clause-plays
 returns-in-Err-flush-clause-plays g c =
     let fed = c.in-Ok.ensures.reads in
-    let all = prints_flushed _ _ _ _ _ _ fed.0 fed.1 c.in-Err-flush.ensures.prints in (
+    let all = prints_flushed _ _ _ _ fed.0 fed.1 c.in-Err-flush.ensures.prints in (
       all.written,
-      all.adds,
+      all.takes,
       λ script lines text none r more.
           let told = fed.2 script lines text r in
           fault_part c.feed.new.self (script ++ c.args.bytes.now) told.0 text _ _ fed.0 all.written more none all.is told.1,
@@ -31,9 +31,9 @@ pub returns-in-Err-clause-plays : goal.returns-in-Err-clause-plays
 returns-in-Err-clause-plays g c =
     let fed = c.in-Err.ensures.reads in
     let stopped = c.stop.ensures.stops in
-    let all = prints_more _ _ _ _ _ _ fed.0 stopped.0 fed.1 stopped.1 in (
+    let all = prints_more _ _ _ _ fed.0 stopped.0 fed.1 stopped.1 in (
       all.written,
-      all.adds,
+      all.takes,
       λ script lines text none r more.
           let whole = script ++ c.args.bytes.now ++ more in
           let P : List ℕ → Type 0 = λ out. SaysTo whole out c.stop.result in

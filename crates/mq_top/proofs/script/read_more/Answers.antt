@@ -1,9 +1,9 @@
-use Rattle.std.proofs.Common.{ℕ, ◌++◌, List, [], sym, subst, append-nil}
+use Rattle.std.proofs.Common.{ℕ, ◌++◌, List, [], refl, sym, subst, append-nil}
 use Rattle.mq_outside.specs.Outside.{Gives}
 use Rattle.mq_top.specs.Replay.{Replays}
 use Rattle.mq_top.proofs.Ending.{plays_on, finishes, nothing_left, gives_none, so_far, option_source, play_source}
 use Rattle.mq_top.proofs.Reading.{read_none}
-use Rattle.mq_top.proofs.Shown.{adds_none}
+use Rattle.mq_top.proofs.Shown.{takes_none}
 use Rattle.mq_top.proofs.script.read_more.Goals as goal
 
 pub returns-in-Bytes-clause-reads : goal.returns-in-Bytes-clause-reads
@@ -16,7 +16,7 @@ returns-in-Bytes-clause-reads g c =
       played.0,
       subst P (sym c.split_at.ensures.front) c.in-Bytes.ensures.reads.2,
       played.1,
-      λ script lines text none r. plays_on (script ++ bytes) (text ++ played.0) c.play_bytes.new.owed.items left c.play_bytes.result c.play_bytes.new.session (played.2 script lines text none r),
+      λ script lines text none r. plays_on (script ++ bytes) (text ++ played.0) c.play_bytes.new.output.owed.now.items left c.play_bytes.result c.play_bytes.new.session (played.2 script lines text none r),
     )
 
 pub returns-in-Bytes-clause-reading : goal.returns-in-Bytes-clause-reading
@@ -47,6 +47,6 @@ returns-in-Failed-clause-reads g c =
       [],
       [],
       gives_none before after c.in-Failed.ensures.reads,
-      adds_none _,
+      takes_none _ _ _ refl,
       λ script lines text none r rest e. so_far c.args.session.now (script ++ []) lines (text ++ []) (read_none c.args.session.now script lines text r),
     )

@@ -1,6 +1,6 @@
-use Rattle.std.proofs.Common.{[]}
+use Rattle.std.proofs.Common.{[], refl}
 use Rattle.mq_top.proofs.Ending.{unsaid, says_part}
-use Rattle.mq_top.proofs.Shown.{prints_none, prints_said, prints_flushed}
+use Rattle.mq_top.proofs.Shown.{prints_none, prints_shown}
 use Rattle.mq_top.proofs.script.stop.Goals as goal
 
 pub returns-then-eq-clause-stops : goal.returns-then-eq-clause-stops
@@ -10,6 +10,6 @@ pub returns-in-Err-clause-stops : goal.returns-in-Err-clause-stops
 returns-in-Err-clause-stops g c =
     let said = c.say-status.ensures.says in (
       said.0,
-      prints_flushed _ _ _ _ _ _ said.0 (prints_said _ _ _ said.0 said.1) c.flush.ensures.prints,
+      prints_shown _ _ _ _ said.0 c.flush.ensures.prints refl said.1,
       λ whole text s. says_part whole _ c.say-status.result (said.2 whole text s),
     )

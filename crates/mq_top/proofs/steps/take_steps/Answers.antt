@@ -18,7 +18,7 @@ loop-left-preserved g c =
     let left = c.loop-left.left in
     let e : left ≡ suc (left - 1) = omega arith in (
       inv.0 ++ step.0,
-      prints_more _ _ _ _ _ _ inv.0 step.0 inv.1 step.1,
+      prints_more _ _ _ _ inv.0 step.0 inv.1 step.1,
       (λ s is at.
           let far = inv.2 s is at in
           let told = rw c.in-Acted.is at (step.2 far.0 actor far.1 far.2) in
@@ -35,7 +35,7 @@ returns-in_err-take_step-clause-runs g c =
     let left = c.loop-left.left in
     let e : left ≡ suc (left - 1) = omega arith in (
       inv.0 ++ step.0,
-      prints_more _ _ _ _ _ _ inv.0 step.0 inv.1 step.1,
+      prints_more _ _ _ _ inv.0 step.0 inv.1 step.1,
       λ s is at.
           let far = inv.2 s is at in
           let p = err_from_is_err_and c.from_residual.result c.from_residual.ensures.1 in
@@ -51,10 +51,9 @@ returns-in-Idle-clause-runs g c =
     let idle = printed (Idle actor) in
     let left = c.loop-left.left in
     let e : left ≡ suc (left - 1) = omega arith in
-    let said = prints_said (g.K.Sink.taken c.take_step.new.sink) c.take_step.new.owed.items _ idle c.in_ok-print_idle-in-Idle.ensures.ok in
-    let before = prints_more _ _ _ _ _ _ inv.0 step.0 inv.1 step.1 in (
+    let before = prints_more _ _ _ _ inv.0 step.0 inv.1 step.1 in (
       (inv.0 ++ step.0) ++ idle,
-      prints_more _ _ _ _ _ _ (inv.0 ++ step.0) idle before said,
+      prints_more _ _ _ _ (inv.0 ++ step.0) idle before (prints_said _ _ _ idle refl c.in_ok-print_idle-in-Idle.ensures.ok),
       λ s is at.
           let far = inv.2 s is at in
           let told = rw c.in-Idle.is at (step.2 far.0 actor far.1 far.2) in
@@ -68,10 +67,9 @@ returns-in_err-print_idle-in-Idle-clause-runs g c =
     let inv = c.loop-left.invariant in
     let step = c.in_ok-take_step.ensures.step in
     let actor = actor_of c.args.name in
-    let said = prints_unsaid (g.K.Sink.taken c.take_step.new.sink) c.take_step.new.owed.items _ c.in_err-print_idle-in-Idle.ensures.err in
-    let before = prints_more _ _ _ _ _ _ inv.0 step.0 inv.1 step.1 in (
+    let before = prints_more _ _ _ _ inv.0 step.0 inv.1 step.1 in (
       (inv.0 ++ step.0) ++ [],
-      prints_more _ _ _ _ _ _ (inv.0 ++ step.0) [] before said,
+      prints_more _ _ _ _ (inv.0 ++ step.0) [] before (prints_unsaid _ _ _ refl c.in_err-print_idle-in-Idle.ensures.err),
       λ s is at.
           let far = inv.2 s is at in
           let told = rw c.in-Idle.is at (step.2 far.0 actor far.1 far.2) in

@@ -10,10 +10,10 @@ use Rattle.mq_world.specs.Worlds.{IsWorld}
 -- the steps so far were taken and shown
 abbrev pub invariant-loop-left : goal.invariant-loop-left
 invariant-loop-left g l =
-    (shown : List ℕ) × Prints (g.K.Sink.taken l.initial.sink) (g.K.Sink.taken l.sink) l.initial.owed.items l.owed.items shown
+    (shown : List ℕ) × Prints g.K.Sink.taken l.initial.output l.output shown
     × ((s : State) → IsWorld l.initial.world s → IsAt s l.number (actor_of l.name)
     → (t : State) × IsWorld l.world t × IsAt t l.number (actor_of l.name) × Far s (actor_of l.name) l.count shown t l.left)
-    × (g.K.Sink.faults l.sink ≡ g.K.Sink.faults l.initial.sink)
+    × (g.K.Sink.faults l.output.sink.now ≡ g.K.Sink.faults l.initial.output.sink.now)
 
 abbrev pub decreases-loop-left : goal.decreases-loop-left
 decreases-loop-left g l = l.left

@@ -44,7 +44,7 @@ returns-in_err-take_step-clause-first g c =
     let first = c.in_ok-next.ensures.first in
     let step = c.in_err-take_step.ensures.step in (
       first.0 ++ step.0,
-      prints_more _ _ _ _ _ _ first.0 step.0 first.1 step.1,
+      prints_more _ _ _ _ first.0 step.0 first.1 step.1,
       λ s is within.
           let all = c.workers-count.ensures s is in
           let w = c.take_step.new.world in
@@ -63,7 +63,7 @@ returns-in-Acted-clause-first g c =
     let first = c.in_ok-next.ensures.first in
     let step = c.in_ok-take_step.ensures.step in (
       first.0 ++ step.0,
-      prints_more _ _ _ _ _ _ first.0 step.0 first.1 step.1,
+      prints_more _ _ _ _ first.0 step.0 first.1 step.1,
       λ s is within.
           let all = c.workers-count.ensures s is in
           let w = c.take_step.new.world in
@@ -82,7 +82,7 @@ returns-in-Idle-clause-first g c =
     let step = c.in_ok-take_step.ensures.step in
     let last = c.take_worker-in-Idle.ensures.first in (
       first.0 ++ (step.0 ++ last.0),
-      prints_more _ _ _ _ _ _ first.0 (step.0 ++ last.0) first.1 (prints_more _ _ _ _ _ _ step.0 last.0 step.1 last.1),
+      prints_more _ _ _ _ first.0 (step.0 ++ last.0) first.1 (prints_more _ _ _ _ step.0 last.0 step.1 last.1),
       λ s is within.
           let all = c.workers-count.ensures s is in
           let w = c.take_worker-in-Idle.new.world in

@@ -17,7 +17,7 @@ loop-left-preserved g c =
     let left = c.loop-left.left in
     let e : left ≡ suc (left - 1) = omega arith in (
       inv.0 ++ step.0,
-      prints_more _ _ _ _ _ _ inv.0 step.0 inv.1 step.1,
+      prints_more _ _ _ _ inv.0 step.0 inv.1 step.1,
       (λ s is.
           let far = inv.2 s is in
           let told = rw c.in-Some.is at (step.2 far.0 far.1 far.2.within) in
@@ -33,7 +33,7 @@ returns-in_err-next-clause-goes g c =
     let left = c.loop-left.left in
     let e : left ≡ suc (left - 1) = omega arith in (
       inv.0 ++ step.0,
-      prints_more _ _ _ _ _ _ inv.0 step.0 inv.1 step.1,
+      prints_more _ _ _ _ inv.0 step.0 inv.1 step.1,
       λ s is.
           let far = inv.2 s is in
           let w = c.take_turn.new.world in
@@ -49,7 +49,7 @@ returns-in-None-clause-goes g c =
     let left = c.loop-left.left in
     let e : left ≡ suc (left - 1) = omega arith in (
       inv.0 ++ step.0,
-      prints_more _ _ _ _ _ _ inv.0 step.0 inv.1 step.1,
+      prints_more _ _ _ _ inv.0 step.0 inv.1 step.1,
       λ s is.
           let far = inv.2 s is in
           let told = rw c.in-None.is at (step.2 far.0 far.1 far.2.within) in
@@ -58,10 +58,9 @@ returns-in-None-clause-goes g c =
 
 pub returns-in_err-print_more-clause-goes : goal.returns-in_err-print_more-clause-goes
 returns-in_err-print_more-clause-goes g c =
-    let inv = c.loop-left.invariant in
-    let said = prints_unsaid (g.K.Sink.taken c.loop-left.sink) c.loop-left.owed.items _ c.in_err-print_more.ensures.err in (
+    let inv = c.loop-left.invariant in (
       inv.0 ++ [],
-      prints_more _ _ _ _ _ _ inv.0 [] inv.1 said,
+      prints_more _ _ _ _ inv.0 [] inv.1 (prints_unsaid _ _ _ refl c.in_err-print_more.ensures.err),
       λ s is.
           let far = inv.2 s is in
           let answer = c.from_residual-in_err-print_more in
@@ -75,10 +74,9 @@ returns-in_ok-print_more-clause-goes g c =
     let inv = c.loop-left.invariant in
     let end = printed More in
     let left = c.loop-left.left in
-    let none : left ≡ 0 = omega arith in
-    let said = prints_said (g.K.Sink.taken c.loop-left.sink) c.loop-left.owed.items _ end c.in_ok-print_more.ensures.ok in (
+    let none : left ≡ 0 = omega arith in (
       inv.0 ++ end,
-      prints_more _ _ _ _ _ _ inv.0 end inv.1 said,
+      prints_more _ _ _ _ inv.0 end inv.1 (prints_said _ _ _ end refl c.in_ok-print_more.ensures.ok),
       λ s is.
           let far = inv.2 s is in
           let more = more_said far.0 c.quiet.result (c.quiet.ensures far.0 far.1) c.if-not-quiet.true in

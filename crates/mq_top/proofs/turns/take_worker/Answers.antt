@@ -19,7 +19,7 @@ loop-number-preserved g c =
     let to = c.args.to in
     let e : to - number ≡ suc (to - (number + 1)) = omega arith in (
       inv.0 ++ step.0,
-      prints_more _ _ _ _ _ _ inv.0 step.0 inv.1 step.1,
+      prints_more _ _ _ _ inv.0 step.0 inv.1 step.1,
       (λ s is within.
           let far = inv.2 s is within in
           let told = rw c.in-Idle.is at (step.2 s (WorkerOf number) far.1 (worker_at s number (omega (arith, within)))) in
@@ -36,7 +36,7 @@ returns-in_err-take_step-clause-first g c =
     let to = c.args.to in
     let e : to - number ≡ suc (to - (number + 1)) = omega arith in (
       inv.0 ++ step.0,
-      prints_more _ _ _ _ _ _ inv.0 step.0 inv.1 step.1,
+      prints_more _ _ _ _ inv.0 step.0 inv.1 step.1,
       λ s is within.
           let far = inv.2 s is within in
           let w = c.take_step.new.world in
@@ -56,7 +56,7 @@ returns-in-Acted-clause-first g c =
     let to = c.args.to in
     let e : to - number ≡ suc (to - (number + 1)) = omega arith in (
       inv.0 ++ step.0,
-      prints_more _ _ _ _ _ _ inv.0 step.0 inv.1 step.1,
+      prints_more _ _ _ _ inv.0 step.0 inv.1 step.1,
       λ s is within.
           let far = inv.2 s is within in
           let w = c.take_step.new.world in

@@ -10,10 +10,10 @@ use Rattle.mq_world.specs.Worlds.{IsWorld}
 -- no worker before this one has a step
 abbrev pub invariant-loop-number : goal.invariant-loop-number
 invariant-loop-number g l =
-    (shown : List ℕ) × Prints (g.K.Sink.taken l.initial.sink) (g.K.Sink.taken l.sink) l.initial.owed.items l.owed.items shown
+    (shown : List ℕ) × Prints g.K.Sink.taken l.initial.output l.output shown
     × ((s : State) → IsWorld l.initial.world s → l.to ≤ length s.workers
     → (shown ≡ []) × IsWorld l.world s × (find (has_turn s) (workers_from l.from (l.to - l.from)) ≡ find (has_turn s) (workers_from l.number (l.to - l.number))))
-    × (g.K.Sink.faults l.sink ≡ g.K.Sink.faults l.initial.sink)
+    × (g.K.Sink.faults l.output.sink.now ≡ g.K.Sink.faults l.initial.output.sink.now)
 
 abbrev pub decreases-loop-number : goal.decreases-loop-number
 decreases-loop-number g l = l.to - l.number

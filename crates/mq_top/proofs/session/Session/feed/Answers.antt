@@ -17,7 +17,7 @@ returns-in_err-end_line-clause-reads g c =
     let why = c.in_err-end_line.field-0.0 in
     let new = c.end_line.new.self in (
       inv.1 ++ step.0,
-      prints_more _ _ _ _ _ _ inv.1 step.0 inv.3 step.1,
+      prints_more _ _ _ _ inv.1 step.0 inv.3 step.1,
       λ script lines text r.
           let before = inv.4 script lines text r in
           let told = step.2 (script ++ front) before.0 (text ++ inv.1) cut.first before.1 in
@@ -36,7 +36,7 @@ loop-end-preserved g c =
       front ++ last,
       inv.1 ++ step.0,
       cut_here _ front _ _ _ inv.2 cut.is,
-      prints_more _ _ _ _ _ _ inv.1 step.0 inv.3 step.1,
+      prints_more _ _ _ _ inv.1 step.0 inv.3 step.1,
       (λ script lines text r.
           let before = inv.4 script lines text r in
           let told = step.2 (script ++ front) before.0 (text ++ inv.1) cut.first before.1 in

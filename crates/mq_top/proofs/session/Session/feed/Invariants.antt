@@ -7,10 +7,10 @@ use Rattle.mq_top.proofs.session.Session.feed.Given as goal
 abbrev pub invariant-loop-end : goal.invariant-loop-end
 invariant-loop-end g l =
     (front : List ℕ) × (shown : List ℕ) × (l.bytes ≡ front ++ l.rest)
-    × Prints (g.K.Sink.taken l.initial.sink) (g.K.Sink.taken l.sink) l.initial.owed.items l.owed.items shown
+    × Prints g.K.Sink.taken l.initial.output l.output shown
     × ((script : List ℕ) (lines : List (List ℕ)) (text : List ℕ) → IsRead l.initial.self script lines text
     → (now : List (List ℕ)) × IsRead l.self (script ++ front) now (text ++ shown))
-    × (g.K.Sink.faults l.sink ≡ g.K.Sink.faults l.initial.sink)
+    × (g.K.Sink.faults l.output.sink.now ≡ g.K.Sink.faults l.initial.output.sink.now)
 
 abbrev pub decreases-loop-end : goal.decreases-loop-end
 decreases-loop-end g l = length l.rest

@@ -1,4 +1,4 @@
-use Rattle.std.proofs.Common.{sym, ◌∙◌}
+use Rattle.std.proofs.Common.{sym}
 use Rattle.mq_top.proofs.Opening.{begun}
 use Rattle.mq_top.proofs.stage.Stage.open.Goals as goal
 

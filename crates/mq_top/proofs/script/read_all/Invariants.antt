@@ -1,8 +1,8 @@
 use Rattle.std.proofs.Common.{◌≡◌, ℕ, List, []}
 use Rattle.mq_outside.specs.Outside.{Gives}
-use Rattle.mq_top.specs.Printing.{Adds}
+use Rattle.mq_top.specs.Printing.{Takes}
 use Rattle.mq_top.specs.Reading.{IsRead}
-use Rattle.mq_top.proofs.script.replay.Given as goal
+use Rattle.mq_top.proofs.script.read_all.Given as goal
 
 -- what the source gave was read, and all that its lines print is written
 abbrev pub invariant-loop-turn : goal.invariant-loop-turn
@@ -11,9 +11,9 @@ invariant-loop-turn g l = record {
   lines : List (List ℕ);
   out : List ℕ;
   gave : Gives (g.S.Source.left l.initial.source) (g.S.Source.left l.source) script;
-  took : Adds (g.K.Sink.taken l.initial.sink) (g.K.Sink.taken l.sink) out;
+  took : Takes g.K.Sink.taken l.initial.output l.output out;
   read : IsRead l.session script lines out;
-  written : l.owed.items ≡ [];
+  written : l.output.owed.now.items ≡ [];
   reading : g.S.Source.faults l.source ≡ g.S.Source.faults l.initial.source;
-  writing : g.K.Sink.faults l.sink ≡ g.K.Sink.faults l.initial.sink;
+  writing : g.K.Sink.faults l.output.sink.now ≡ g.K.Sink.faults l.initial.output.sink.now;
 }

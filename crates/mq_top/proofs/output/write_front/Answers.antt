@@ -1,7 +1,7 @@
 use Rattle.std.proofs.Common.{ℕ, ◌++◌, List, take, drop, sym, ap, ◌∙◌, append_assoc}
 use Rattle.std.proofs.lemmas.List.{take-append-drop}
 use Rattle.mq_top.proofs.Shown.{adds_more, adds_took}
-use Rattle.mq_top.proofs.print.write_front.Goals as goal
+use Rattle.mq_top.proofs.output.write_front.Goals as goal
 
 pub loop-rest-preserved : goal.loop-rest-preserved
 loop-rest-preserved g c =

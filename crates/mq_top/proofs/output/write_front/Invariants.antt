@@ -1,6 +1,6 @@
 use Rattle.std.proofs.Common.{◌≡◌, ℕ, ◌++◌, List, length}
 use Rattle.mq_top.specs.Printing.{Adds}
-use Rattle.mq_top.proofs.print.write_front.Given as goal
+use Rattle.mq_top.proofs.output.write_front.Given as goal
 
 -- the bytes before the rest were taken
 abbrev pub invariant-loop-rest : goal.invariant-loop-rest
