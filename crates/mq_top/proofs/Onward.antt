@@ -1,5 +1,5 @@
 -- Steps that go on from a state are steps from the start.
-use Rattle.std.proofs.Common.{◌≡◌, ℕ, zero, suc, ◌<◌, Bool, true, false, List, [], ◌∷◌, ◌++◌, length, Ok, Err, refl, sym, ap, subst, ◌∙◌, arith, append_assoc, append-nil, inr}
+use Rattle.std.proofs.Common.{◌≡◌, ℕ, zero, suc, ◌<◌, Bool, true, false, List, [], ◌∷◌, ◌++◌, length, Option, Ok, Err, refl, sym, ap, subst, ◌∙◌, arith, append_assoc, append-nil, inr}
 use Rattle.std.specs.Prelude.{nat_lt, if◌then◌else◌}
 use Rattle.std.proofs.lemmas.Bool.{lt-ltb}
 use Rattle.std.proofs.lemmas.List.{length-set}
@@ -11,7 +11,8 @@ use Rattle.mq_machine.specs.Turn.{Actor, WorkerOf, ThePump, Turn, Quiet, has_tur
 use Rattle.mq_play.specs.Play.{Fate, Noted, Silent, StepsTo, Until, TheEnd, SomeStop, Runs}
 use Rattle.mq_play.specs.Text.{printed, Idle, Says}
 use Rattle.mq_talk.specs.declared.note.Note.{Note}
-use Rattle.mq_top.specs.Printing.{Spills}
+use Rattle.mq_top.specs.Printing.{Prints, PrintsTo}
+use Rattle.mq_top.specs.declared.output.Output.{Output}
 use Rattle.mq_top.specs.declared.steps.Moved.TheVariants as moved
 use Rattle.mq_world.specs.declared.stepped.Stepped.TheVariants as stepped
 use Rattle.mq_world.specs.declared.stepped.Stepped.TheVariants.{Did, Refused}
@@ -139,12 +140,10 @@ step_idle w s number actor at told =
     let P : Actor → Type 0 = λ a. Quiet s a in
     (subst P (same_actor s number actor told.0 at told.1) told.2, refl, told.3)
 
--- the note of a step was printed, and the sink failed
-pub step_spilled : (w after : World) (s : State) (actor : Actor) (shown : List ℕ) (why : Stop) → Spills (Err why) → (t : State) × Acts s actor shown t × IsWorld after t → StepTo w s actor shown (Err why)
-step_spilled w after s actor shown WriteFault fault did = (did.0, did.1)
-step_spilled w after s actor shown BadLine fault did = absurd fault
-step_spilled w after s actor shown NoMemory fault did = absurd fault
-
--- memory ran out before anything was printed
-pub step_spent : (w : World) (s : State) (actor : Actor) (why : Stop) → why ≡ NoMemory → StepTo w s actor [] (Err why)
-step_spent w s actor why e = let P : Stop → Type 0 = λ stop. StepTo w s actor [] (Err stop) in subst P (sym e) refl
+module _ {K : Type 0} where
+  -- the note of a step was printed and the sink failed, or memory ran out before that
+  pub step_unnoted : (taken : K → Option (List ℕ)) (o p : Output K) (w after : World) (text : List ℕ) (why : Stop) → PrintsTo taken o p text (Err why)
+      → (shown : List ℕ) × Prints taken o p shown × ((s : State) (actor : Actor) → (t : State) × Acts s actor text t × IsWorld after t → StepTo w s actor shown (Err why))
+  step_unnoted taken o p w after text WriteFault h = (text, h, λ s actor did. (did.0, did.1))
+  step_unnoted taken o p w after text NoMemory h = ([], h, λ s actor did. refl)
+  step_unnoted taken o p w after text BadLine h = absurd h

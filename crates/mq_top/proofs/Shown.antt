@@ -2,7 +2,7 @@
 use Rattle.std.proofs.Common.{◌≡◌, ℕ, List, [], ◌++◌, take, Option, Some, None, Result, Ok, Err, refl, sym, ap, subst, ◌∙◌, MutBor, append_assoc, append-nil}
 use Rattle.mq_outside.specs.Outside.{Writes}
 use Rattle.mq_outside.specs.declared.Put.TheVariants.{Took}
-use Rattle.mq_top.specs.Printing.{Adds, Takes, Prints, StopCounts, IsSilent}
+use Rattle.mq_top.specs.Printing.{Adds, Takes, Prints, PrintsTo, StopCounts, Spills, IsSilent}
 use Rattle.mq_top.specs.declared.output.Output.{Output}
 use Rattle.mq_top.specs.declared.status.Stop.{Stop}
 use Rattle.mq_top.specs.declared.status.Stop.TheVariants.{BadLine, WriteFault, NoMemory}
@@ -68,6 +68,13 @@ module _ {K : Type 0} where
   -- what was shown is owed, and was then written in part
   pub prints_shown : (taken : K → Option (List ℕ)) (o p q : Output K) (shown : List ℕ) → Prints taken p q [] → p.sink ≡ o.sink → p.owed.now.items ≡ o.owed.now.items ++ shown → Prints taken o q shown
   prints_shown taken o p q shown next same e = prints_flushed taken o p q shown (prints_said taken o p shown same e) next
+
+  -- it was printed, whether the sink then failed or not
+  pub prints_spilled : (taken : K → Option (List ℕ)) (o p : Output K) (text : List ℕ) (answer : Result (Unit {0}) Stop) → Spills answer → Prints taken o p text → PrintsTo taken o p text answer
+  prints_spilled taken o p text (Ok done) spills h = h
+  prints_spilled taken o p text (Err WriteFault) spills h = h
+  prints_spilled taken o p text (Err BadLine) spills h = absurd spills
+  prints_spilled taken o p text (Err NoMemory) spills h = absurd spills
 
 -- a sink that wasn't called
 pub silent_counts : (before after : ℕ) (answer : Result (Unit {0}) Stop) → after ≡ before → IsSilent answer → StopCounts before after answer

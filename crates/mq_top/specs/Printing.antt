@@ -22,6 +22,13 @@ module _ {K : Type 0} where
     pub takes : Takes taken old new written
     pub is : old.owed.now.items ++ shown ≡ written ++ new.owed.now.items
 
+  -- it was printed, though the sink may have failed then; or memory ran out before that
+  abbrev pub PrintsTo : (K → Option (List ℕ)) → Output K → Output K → List ℕ → Result (Unit {0}) Stop → Type 0
+  PrintsTo taken old new text (Ok done) = Prints taken old new text
+  PrintsTo taken old new text (Err WriteFault) = Prints taken old new text
+  PrintsTo taken old new text (Err NoMemory) = Prints taken old new []
+  PrintsTo taken old new text (Err BadLine) = ⊥
+
 -- a sink's faults rose exactly where it took less than all
 pub record FrontCounts (before after taken all : ℕ) : Type 0 where
   pub whole : taken ≡ all → after ≡ before

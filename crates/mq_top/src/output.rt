@@ -1,9 +1,12 @@
 //! Where a play prints: what is printed gathers, and is written to a sink where it has grown or the sink is to have it.
 ghost use Rattle.std.specs.Prelude.{◌≡◌, ℕ, ◌≤◌, ◌<◌, List, [], ◌++◌, length, take, OnOk};
-ghost use Rattle.mq_top.specs.Printing.{Adds, Prints, FrontCounts, StopCounts, Flushes, Spills};
+ghost use Rattle.mq_play.specs.Text.{printed, Says};
+ghost use Rattle.mq_top.specs.Printing.{Adds, Prints, PrintsTo, FrontCounts, StopCounts, Flushes, Spills};
 
 use crate::status::Stop;
 use mq_outside::{Put, Sink};
+use mq_script::print_note;
+use mq_talk::Note;
 
 /// How many bytes gather before they are written, while steps are taken.
 const MOST_OWED: usize = 65_536;
@@ -16,6 +19,16 @@ pub struct Output<'a, K> {
 }
 
 impl<K: Sink> Output<'_, K> {
+    /// Prints a note. Never inlined, so that a step that brings no note has no room to clear for the parts of a line.
+    #[inline(never)]
+    pub fn note(&mut self, note: &Note) -> Result<(), Stop>
+        ensures prints { PrintsTo K.taken self.old self.new (printed (Says note.now)) result }
+        ensures counts { StopCounts (K.faults self.old.sink.now) (K.faults self.new.sink.now) result }
+    {
+        print_note(self.owed, note)?;
+        self.spill()
+    }
+
     /// Writes all that is owed. What the sink didn't take at a fault stays owed.
     pub fn flush(&mut self) -> Result<(), Stop>
         ensures prints { Prints K.taken self.old self.new [] }

@@ -11,7 +11,7 @@ use crate::output::Output;
 use crate::status::Stop;
 use mq_machine::{Event, silent_or_quiet, turn_or_quiet};
 use mq_outside::Sink;
-use mq_script::{print_idle, print_note};
+use mq_script::print_idle;
 use mq_world::{Stepped, World};
 
 /// The number by which a line names the network.
@@ -51,8 +51,7 @@ pub fn take_step<K: Sink>(
     silent_or_quiet();
     match world.step(Event::Step { actor: number }) {
         Ok(Stepped::Did(note)) => {
-            print_note(output.owed, &note)?;
-            output.spill()?;
+            output.note(&note)?;
             Ok(Moved::Acted)
         }
         Ok(Stepped::Refused) => Ok(Moved::Acted),
