@@ -9,7 +9,7 @@ use Rattle.mq_talk.specs.declared.note.Note.TheVariants as note
 use Rattle.mq_talk.specs.declared.place.Cause.TheVariants as cause
 use Rattle.mq_machine.specs.declared.setup.Setup.{Setup}
 use Rattle.mq_machine.specs.Settle.{settle}
-use Rattle.mq_machine.specs.State.{Conn, Tunnel, Waiting, Packet, Front, Head, OverHttp1}
+use Rattle.mq_machine.specs.State.{Conn, Tunnel, Waiting, Packet, Front, Head, OverHttp1, OverHttp2}
 use Rattle.mq_machine.specs.Done.{Done, with_waiting}
 use Rattle.mq_machine.specs.Steps.{framed, framed_by, framed_front, framing, frame_size, next_framed, set_waiting, settled_note, whole_note, finished}
 use Rattle.mq_machine.specs.Steps.{finish_by, wrote, queued}
@@ -33,6 +33,7 @@ framing_leaves : (c : Conn) (u : Tunnel) (f : Front) (rest : List ℕ) (count : 
     → shapes_of ts ≡ shapes_of c.tunnels
     → Framed c (record (framing c f u.stream rest count) { tunnels = ts; next_tunnel = u.id + 1 })
 framing_leaves c u (Head bytes) rest count ts turn shapes = record { tunnel = u; turn = turn; number = refl; actor = refl; shapes = shapes; next = refl }
+framing_leaves c u (OverHttp2 h) rest count ts turn shapes = record { tunnel = u; turn = turn; number = refl; actor = refl; shapes = shapes; next = refl }
 framing_leaves c u OverHttp1 rest count ts turn shapes = record { tunnel = u; turn = turn; number = refl; actor = refl; shapes = shapes; next = refl }
 
 framed_by_leaves : (c : Conn) (u : Tunnel) (w : Waiting) (ws : List Waiting) (count : ℕ) → next_framed c ≡ Some u → Framed c (framed_by c u w ws count).1
@@ -96,6 +97,7 @@ wrote_leaves c count = same_settled c (record c { given = c.given + count }) (re
 finish_leaves : (c : Conn) (f : Front) (inside : Bool) → Same c (finish_by (record c { is_finished = true }) f inside)
 finish_leaves c (Head []) inside = record { number = refl; actor = refl; tunnels = refl; next = refl }
 finish_leaves c (Head (b ∷ bytes)) inside = record { number = refl; actor = refl; tunnels = refl; next = refl }
+finish_leaves c (OverHttp2 h) inside = record { number = refl; actor = refl; tunnels = refl; next = refl }
 finish_leaves c OverHttp1 inside = record { number = refl; actor = refl; tunnels = refl; next = refl }
 
 -- the end of its link

@@ -1,5 +1,5 @@
 -- Each answer leaves the tunnel from which the next frame is sought, and the end of an act leaves all but what is due.
-use Rattle.std.proofs.Common.{◌≡◌, cond, Bool, true, false, List, [], ◌∷◌, length, nat_lt, Option, Some, None, refl, subst, ◌∙◌}
+use Rattle.std.proofs.Common.{◌≡◌, cond, Bool, true, false, List, [], ◌∷◌, length, nat_lt, Option, Some, None, refl, sym, subst, ◌∙◌}
 use Rattle.std.specs.Prelude.{option_map}
 use Rattle.mq_outside.specs.declared.PortPut.{PortPut}
 use Rattle.mq_outside.specs.declared.PortPut.TheVariants as put
@@ -14,7 +14,8 @@ use Rattle.mq_machine.specs.declared.act.StreamAct.{StreamAct}
 use Rattle.mq_machine.specs.declared.act.StreamAct.TheVariants as stream
 use Rattle.mq_machine.specs.declared.act.Due.{Due}
 use Rattle.mq_machine.specs.declared.act.Due.TheVariants as due
-use Rattle.mq_machine.specs.Settle.{settle, passing}
+use Rattle.mq_machine.proofs.Settling.{settled_rests}
+use Rattle.mq_machine.specs.Settle.{settle, passing, spending}
 use Rattle.mq_machine.specs.State.{Conn, Tunnel, tunnel_on}
 use Rattle.mq_machine.specs.Want.{Answer, Said, Bound, Replied, Judged, Pushed, Put}
 use Rattle.mq_machine.specs.Done.{Done, done, done_by, due_done, act_done, tunnel_done, stream_done, ending_done, dropped, sent}
@@ -32,12 +33,17 @@ pub record Same (c t : Conn) : Type 0 where
 passing_same : (ds : List Due) (x : Conn) → Same x (passing ds x)
 passing_same [] x = record { number = refl; actor = refl; tunnels = refl; next = refl }
 passing_same (due.Do a ∷ rest) x = record { number = refl; actor = refl; tunnels = refl; next = refl }
-passing_same (due.Spend id size ∷ rest) x = passing_same rest x
+passing_same (due.Spend id size ∷ rest) x =
+    let same = passing_same rest (record x { front = spending x.front id size }) in
+    record { number = same.number; actor = same.actor; tunnels = same.tunnels; next = same.next }
 passing_same (due.Fault code ∷ rest) x = record { number = refl; actor = refl; tunnels = refl; next = refl }
 
--- the end of an act leaves all but what is due
+-- the end of an act leaves them
 pub settle_same : (x : Conn) → Same x (settle x)
-settle_same x = passing_same x.due x
+settle_same x =
+    let same = passing_same x.due x in
+    let P : Conn → Type 0 = λ y. Same x y in
+    subst P (sym (settled_rests (passing x.due x))) (record { number = same.number; actor = same.actor; tunnels = same.tunnels; next = same.next })
 
 -- ---- what is true of the connection behind an answer
 

@@ -16,10 +16,11 @@ use Rattle.mq_machine.specs.declared.act.StreamAct.TheVariants as stream
 use Rattle.mq_machine.specs.declared.act.Due.{Due}
 use Rattle.mq_machine.specs.declared.act.Due.TheVariants as due
 use Rattle.mq_machine.specs.Done.{Done, done, is_on, stream_done, tunnel_done, dropped, sent, putting, without, refusal}
-use Rattle.mq_machine.specs.Settle.{settle, passing}
+use Rattle.mq_machine.specs.Settle.{settle, settled, passing}
+use Rattle.mq_machine.specs.Laws.{IsPlain}
 use Rattle.mq_machine.specs.Steps.{settled_note, wrote}
 use Rattle.mq_machine.specs.State as machine
-use Rattle.mq_machine.specs.State.{Stream, Head, OverHttp1, tunnel_on}
+use Rattle.mq_machine.specs.State.{Stream, Head, OverHttp1, OverHttp2, tunnel_on}
 use Rattle.mq_machine.specs.Want as machine_want
 use Rattle.mq_machine.specs.Want.{Answer, Said, Bound, Replied, Put, want_of, stream_want}
 use Rattle.mq_conn.specs.Wants.{IsWant}
@@ -38,6 +39,8 @@ use Rattle.mq_conn.specs.declared.conn.First.TheVariants as first
 use Rattle.mq_conn.specs.declared.front.Front.{Front}
 use Rattle.mq_conn.specs.declared.front.Front.TheVariants as front
 use Rattle.mq_conn.specs.Conns.{IsConn, IsRead, IsDue, Follows, FollowsFirst, IsAsked, Keeps, Does, Tries, CanPut, PutsNote, Past, state, behind, act_of, given_up, tunnels_of, tunnel_is}
+use Rattle.mq_machine.proofs.Settling.{as_it_is}
+use Rattle.mq_conn.proofs.Fronts.{plain_front}
 use Rattle.mq_conn.proofs.Standing.{shut}
 
 -- ---- nothing else is asked of a stream that closes
@@ -56,9 +59,13 @@ without_all (due.Fault code ∷ dues) h = absurd h
 pub no_streams : (f : Front) (e : Option End) (g : machine.Front) (streams : List Stream) → IsRead f e g streams → filter (λ (s : Stream). not (s.id == 0)) streams ≡ []
 no_streams (front.Head reader) e (Head bytes) streams h = ap (λ (ss : List Stream). filter (λ (s : Stream). not (s.id == 0)) ss) h.1
 no_streams (front.Head reader) e OverHttp1 streams h = absurd h
+no_streams (front.Head reader) e (OverHttp2 state) streams h = absurd h
 no_streams (front.Data d) e (Head bytes) streams h = absurd h
+no_streams (front.Data d) e (OverHttp2 state) streams h = absurd h
 no_streams (front.Data d) e OverHttp1 streams h = ap (λ (ss : List Stream). filter (λ (s : Stream). not (s.id == 0)) ss) h.only
 no_streams front.Shut None (Head bytes) streams h = absurd h
+no_streams front.Shut None (OverHttp2 state) streams h = absurd h
+no_streams front.Shut (Some why) (OverHttp2 state) streams h = absurd h
 no_streams front.Shut (Some why) (Head bytes) streams h = ap (λ (ss : List Stream). filter (λ (s : Stream). not (s.id == 0)) ss) h
 no_streams front.Shut None OverHttp1 streams h = ap (λ (ss : List Stream). filter (λ (s : Stream). not (s.id == 0)) ss) h
 no_streams front.Shut (Some why) OverHttp1 streams h = ap (λ (ss : List Stream). filter (λ (s : Stream). not (s.id == 0)) ss) h
@@ -69,6 +76,7 @@ pub due_from : (e : Option End) (f : machine.Front) (live : Bool) (fi : Option F
 due_from (Some why) f live fi dues a b h = absurd cc
 due_from None (Head bytes) live fi dues a b h = absurd cc
 due_from None OverHttp1 live fi dues a b h = h
+due_from None (OverHttp2 state) live fi dues a b h = absurd cc
 
 -- it isn't ending, its head was read, and this is due first
 pub record Acts (c : Conn) (p : Past) (d : Due) (rest : List Due) : Type 0 where
@@ -80,11 +88,13 @@ due_acts : (e : Option End) (f : machine.Front) (live : Bool) (d : Due) (rest : 
 due_acts (Some why) f live d rest h = let e = h.1 in absurd cc
 due_acts None (Head bytes) live d rest h = let e = h.2 in absurd cc
 due_acts None OverHttp1 live d rest h = (refl, refl, h)
+due_acts None (OverHttp2 state) live d rest h = absurd h
 
 first_acts : (e : Option End) (f : machine.Front) (live : Bool) (fi : First) (dues : List Due) → IsDue e f live (Some fi) dues → (e ≡ None) × (f ≡ OverHttp1) × FollowsFirst live (Some fi) dues
 first_acts (Some why) f live fi dues h = let e = h.0 in absurd cc
 first_acts None (Head bytes) live fi dues h = let e = h.1 in absurd cc
 first_acts None OverHttp1 live fi dues h = (refl, refl, h)
+first_acts None (OverHttp2 state) live fi dues h = absurd h
 
 pub record Pops (c : Conn) (p : Past) (d : Due) (rest : List Due) : Type 0 where
   pub acts : Acts c p d rest
@@ -184,12 +194,14 @@ refused_so c s status rule d rest answer stands a none is =
     let e = refused_conn c status in
     let q : Past = record { out = p.out ++ text; given = p.given; front = p.front; streams = [] } in
     let G : List Due → List Stream → machine.Front → Done = λ ds ss f.
-    Some (note.Refused c.number 0 status rule, passing ds (record (state c p) { front = f; ending = Some end.Refused; due = ds; streams = ss; out = p.out ++ text })) in (
+    Some (note.Refused c.number 0 status rule, settled (passing ds (record (state c p) { front = f; ending = Some end.Refused; due = ds; streams = ss; out = p.out ++ text }))) in
+    let H : machine.Front → Done = λ f.
+    Some (note.Refused c.number 0 status rule, record (state c p) { front = f; ending = Some end.Refused; due = []; streams = []; out = p.out ++ text }) in (
       state e q,
       record {
         past = q;
         is = refl;
-        read = shut end.Refused p.front;
+        read = shut end.Refused p.front (plain_front c s stands);
         owed = owed_more c.owed p text stands.owed stands.given;
         given = given_more p text stands.given;
         due = (refl, refl);
@@ -199,7 +211,7 @@ refused_so c s status rule d rest answer stands a none is =
       done_acting c p d rest answer a ∙ is
           ∙ ap (λ (ds : List Due). G ds (filter (λ (s : Stream). not (s.id == 0)) p.streams) OverHttp1) none
           ∙ ap (λ (ss : List Stream). G [] ss OverHttp1) (no_streams c.front c.ending p.front p.streams stands.read)
-          ∙ ap (λ (f : machine.Front). G [] [] f) (sym a.front),
+          ∙ ap H (sym a.front),
     )
 
 pub bind_failed : (c : Conn) (id : ℕ) (goal : Goal) (rest : List Due) → c.first ≡ None → c.due ≡ due.Do (act.Bind id goal) ∷ rest
@@ -237,7 +249,7 @@ stays_done c p t a rest answer said live by follows =
     let y : machine.Conn = record x { tunnels = tunnels_of (Some t); due = rest } in
     ap (λ (o : Option Tunnel). done (record x { tunnels = tunnels_of o }) answer) live
     ∙ ap (option_map (λ (d : Note × machine.Conn). (d.0, settle d.1))) (by y)
-    ∙ ap (λ (z : machine.Conn). Some (said, z)) (passes true rest y follows)
+    ∙ ap (λ (z : machine.Conn). Some (said, settled z)) (passes true rest y follows)
     ∙ ap (λ (o : Option Tunnel). Some (said, record x { tunnels = tunnels_of o; due = rest })) (sym live)
 
 stood_on : (c : Conn) (s : machine.Conn) (rest : List Due) (d : Due) (stands : IsConn c s) → Acts c stands.past d rest → FollowsFirst (is_some c.tunnel) None rest
@@ -350,16 +362,23 @@ wants_stream c s id a rest w stands none is by =
     subst P (sym e) (by live.0 live.1 f.2)
 
 -- no mark is in front
-pub settles : (e : Option End) (f : machine.Front) (live : Bool) (fi : Option First) (dues : List Due) (x : machine.Conn) → IsDue e f live fi dues → passing (behind fi dues) x ≡ record x { due = behind fi dues }
-settles e f live (Some fi) dues x h = refl
-settles e f live None [] x h = refl
-settles e f live None (due.Do a ∷ dues) x h = refl
-settles (Some end) f live None (due.Spend id size ∷ dues) x h = let e = h.1 in absurd cc
-settles None (Head bytes) live None (due.Spend id size ∷ dues) x h = let e = h.2 in absurd cc
-settles None OverHttp1 live None (due.Spend id size ∷ dues) x h = absurd h
-settles (Some end) f live None (due.Fault code ∷ dues) x h = let e = h.1 in absurd cc
-settles None (Head bytes) live None (due.Fault code ∷ dues) x h = let e = h.2 in absurd cc
-settles None OverHttp1 live None (due.Fault code ∷ dues) x h = absurd h
+marks : (e : Option End) (f : machine.Front) (live : Bool) (fi : Option First) (dues : List Due) (x : machine.Conn) → IsDue e f live fi dues → passing (behind fi dues) x ≡ record x { due = behind fi dues }
+marks e f live (Some fi) dues x h = refl
+marks e f live None [] x h = refl
+marks e f live None (due.Do a ∷ dues) x h = refl
+marks (Some end) f live None (due.Spend id size ∷ dues) x h = let e = h.1 in absurd cc
+marks None (Head bytes) live None (due.Spend id size ∷ dues) x h = let e = h.2 in absurd cc
+marks None OverHttp1 live None (due.Spend id size ∷ dues) x h = absurd h
+marks None (OverHttp2 state) live None (due.Spend id size ∷ dues) x h = absurd h
+marks (Some end) f live None (due.Fault code ∷ dues) x h = let e = h.1 in absurd cc
+marks None (Head bytes) live None (due.Fault code ∷ dues) x h = let e = h.2 in absurd cc
+marks None OverHttp1 live None (due.Fault code ∷ dues) x h = absurd h
+marks None (OverHttp2 state) live None (due.Fault code ∷ dues) x h = absurd h
+
+-- so the end of the act changes nothing
+pub settles : (e : Option End) (f : machine.Front) (live : Bool) (fi : Option First) (dues : List Due) (x : machine.Conn) → IsDue e f live fi dues → IsPlain x.front
+    → settled (passing (behind fi dues) x) ≡ record x { due = behind fi dues }
+settles e f live fi dues x h is_plain = ap settled (marks e f live fi dues x h) ∙ as_it_is x.front (record x { due = behind fi dues }) is_plain
 
 -- so many bytes were given to the link
 pub gave : (c : Conn) (count : ℕ) (s : machine.Conn) → IsConn c s → count ≤ length (machine.owed s) → IsConn (record c { owed = drop count c.owed }) (wrote s count).1
@@ -370,7 +389,7 @@ gave c count s stands fits =
     let cut = length-drop p.given p.out in
     subst P (sym stands.is) (record {
       past = record p { given = p.given + count };
-      is = settles c.ending p.front (is_some c.tunnel) c.first c.due (record (state c p) { given = p.given + count }) stands.due;
+      is = settles c.ending p.front (is_some c.tunnel) c.first c.due (record (state c p) { given = p.given + count }) stands.due (plain_front c s stands);
       read = stands.read;
       owed = ap (λ (xs : List ℕ). drop count xs) stands.owed ∙ drop-drop count p.given p.out;
       given = omega (arith, stands.given, size, cut, fits);

@@ -16,6 +16,7 @@ use Rattle.mq_conn.specs.declared.conn.Tunnel.{Tunnel}
 use Rattle.mq_conn.specs.Conns.{IsConn, IsDue, IsUdpTunnel, Past, state, tunnel_is, tunnels_of}
 use Rattle.mq_conn.specs.Frames.{Comes}
 use Rattle.mq_conn.specs.Queues.{waiting_of, size_of}
+use Rattle.mq_conn.proofs.Fronts.{plain_front}
 use Rattle.mq_conn.proofs.Acting.{settles}
 
 -- too much waits
@@ -54,7 +55,7 @@ drops c s t tunnel from n packet stands live id_is full =
     let U : Option Tunnel → Type 0 = λ o. IsUdpTunnel o in
     comes_live c (record c { tunnel = Some t }) s t tunnel from n packet (note.Dropped from n cause.QueueFull) true stands live id_is full refl (record {
       past = p;
-      is = settles c.ending p.front (is_some c.tunnel) c.first c.due (lives c p t) stands.due;
+      is = settles c.ending p.front (is_some c.tunnel) c.first c.due (lives c p t) stands.due (plain_front c s stands);
       read = stands.read;
       owed = stands.owed;
       given = stands.given;
@@ -73,7 +74,7 @@ queues c s t tunnel from n packet stands live id_is full =
     let U : Option Tunnel → Type 0 = λ o. IsUdpTunnel o in
     comes_live c (record c { tunnel = Some u }) s t tunnel from n packet (note.Queued from n tunnel) false stands live id_is full (ap (λ (k : ℕ). note.Queued from n k) (sym id_is)) (record {
       past = p;
-      is = settles c.ending p.front (is_some c.tunnel) c.first c.due (with_waiting t.id w (lives c p t)) stands.due
+      is = settles c.ending p.front (is_some c.tunnel) c.first c.due (with_waiting t.id w (lives c p t)) stands.due (plain_front c s stands)
           ∙ ap (λ (b : Bool). record (state c p) { tunnels = cond b (tunnel_is u) (tunnel_is t) ∷ [] }) (eq-eqb t.id t.id refl);
       read = stands.read;
       owed = stands.owed;

@@ -14,9 +14,9 @@ use Rattle.mq_machine.specs.declared.act.StreamAct.TheVariants as stream
 use Rattle.mq_machine.specs.declared.act.Due.{Due}
 use Rattle.mq_machine.specs.declared.act.Due.TheVariants as due
 use Rattle.mq_machine.specs.Done.{Done, Putting, done, is_on, stream_done, closing as puts_closing, http1_end, first_of}
-use Rattle.mq_machine.specs.Settle.{passing}
+use Rattle.mq_machine.specs.Settle.{passing, settled}
 use Rattle.mq_machine.specs.State as machine
-use Rattle.mq_machine.specs.State.{Stream, Head, OverHttp1, tunnel_on, is_packet}
+use Rattle.mq_machine.specs.State.{Stream, Head, OverHttp1, OverHttp2, tunnel_on, is_packet}
 use Rattle.mq_machine.specs.Want.{Replied}
 use Rattle.mq_conn.specs.declared.conn.Conn.{Conn}
 use Rattle.mq_conn.specs.declared.conn.First.{First}
@@ -24,7 +24,10 @@ use Rattle.mq_conn.specs.declared.conn.First.TheVariants as first
 use Rattle.mq_conn.specs.declared.conn.Tunnel.{Tunnel}
 use Rattle.mq_conn.specs.Closing.{closing, close_due}
 use Rattle.mq_conn.specs.Conns.{IsConn, IsDue, Follows, IsAsked, Does, Past, state, behind, given_up, tunnel_is, tunnels_of}
+use Rattle.mq_machine.specs.Laws.{IsPlain}
 use Rattle.mq_conn.proofs.Standing.{shut}
+use Rattle.mq_machine.proofs.Settling.{as_it_is}
+use Rattle.mq_conn.proofs.Fronts.{plain_front}
 use Rattle.mq_conn.proofs.Acting.{Acts, acting, done_acting, begins, pops, without_all, no_streams}
 use Rattle.mq_conn.proofs.Hearing.{none_of}
 
@@ -42,7 +45,7 @@ pub stands_closed : (c : Conn) (s : machine.Conn) (end : End) (stands : IsConn c
 stands_closed c s end stands = record {
   past = record stands.past { streams = [] };
   is = refl;
-  read = shut end stands.past.front;
+  read = shut end stands.past.front (plain_front c s stands);
   owed = stands.owed;
   given = stands.given;
   due = (refl, refl);
@@ -54,20 +57,20 @@ stands_closed c s end stands = record {
 gone : (c : Conn) (s : machine.Conn) (t : Tunnel) (said : Note) (end : End) (dues : List Due) (f : machine.Front) (e : Option End) (stands : IsConn c s) → f ≡ stands.past.front → dues ≡ [] → e ≡ Some end
     → ◌≡◌ {A = Done} (Some (
       said,
-      passing dues (record (state c stands.past) {
+      settled (passing dues (record (state c stands.past) {
         front = f;
         ending = e;
         due = dues;
         streams = filter (λ (s : Stream). not (s.id == 0)) stands.past.streams;
         tunnels = filter (λ (u : machine.Tunnel). not (u.id == t.id)) (tunnel_is t ∷ []);
         out = stands.past.out ++ [];
-      }),
+      })),
     )) (Some (said, left c stands.past end))
 gone c s t said end dues f e stands front none ending =
     let p = stands.past in
     let x : machine.Conn = state c p in
     let F : machine.Front → Option End → List Due → List Stream → List machine.Tunnel → List ℕ → Option (Note × machine.Conn) = λ f e ds ss ts o.
-    Some (said, passing ds (record x { front = f; ending = e; due = ds; streams = ss; tunnels = ts; out = o })) in
+    Some (said, settled (passing ds (record x { front = f; ending = e; due = ds; streams = ss; tunnels = ts; out = o }))) in
     let ss = filter (λ (s : Stream). not (s.id == 0)) p.streams in
     let ts = filter (λ (u : machine.Tunnel). not (u.id == t.id)) (tunnel_is t ∷ []) in
     ap (λ g. F g e dues ss ts (p.out ++ [])) front
@@ -76,6 +79,7 @@ gone c s t said end dues f e stands front none ending =
     ∙ ap (λ g. F p.front (Some end) [] g ts (p.out ++ [])) (no_streams c.front c.ending p.front p.streams stands.read)
     ∙ ap (λ g. F p.front (Some end) [] [] g (p.out ++ [])) (no_tunnel t)
     ∙ ap (λ g. F p.front (Some end) [] [] [] g) (append-nil p.out)
+    ∙ ap (λ z. Some (said, z)) (as_it_is p.front (left c p end) (plain_front c s stands))
 
 -- as the first act says
 pub closes_acting : (c : Conn) (s : machine.Conn) (t : Tunnel) (id : ℕ) (reason : Why) (end : End) (rest : List Due) (stands : IsConn c s)
@@ -91,9 +95,10 @@ closes_acting c s t id reason end rest stands a zero_is follows live ends =
     ∙ gone c s t said end (filter (λ d. not (is_on 0 d)) rest) OverHttp1 (first_of None (http1_end reason)) stands (sym a.front) (without_all rest follows) ends
 
 -- with its connection
-closing_conn : (f : machine.Front) (t : machine.Tunnel) → puts_closing f t why.Conn ≡ record { text = []; front = f; ending = None }
-closing_conn (Head bytes) t = refl
-closing_conn OverHttp1 t = refl
+closing_conn : (f : machine.Front) (t : machine.Tunnel) → IsPlain f → puts_closing f t why.Conn ≡ record { text = []; front = f; ending = None }
+closing_conn (Head bytes) t h = refl
+closing_conn OverHttp1 t h = refl
+closing_conn (OverHttp2 state) t h = absurd h
 
 pub closes_ending : (c : Conn) (s : machine.Conn) (t : Tunnel) (end : End) (stands : IsConn c s) → c.ending ≡ Some end → c.tunnel ≡ Some t
     → done (state c stands.past) (Replied reply.Closed) ≡ Some (note.Closed t.id why.Conn (length (filter is_packet t.waiting)), left c stands.past end)
@@ -104,17 +109,17 @@ closes_ending c s t end stands is live =
     let none = subst D is stands.due in
     let dues : behind c.first c.due ≡ [] = ap (λ (fi : Option First). behind fi c.due) none.0 ∙ none.1 in
     let x : machine.Conn = record (state c p) { ending = Some end } in
-    let put = closing_conn p.front (tunnel_is t) in
+    let put = closing_conn p.front (tunnel_is t) (plain_front c s stands) in
     let G : Putting → Done = λ z. Some (
       said,
-      record (state c p) {
+      settled (record (state c p) {
         front = z.front;
         ending = Some end;
         due = [];
         streams = filter (λ (s : Stream). not (s.id == 0)) p.streams;
         tunnels = filter (λ (u : machine.Tunnel). not (u.id == t.id)) (tunnel_is t ∷ []);
         out = p.out ++ z.text;
-      },
+      }),
     ) in
     ap (λ (e : Option End). done (record (state c p) { ending = e }) (Replied reply.Closed)) is
     ∙ ap (λ (o : Option Tunnel). done (record x { tunnels = tunnels_of o }) (Replied reply.Closed)) live
@@ -223,6 +228,7 @@ closes_none c d said cl s stands some =
       by_due : (f : machine.Front) (live : Bool) (dues : List Due) → is_some (done (record y { ending = None; due = dues }) (Replied reply.Closed)) ≡ true → IsDue None f live None dues → closing None None dues ≡ None → ⊥
       by_due f live [] some h cl = cc
       by_due (Head bytes) live (d ∷ ds) some h cl = let e = h.2 in cc
+      by_due (OverHttp2 state) live (d ∷ ds) some h cl = h
       by_due OverHttp1 live (due.Do (act.Bind i goal) ∷ ds) some h cl = cc
       by_due OverHttp1 live (due.Do (act.Open i goal) ∷ ds) some h cl = h
       by_due OverHttp1 live (due.Do (act.Refuse i status rule) ∷ ds) some h cl = cc

@@ -10,7 +10,7 @@ use Rattle.mq_talk.specs.declared.note.Note.{Note}
 use Rattle.mq_talk.specs.declared.note.Note.TheVariants as note
 use Rattle.mq_machine.specs.declared.act.Due.{Due}
 use Rattle.mq_machine.specs.State as machine
-use Rattle.mq_machine.specs.State.{Waiting, Head, OverHttp1}
+use Rattle.mq_machine.specs.State.{Waiting, Head, OverHttp1, OverHttp2}
 use Rattle.mq_machine.specs.Steps.{framed, framed_front, framed_by, can_frame, can_go_on, tunnels_from, settled_note, set_waiting, frame_size, framing}
 use Rattle.std.proofs.lemmas.Bool.Decides.{nat_tests}
 use Rattle.mq_machine.specs.Settle.{settle}
@@ -21,6 +21,7 @@ use Rattle.mq_conn.specs.declared.queue.Packet.{Packet}
 use Rattle.mq_conn.specs.Conns.{IsConn, IsDue, IsUdpTunnel, Past, Refuses, state, tunnels_of}
 use Rattle.mq_conn.specs.Frames.{Framed, PutsFirst, PopsFirst}
 use Rattle.mq_conn.specs.Queues.{waiting_of}
+use Rattle.mq_conn.proofs.Fronts.{plain_front}
 use Rattle.mq_conn.proofs.Acting.{settles, owed_more, given_more}
 use Rattle.mq_conn.proofs.QueueLists.{capsule_length}
 use Rattle.mq_conn.proofs.Took.{goes_on}
@@ -48,6 +49,7 @@ le_zero n = grind (arith, nat_tests)
 live_front : (f : machine.Front) (live : Bool) (fi : Option First) (dues : List Due) → IsDue None f live fi dues → live ≡ true → f ≡ OverHttp1
 live_front (Head bytes) live fi dues h is = let e = h.0 in absurd cc
 live_front OverHttp1 live fi dues h is = refl
+live_front (OverHttp2 state) live fi dues h is = absurd h
 
 -- it is framed
 framed_so : (y : machine.Conn) (t : Tunnel) (packet : Packet) (rest : List Waiting) → y.front ≡ OverHttp1 → y.tunnels ≡ record { id = t.id; stream = 0; goal = t.goal; waiting = waiting_of packet ∷ rest } ∷ [] → can_go_on y ≡ true
@@ -135,7 +137,7 @@ frames c d said f s stands =
         begun = stands.begun;
       }),
       ap framed same ∙ framed_so y t f.p f.rest front refl (subst C same can)
-          ∙ ap (λ (z : machine.Conn). Some (note.Delivered f.p.from f.p.n t.id f.p.packet, z)) (settles c.ending p.front (is_some c.tunnel) c.first c.due (state e q) stands.due)
+          ∙ ap (λ (z : machine.Conn). Some (note.Delivered f.p.from f.p.n t.id f.p.packet, z)) (settles c.ending p.front (is_some c.tunnel) c.first c.due (state e q) stands.due (plain_front c s stands))
           ∙ ap (λ (n : Note). Some (n, state e q)) (sym f.said_is),
     )
 

@@ -33,7 +33,7 @@ use Rattle.mq_machine.specs.declared.act.Due.TheVariants as due
 use Rattle.mq_machine.specs.declared.setup.Setup.{Setup}
 use Rattle.mq_machine.specs.Reading.{HeadBrings, Request, Leads, Refused, PathMeans, MatchedMeans, content_of, EventsAsk, on_stream}
 use Rattle.mq_machine.specs.State as machine
-use Rattle.mq_machine.specs.State.{Stream, Head as InHead, OverHttp1}
+use Rattle.mq_machine.specs.State.{Stream, Head as InHead, OverHttp1, OverHttp2}
 use Rattle.mq_conn.specs.declared.front.DataStream.{DataStream}
 use Rattle.mq_conn.specs.declared.front.Front.{Front}
 use Rattle.mq_conn.specs.declared.front.Front.TheVariants as front
@@ -187,6 +187,7 @@ leads_so setup reader bytes behind path k used before after g new is cut means r
 pub data_so : (setup : Setup) (old new : DataStream) (bytes : List ℕ) (before after : List Due) (f : machine.Front) (streams : List Stream) → ReadsData old bytes before after new → IsRead (front.Data old) None f streams
     → ReadTo setup f streams bytes before after (front.Data new)
 data_so setup old new bytes before after (InHead known) streams reads is = absurd is
+data_so setup old new bytes before after (OverHttp2 state) streams reads is = absurd is
 data_so setup old new bytes before after OverHttp1 streams reads is =
     let r = reads setup.mtu is.addr is.port is.bytes is.items is.stands is.items_are is.next in
     let P : List Stream → Type 0 = λ ss. ReadTo setup OverHttp1 ss bytes before after (front.Data new) in
@@ -205,6 +206,7 @@ data_so setup old new bytes before after OverHttp1 streams reads is =
 
 pub shut_so : (setup : Setup) (bytes : List ℕ) (before : List Due) (f : machine.Front) (streams : List Stream) → IsRead front.Shut None f streams → ReadTo setup f streams bytes before before front.Shut
 shut_so setup bytes before (InHead known) streams is = absurd is
+shut_so setup bytes before (OverHttp2 state) streams is = absurd is
 shut_so setup bytes before OverHttp1 streams is =
     let P : List Stream → Type 0 = λ ss. ReadTo setup OverHttp1 ss bytes before before front.Shut in
     subst P (sym is) (record {

@@ -21,10 +21,10 @@ use Rattle.mq_machine.specs.declared.act.StreamAct.TheVariants as stream
 use Rattle.mq_machine.specs.declared.act.Due.{Due}
 use Rattle.mq_machine.specs.declared.act.Due.TheVariants as due
 use Rattle.mq_machine.specs.Done.{Done, done, stream_done, tunnel_done, first_waiting}
-use Rattle.mq_machine.specs.Settle.{passing}
+use Rattle.mq_machine.specs.Settle.{passing, settled}
 use Rattle.mq_machine.specs.Silent.{tunnels_after}
 use Rattle.mq_machine.specs.State as machine
-use Rattle.mq_machine.specs.State.{Stream, Head, OverHttp1, tunnel_on, kind_of, is_packet}
+use Rattle.mq_machine.specs.State.{Stream, Head, OverHttp1, OverHttp2, tunnel_on, kind_of, is_packet}
 use Rattle.mq_machine.specs.Steps.{settled_note, starved}
 use Rattle.mq_machine.specs.Want.{Answer, Replied, Want, Nothing, Say, Bind, Ask, Judge, Push, Send, Over, want_of}
 use Rattle.mq_conn.specs.declared.conn.Conn.{Conn}
@@ -33,6 +33,7 @@ use Rattle.mq_conn.specs.declared.conn.First.TheVariants as first
 use Rattle.mq_conn.specs.declared.conn.Tunnel.{Tunnel}
 use Rattle.mq_conn.specs.Conns.{IsConn, IsDue, IsUdp, Does, Keeps, Hears, HearsNone, Past, state, behind, given_up, tunnels_of, heard}
 use Rattle.mq_conn.proofs.Standing.{shut, gives_up}
+use Rattle.mq_conn.proofs.Fronts.{plain_front}
 use Rattle.mq_conn.proofs.Acting.{acting, done_acting, does_so, begins, passes, due_from, owed_more, given_more, refused_conn, history_full, want_acting}
 
 -- ---- no answer to it
@@ -55,6 +56,7 @@ opens_by y (Some why) g live fi dues id routes h some = ending y.tunnels some wh
 opens_by y None (Head bytes) live (Some f) dues id routes h some = let e = h.1 in absurd cc
 opens_by y None (Head bytes) live None [] id routes h some = absurd cc
 opens_by y None (Head bytes) live None (d ∷ dues) id routes h some = let e = h.2 in absurd cc
+opens_by y None (OverHttp2 state) live fi dues id routes h some = absurd h
 opens_by y None OverHttp1 live (Some (first.Open goal waiting)) dues id routes h some = (goal, waiting, refl)
 opens_by y None OverHttp1 live (Some (first.Close reason)) dues id routes h some =
     absurd (none_of (record y { ending = None; front = OverHttp1; due = dues }) (tunnel_on (record y { ending = None; front = OverHttp1; due = dues }) 0) (stream.Close reason) (Replied (reply.Opened id routes)) (λ t. refl) some)
@@ -113,7 +115,7 @@ opened c id goal waiting routes is = does_so c _ (Replied (reply.Opened id route
     let y : machine.Conn = record (acting c p d c.due) { out = p.out ++ text; due = c.due } in
     let said = note.Opened id c.number 0 (kind_of goal) in
     let with : List machine.Waiting → machine.Conn = λ ws. record y { tunnels = record { id = id; stream = 0; goal = goal; waiting = ws } ∷ [] } in
-    let Z : List machine.Waiting → Option (Note × machine.Conn) = λ ws. Some (said, passing c.due (with ws)) in
+    let Z : List machine.Waiting → Option (Note × machine.Conn) = λ ws. Some (said, settled (passing c.due (with ws))) in
     let first_of : machine.Conn → Option (Note × machine.Conn) = λ x. done x (Replied (reply.Opened id routes)) in (
       state e q,
       record {
@@ -130,7 +132,7 @@ opened c id goal waiting routes is = does_so c _ (Replied (reply.Opened id route
           ∙ ap (λ (o : Option Tunnel). first_of (record (acting c p d c.due) { tunnels = tunnels_of o })) none
           ∙ ap Z (ap (λ k. first_waiting k routes) udp)
           ∙ ap Z (sym f.2)
-          ∙ ap (λ (z : machine.Conn). Some (said, z)) (passes true c.due (with waiting) f.3)
+          ∙ ap (λ (z : machine.Conn). Some (said, settled z)) (passes true c.due (with waiting) f.3)
           ∙ ap (λ (x : Option End). Some (said, record (with waiting) { ending = x })) (sym b.acts.ending)
           ∙ ap (λ (g : machine.Front). Some (said, record (with waiting) { ending = c.ending; front = g })) (sym b.acts.front),
     ))
@@ -155,7 +157,7 @@ opened_none c id goal waiting routes is s stands some =
         is = ap (λ (w : Want). record base { tunnels = tunnels_after w (Replied (reply.Opened id routes)) (tunnels_of c.tunnel) }) (want_acting c p d c.due b.acts)
             ∙ ap (λ (o : Option Tunnel). record base { tunnels = tunnels_of o ++ record { id = id; stream = 0; goal = goal; waiting = [] } ∷ [] }) none
             ∙ ap (λ (ws : List machine.Waiting). record base { tunnels = record { id = id; stream = 0; goal = goal; waiting = ws } ∷ [] }) (sym f.2);
-        read = shut end.NoMemory p.front;
+        read = shut end.NoMemory p.front (plain_front c s stands);
         owed = stands.owed;
         given = stands.given;
         due = (refl, refl);

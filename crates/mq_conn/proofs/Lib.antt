@@ -1,5 +1,6 @@
 mod QueueLists
 mod ItemLists
+pub mod Fronts
 mod Standing
 mod Acting
 mod Hearing

@@ -14,7 +14,7 @@ use Rattle.mq_machine.specs.declared.act.Due.TheVariants as due
 use Rattle.mq_machine.specs.Done.{Done, done, done_by, tunnel_done, act_done, ending_done}
 use Rattle.mq_machine.specs.Settle.{settle, gives_up}
 use Rattle.mq_machine.specs.State as machine
-use Rattle.mq_machine.specs.State.{Head, OverHttp1, tunnel_on}
+use Rattle.mq_machine.specs.State.{Head, OverHttp1, OverHttp2, tunnel_on}
 use Rattle.mq_machine.specs.Want.{Want, Nothing, Say, Bind, Ask, Judge, Push, Send, Over, Answer, Said, Bound, Replied, Judged, Pushed, Put, act_want, want_by, want_of, tunnel_want, over_want}
 use Rattle.mq_conn.specs.declared.conn.Conn.{Conn}
 use Rattle.mq_conn.specs.declared.conn.First.{First}
@@ -42,11 +42,13 @@ AsksUdp (act.OfStream id a) = IsAsked a
 
 first_asks : (f : machine.Front) (live : Bool) (fi : First) (dues : List Due) → IsDue None f live (Some fi) dues → AsksUdp (act_of fi)
 first_asks (Head bytes) live fi dues h = let e = h.1 in absurd cc
+first_asks (OverHttp2 state) live fi dues h = absurd h
 first_asks OverHttp1 live (first.Open goal waiting) dues h = tt
 first_asks OverHttp1 live (first.Close reason) dues h = h.1
 
 due_asks : (f : machine.Front) (live : Bool) (a : Act) (dues : List Due) → IsDue None f live None (due.Do a ∷ dues) → AsksUdp a
 due_asks (Head bytes) live a dues h = let e = h.2 in absurd cc
+due_asks (OverHttp2 state) live a dues h = absurd h
 due_asks OverHttp1 live (act.Bind id goal) dues h = tt
 due_asks OverHttp1 live (act.Open id goal) dues h = tt
 due_asks OverHttp1 live (act.Refuse id status rule) dues h = tt

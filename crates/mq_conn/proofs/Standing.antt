@@ -4,7 +4,8 @@ use Rattle.std.specs.Option.{is_some}
 use Rattle.mq_talk.specs.declared.note.End.{End}
 use Rattle.mq_talk.specs.declared.note.End.TheVariants as end
 use Rattle.mq_machine.specs.State as machine
-use Rattle.mq_machine.specs.State.{Head, OverHttp1}
+use Rattle.mq_machine.specs.Laws.{IsPlain}
+use Rattle.mq_machine.specs.State.{Head, OverHttp1, OverHttp2}
 use Rattle.mq_machine.specs.Steps.{starved}
 use Rattle.mq_conn.specs.declared.conn.Conn.{Conn}
 use Rattle.mq_conn.specs.declared.front.Front.TheVariants as front
@@ -12,10 +13,12 @@ use Rattle.mq_machine.specs.declared.act.Due.{Due}
 use Rattle.mq_conn.specs.Closing.{is_spent}
 use Rattle.mq_conn.specs.declared.conn.First.{First}
 use Rattle.mq_conn.specs.Conns.{IsConn, IsDue, IsRead, Keeps, Refuses, Starves, given_up}
+use Rattle.mq_conn.proofs.Fronts.{plain_front}
 
-pub shut : (why : End) (f : machine.Front) → IsRead front.Shut (Some why) f []
-shut why (Head bytes) = refl
-shut why OverHttp1 = refl
+pub shut : (why : End) (f : machine.Front) → IsPlain f → IsRead front.Shut (Some why) f []
+shut why (Head bytes) h = refl
+shut why OverHttp1 h = refl
+shut why (OverHttp2 state) h = absurd h
 
 pub gives_up : (c : Conn) (why : End) (s : machine.Conn) → IsConn c s → IsConn (given_up c why) (record s { due = []; streams = []; ending = Some why })
 gives_up c why s stands =
@@ -24,7 +27,7 @@ gives_up c why s stands =
     subst P (sym stands.is) (record {
       past = record p { streams = [] };
       is = refl;
-      read = shut why p.front;
+      read = shut why p.front (plain_front c s stands);
       owed = stands.owed;
       given = stands.given;
       due = (refl, refl);

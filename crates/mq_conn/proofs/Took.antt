@@ -21,6 +21,7 @@ use Rattle.mq_conn.specs.declared.conn.Tunnel.{Tunnel}
 use Rattle.mq_conn.specs.declared.front.Front.{Front}
 use Rattle.mq_conn.specs.Conns.{IsConn, IsRead, IsDue, IsAsked, Follows, FollowsFirst, Past, state, behind, act_of, tunnel_is, tunnels_of}
 use Rattle.mq_conn.specs.Feeding.{Reads}
+use Rattle.mq_conn.proofs.Fronts.{plain}
 use Rattle.mq_conn.proofs.Acting.{acting, begins, pops, want_acting, some_live, settles}
 
 both : (a b : Bool) → (a && b) ≡ true → (a ≡ true) × (b ≡ true)
@@ -143,6 +144,6 @@ took c setup piece s new dues stands can udp some reads =
         asks = r.asks (tunnels_of c.tunnel);
         new_is = ap (λ (ds : List Due). record x { due = ds }) fronted
             ∙ ap (λ (o : List ℕ). record x { due = r.acts; out = o }) (sym (append-nil p.out))
-            ∙ sym (settles None r.front live None r.acts (record x { due = r.acts; out = p.out ++ [] }) follows);
+            ∙ sym (settles None r.front live None r.acts (record x { due = r.acts; out = p.out ++ [] }) follows (plain new None r.front r.others r.read));
       }),
     )

@@ -32,7 +32,7 @@ use Rattle.mq_talk.specs.declared.place.Parcel.{Parcel}
 use Rattle.mq_machine.specs.Want.{Answer, Push, Put, Replied, Send, want_of}
 use Rattle.mq_machine.specs.Cores.{Answered, MayAnswer}
 use Rattle.mq_machine.specs.State as machine
-use Rattle.mq_machine.specs.State.{Stream, Head as InHead, OverHttp1}
+use Rattle.mq_machine.specs.State.{Stream, Head as InHead, OverHttp1, OverHttp2}
 use Rattle.mq_conn.specs.declared.conn.Conn.{Conn}
 use Rattle.mq_conn.specs.declared.conn.First.{First}
 use Rattle.mq_conn.specs.declared.conn.First.TheVariants as first
@@ -102,15 +102,18 @@ pub record InStream (streams : List Stream) (reader : Reader) (n : ℕ) : Type 0
   pub items_are : ItemsOf false bytes items
   pub next : n ≡ payload_count items
 
--- how far the bytes were read
+-- how far the bytes were read; they are those of HTTP/1.1
 abbrev pub IsRead : Front → Option End → machine.Front → List Stream → Type 0
 IsRead (Head reader) ending (InHead bytes) streams = IsHeadOf reader bytes × (streams ≡ [])
 IsRead (Head reader) ending OverHttp1 streams = ⊥
+IsRead (Head reader) ending (OverHttp2 h) streams = ⊥
 IsRead (Data d) ending (InHead bytes) streams = ⊥
 IsRead (Data d) ending OverHttp1 streams = InStream streams d.reader d.n
+IsRead (Data d) ending (OverHttp2 h) streams = ⊥
 IsRead Shut None (InHead bytes) streams = ⊥
 IsRead Shut (Some why) (InHead bytes) streams = streams ≡ []
 IsRead Shut ending OverHttp1 streams = streams ≡ []
+IsRead Shut ending (OverHttp2 h) streams = ⊥
 
 -- what may be asked of a tunnel for UDP by its data stream
 abbrev pub IsAsked : StreamAct → Type 0
@@ -145,12 +148,14 @@ abbrev pub IsDue : Option End → machine.Front → Bool → Option First → Li
 IsDue (Some why) front live first dues = (first ≡ None) × (dues ≡ [])
 IsDue None (InHead bytes) live first dues = (live ≡ false) × (first ≡ None) × (dues ≡ [])
 IsDue None OverHttp1 live first dues = FollowsFirst live first dues
+IsDue None (OverHttp2 h) live first dues = ⊥
 
 -- whether a byte of the head was read
 abbrev pub IsBegun : Bool → machine.Front → Type 0
 IsBegun begun (InHead []) = begun ≡ false
 IsBegun begun (InHead (b ∷ bytes)) = begun ≡ true
 IsBegun begun OverHttp1 = Unit {0}
+IsBegun begun (OverHttp2 h) = Unit {0}
 
 -- The core stands for this state: a connection of HTTP/1.1, whose tunnel is for UDP.
 pub record IsConn (c : Conn) (s : machine.Conn) : Type 0 where

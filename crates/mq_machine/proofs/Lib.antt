@@ -5,3 +5,4 @@ pub mod Told
 pub mod Readings
 pub mod Quiets
 pub mod Samples
+mod Frames

@@ -28,14 +28,14 @@ use Rattle.mq_talk.specs.Answers.{IsAnswer}
 use Rattle.mq_talk.specs.Judging.{IsJudged}
 use Rattle.mq_talk.specs.Mails.{box_at, has_room}
 use Rattle.mq_talk.specs.Packets.{flow_of}
-use Rattle.mq_machine.specs.State.{Conn, Tunnel, Port, Held, Orders, Worker, Pump, Shared, State, Stream, held_of, tunnel_of, tunnel_on, owed, values}
+use Rattle.mq_machine.specs.State.{Conn, Tunnel, Port, Held, Orders, Worker, Pump, Shared, State, Stream, Front, Head, OverHttp1, OverHttp2, held_of, tunnel_of, tunnel_on, owed, values}
 use Rattle.mq_machine.specs.Want.{Want, Nothing, Say, Bind, Ask, Judge, Push, Send, Over, Answer, Said, Bound, Replied, Judged, Pushed, want_of, want_by, due_want, act_want, tunnel_want, stream_want, ending_want, over_want, most_values}
 use Rattle.mq_machine.specs.Settle.{gives_up}
 use Rattle.mq_machine.specs.Done.{done, done_by, due_done, act_done, tunnel_done, stream_done, ending_done, dropped, sent, Done}
 use Rattle.mq_machine.specs.Shared.{Answers, PortsAnswer, Ordered, port_of, port_answer, asked_by, inbox_of}
 use Rattle.mq_talk.specs.declared.note.Why.TheVariants as why
 use Rattle.mq_machine.specs.Steps.{can_read, framed, failed, port_failed}
-use Rattle.mq_machine.specs.Reading.{EndsIn, stream_of}
+use Rattle.mq_machine.specs.Reading.{EndsIn, EndsBy, stream_of}
 use Rattle.mq_machine.specs.Turn.{Try, Act, Frame, Write, Read, Receive, can_try, can_take, can_receive_on, has_turn, turn_of, can_act, Seat, Offers, Inbox, Of, SeatNext, WorkerActs, Actor, WorkerOf, ThePump, Turn, try_of, tries_of, ring_from, seats_of, accepted, with_held, with_conn, frame_done, write_done, most_read, OwnNext, TakesNext, WriteNext, ReadNext, PortNext, ReceiveNext, TryNext, write_failed, read_failed, receive_failed, received_from, can_do, send_waits, over_or, ActNext, HeldDone, PumpTry, PushHeld, SendHeld, SendNext, Receives, can_pump, pump_try, PumpNext, IsReceived, IsMet, net_judged, last_of, PumpActs, net_popped}
 use Rattle.mq_machine.specs.Laws.{ReadsAlways, SaysSome}
 
@@ -342,8 +342,13 @@ module _ (reads : ReadsAlways) (setup : Setup) (sh : Shared) (some : SaysSome sh
     by_inside None none = none false refl
     by_inside (Some s) none = none false (λ inside. none true inside)
 
+    by_front : (front : Front) → ((inside : Bool) → EndsBy front h.conn.streams inside → ⊥) → ⊥
+    by_front (Head bytes) none = by_inside (stream_of h.conn.streams 0) none
+    by_front OverHttp1 none = by_inside (stream_of h.conn.streams 0) none
+    by_front (OverHttp2 state) none = none false (λ begun. none true begun)
+
     by_pieces : (pieces : List (List ℕ)) → can_read h.conn ≡ true → ((n : Note) (new : Option Held) → TakesNext setup h pieces n new → ⊥) → ⊥
-    by_pieces [] can none = by_inside (stream_of h.conn.streams 0) (λ inside ends. none _ _ (record { inside = inside; ends = ends; is = refl }))
+    by_pieces [] can none = by_front h.conn.front (λ inside ends. none _ _ (record { inside = inside; ends = ends; is = refl }))
     by_pieces (first ∷ others) can none = reads setup h.conn (take most_read first) can (λ conn t. none _ _ (record { conn = conn; took = t; note_is = refl; new_is = refl }))
 
     by_failure : (b : Bool) → can_read h.conn ≡ true → (Acts sh (λ a n c s. ReadNext b setup h sh a n c s) → ⊥) → ⊥

@@ -4,6 +4,10 @@ use Rattle.mq_addr.specs.declared.kind.Kind.{Kind}
 use Rattle.mq_addr.specs.declared.kind.Kind.TheVariants as kind
 use Rattle.mq_capsule.specs.declared.item.Item.{Item}
 use Rattle.mq_capsule.specs.Laws.{IsReadOnce}
+use Rattle.mq_h2.specs.declared.event.StreamEvent as http2
+use Rattle.mq_h2.specs.declared.event.StreamEvent.TheVariants as frame_event
+use Rattle.mq_h2.specs.Laws.{IsOneRead}
+use Rattle.mq_h2.specs.State as h2
 use Rattle.mq_head.specs.declared.step.HeadStep.{HeadStep}
 use Rattle.mq_head.specs.declared.step.HeadStep.TheVariants.{More, Upgrade, Refuse}
 use Rattle.mq_head.specs.Laws.{OneAnswer}
@@ -15,9 +19,10 @@ use Rattle.mq_target.specs.Laws.{HasOneReading}
 use Rattle.mq_machine.specs.declared.act.StreamAct.{StreamAct}
 use Rattle.mq_machine.specs.declared.act.Due.{Due}
 use Rattle.mq_machine.specs.declared.setup.Setup.{Setup}
+use Rattle.mq_machine.specs.Http2 as request
 use Rattle.mq_machine.specs.Settle.{settle}
-use Rattle.mq_machine.specs.State.{Conn, Stream, Tunnel, Front, Head, OverHttp1, kind_of}
-use Rattle.mq_machine.specs.Reading.{Meaning, Leads, Refused, decided, MatchedMeans, PathMeans, StreamEvent, Request, Malformed, Content, Reset, ConnectionError, EndsWith, BytesAsk, has_values, payload_count, acts_of, then_acts, on_stream, mark_of, stream_of, ContentAsks, EventAsks, EventsAsk, content_of, StepBrings, Brings, TookNext}
+use Rattle.mq_machine.specs.State.{Conn, Stream, Tunnel, Front, Head, OverHttp1, OverHttp2, kind_of}
+use Rattle.mq_machine.specs.Reading.{Meaning, Leads, Refused, decided, MatchedMeans, PathMeans, StreamEvent, Request, Malformed, Content, Reset, ConnectionError, EndsWith, BytesAsk, has_values, payload_count, acts_of, then_acts, on_stream, mark_of, stream_of, ContentAsks, EventAsks, EventsAsk, content_of, StepBrings, KindMeans, EventBrings, EventsBring, FramesBring, Brings, TookNext}
 use Rattle.mq_machine.specs.Laws.{IsToldSetup}
 
 -- what is known of the readers
@@ -26,6 +31,7 @@ pub record Known : Type 0 where
   pub capsules : IsReadOnce
   pub reading : HasOneReading
   pub decision : HasOneDecision
+  pub frames : IsOneRead
 
 -- ---- what events ask for
 
@@ -96,9 +102,37 @@ one_head known setup told before bytes (Refuse status) e f a b x y = (x.0 ∙ sy
 one_head known setup told before bytes (Upgrade kind path used) e f a b x y =
     (x.2 ∙ ap (λ m. Request 0 m false ∷ content_of (drop used bytes)) (one_meaning known setup told kind path x.0 y.0 x.1 y.1) ∙ sym y.2, x.3 ∙ sym y.3)
 
+one_of_kind : Known → (setup : Setup) → IsToldSetup setup → (kind : Option Kind) (path : List ℕ) (a b : Meaning) → KindMeans setup kind path a → KindMeans setup kind path b → a ≡ b
+one_of_kind known setup told None path a b x y = x ∙ sym y
+one_of_kind known setup told (Some kind) path a b x y = one_meaning known setup told kind path a b x y
+
+one_told : Known → (setup : Setup) → IsToldSetup setup → (f : http2.StreamEvent) (a b : StreamEvent) → EventBrings setup f a → EventBrings setup f b → a ≡ b
+one_told known setup told (frame_event.Request id fields ends) a b x y =
+    x.2 ∙ ap (λ m. Request id m ends) (one_of_kind known setup told (request.kind_of fields) (request.path_of fields) x.0 y.0 x.1 y.1) ∙ sym y.2
+one_told known setup told (frame_event.Malformed id code) a b x y = x ∙ sym y
+one_told known setup told (frame_event.Content id bytes size ends) a b x y = x ∙ sym y
+one_told known setup told (frame_event.Reset id code) a b x y = x ∙ sym y
+one_told known setup told (frame_event.ConnectionError code) a b x y = x ∙ sym y
+
+all_told : Known → (setup : Setup) → IsToldSetup setup → (fs : List http2.StreamEvent) (a b : List StreamEvent) → EventsBring setup fs a → EventsBring setup fs b → a ≡ b
+all_told known setup told [] a b x y = x ∙ sym y
+all_told known setup told (f ∷ fs) a b x y =
+    x.4 ∙ ap (λ e. e ∷ x.1) (one_told known setup told f x.0 y.0 x.2 y.2) ∙ ap (λ (es : List StreamEvent). y.0 ∷ es) (all_told known setup told fs x.1 y.1 x.3 y.3) ∙ sym y.4
+
+one_frames : Known → (setup : Setup) → IsToldSetup setup → (old : h2.State) (bytes : List ℕ) (e f : List StreamEvent) (s t : List ℕ) (a b : Front)
+    → FramesBring setup old bytes e s a → FramesBring setup old bytes f t b → (e ≡ f) × (s ≡ t) × (a ≡ b)
+one_frames known setup told old bytes e f s t a b x y =
+    let read = known.frames old bytes x.told y.told x.next y.next x.reads y.reads in
+    let P : List http2.StreamEvent → Type 0 = λ fs. EventsBring setup fs f in (
+      all_told known setup told x.told e f x.brings (subst P (sym read.0) y.brings),
+      x.text_is ∙ ap (λ (h : h2.State). h.out) read.1 ∙ sym y.text_is,
+      x.new_is ∙ ap (λ (h : h2.State). OverHttp2 (record h { out = [] })) read.1 ∙ sym y.new_is,
+    )
+
 one_read : Known → (setup : Setup) → IsToldSetup setup → (old : Front) (bytes : List ℕ) (e f : List StreamEvent) (s t : List ℕ) (a b : Front)
     → Brings setup old bytes e s a → Brings setup old bytes f t b → (e ≡ f) × (s ≡ t) × (a ≡ b)
 one_read known setup told OverHttp1 bytes e f s t a b x y = (x.0 ∙ sym y.0, x.1 ∙ sym y.1, x.2 ∙ sym y.2)
+one_read known setup told (OverHttp2 h) bytes e f s t a b x y = one_frames known setup told h bytes e f s t a b x y
 one_read known setup told (Head before) bytes e f s t a b x y =
     let P : HeadStep → Type 0 = λ step. StepBrings setup before bytes step f b in
     let step = known.answer before bytes x.0.0 y.0.0 x.0.1 y.0.1 in

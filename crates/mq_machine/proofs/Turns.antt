@@ -5,7 +5,8 @@ use Rattle.mq_talk.specs.declared.place.Origin.TheVariants as origin
 use Rattle.mq_talk.specs.declared.note.Note.{Note}
 use Rattle.mq_talk.specs.declared.place.Parcel.{Parcel}
 use Rattle.mq_machine.specs.declared.setup.Setup.{Setup}
-use Rattle.mq_machine.specs.State.{Conn, Port, Held, Orders, Worker, Pump, Shared, State, Stream, tunnel_of}
+use Rattle.mq_machine.specs.State.{Conn, Port, Held, Orders, Worker, Pump, Shared, State, Stream, Front, Head, OverHttp1, OverHttp2, tunnel_of}
+use Rattle.mq_h2.specs.State as http2
 use Rattle.mq_machine.specs.Want.{Want, Say, Bind, Ask, Judge, Push, Send, Over, Answer, Said, Bound, Replied, Judged, Pushed, Put, want_of}
 use Rattle.std.specs.Prelude.{◌+◌, nat_lt}
 use Rattle.std.specs.Bool.{MatchBool}
@@ -21,7 +22,7 @@ use Rattle.mq_talk.specs.Mails.{box_at}
 use Rattle.mq_talk.specs.Packets.{flow_of}
 use Rattle.mq_machine.specs.Shared.{Answers, Asks, PortsAnswer, Ordered, port_of, asked_by}
 use Rattle.mq_machine.specs.Steps.{finished}
-use Rattle.mq_machine.specs.Reading.{EndsIn, stream_of}
+use Rattle.mq_machine.specs.Reading.{EndsIn, EndsInFrames, EndsBy, stream_of}
 use Rattle.mq_outside.specs.Links.{behind}
 use Rattle.mq_machine.specs.Turn.{Try, Act, Frame, Write, Read, Receive, try_of, acted, ActNext, OwnNext, HeldDone, TakesNext, WriteNext, ReadNext, PortNext, ReceiveNext, TryNext, Seat, Offers, Inbox, Of, SeatNext, WorkerTurn, PumpTry, PushHeld, SendHeld, SendNext, Receives, PumpNext, IsReceived, IsMet, net_judged, WorkerActs, PumpActs, Actor, WorkerOf, ThePump, Turn, with_held, with_conn, popped, most_read, write_failed, read_failed, receive_failed}
 use Rattle.mq_machine.specs.Laws.{ReadsOnce, ReadsOnceIn, SaysOne}
@@ -123,11 +124,23 @@ one_inside (Some s) true false x y = absurd (y x)
 one_inside (Some s) false true x y = absurd (x y)
 one_inside (Some s) false false x y = refl
 
+-- frames end inside a frame or a header block, or don't
+one_in_frames : (h : http2.State) (i j : Bool) → EndsInFrames h i → EndsInFrames h j → i ≡ j
+one_in_frames h true true x y = refl
+one_in_frames h true false x y = absurd (y x)
+one_in_frames h false true x y = absurd (x y)
+one_in_frames h false false x y = refl
+
+one_there : (front : Front) (streams : List Stream) (i j : Bool) → EndsBy front streams i → EndsBy front streams j → i ≡ j
+one_there (Head bytes) streams i j x y = one_inside (stream_of streams 0) i j x y
+one_there OverHttp1 streams i j x y = one_inside (stream_of streams 0) i j x y
+one_there (OverHttp2 h) streams i j x y = one_in_frames h i j x y
+
 one_takes : (setup : Setup) → ReadsOnce setup → (old : Held) (pieces : List (List ℕ)) (n m : Note) (a b : Option Held)
     → TakesNext setup old pieces n a → TakesNext setup old pieces m b → (n ≡ m) × (a ≡ b)
 one_takes setup once old [] n m a b x y =
     let P : Bool → Type 0 = λ i. Some (with_conn old (finished old.conn i)) ≡ Some (m, b) in
-    let inside = one_inside (stream_of old.conn.streams 0) x.inside y.inside x.ends y.ends in
+    let inside = one_there old.conn.front old.conn.streams x.inside y.inside x.ends y.ends in
     pair_same (Some (with_conn old (finished old.conn x.inside))) n m a b x.is (subst P (sym inside) y.is)
 one_takes setup once old (first ∷ others) n m a b x y =
     let conn = once old.conn x.conn y.conn (take most_read first) x.took y.took in (

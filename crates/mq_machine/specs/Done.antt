@@ -26,9 +26,11 @@ use Rattle.mq_machine.specs.declared.act.StreamAct.{StreamAct}
 use Rattle.mq_machine.specs.declared.act.StreamAct.TheVariants as stream
 use Rattle.mq_machine.specs.declared.act.Due.{Due}
 use Rattle.mq_machine.specs.declared.act.Due.TheVariants as due
+use Rattle.mq_h2.specs.State as h2
 use Rattle.mq_machine.specs.Words.{assign_value, routes_value}
+use Rattle.mq_machine.specs.Http2 as http2
 use Rattle.mq_machine.specs.Settle.{settle}
-use Rattle.mq_machine.specs.State.{Conn, Tunnel, Stream, Waiting, Value, Front, Head, OverHttp1, kind_of, packets, tunnel_on}
+use Rattle.mq_machine.specs.State.{Conn, Tunnel, Stream, Waiting, Value, Front, Head, OverHttp1, OverHttp2, kind_of, packets, tunnel_on}
 use Rattle.mq_machine.specs.Want.{Answer, Said, Bound, Replied, Judged, Pushed, Put}
 
 abbrev pub Done : Type 0
@@ -45,14 +47,20 @@ pub record Putting : Type 0 where
 abbrev pub nothing_put : Front → Putting
 nothing_put front = record { text = []; front = front; ending = None }
 
+-- what an act put in HTTP/2, and the state behind it
+abbrev pub over_http2 : h2.State → Putting
+over_http2 h = record { text = h.out; front = OverHttp2 (record h { out = [] }); ending = None }
+
 -- no request is answered before one was read
 abbrev pub success : Front → ℕ → Kind → Putting
 success (Head bytes) stream kind = nothing_put (Head bytes)
 success OverHttp1 stream kind = record { text = http1.success_text kind; front = OverHttp1; ending = None }
+success (OverHttp2 h) stream kind = over_http2 (http2.grants stream h)
 
 abbrev pub refusal : Front → ℕ → ℕ → Putting
 refusal (Head bytes) stream status = nothing_put (Head bytes)
 refusal OverHttp1 stream status = record { text = http1.refusal_text status; front = OverHttp1; ending = Some end.Refused }
+refusal (OverHttp2 h) stream status = over_http2 (http2.refuses stream status h)
 
 -- with its tunnel a connection of HTTP/1.1 ends
 abbrev pub http1_end : Why → Option End
@@ -64,9 +72,15 @@ http1_end why.Port = Some end.Tunnel
 http1_end why.Reset = Some end.Tunnel
 http1_end why.Conn = None
 
+-- whether a part of the capsule that waits first was framed
+abbrev pub is_begun : List Waiting → Bool
+is_begun [] = false
+is_begun (w ∷ ws) = nat_lt 0 w.framed
+
 abbrev pub closing : Front → Tunnel → Why → Putting
 closing (Head bytes) t why = nothing_put (Head bytes)
 closing OverHttp1 t why = record { text = []; front = OverHttp1; ending = http1_end why }
+closing (OverHttp2 h) t why = over_http2 (http2.closes t.stream (is_begun t.waiting) why h)
 
 -- the first reason to end stands
 abbrev pub first_of : Option End → Option End → Option End

@@ -15,7 +15,7 @@ use Rattle.mq_machine.specs.declared.setup.Setup.{Setup}
 use Rattle.mq_talk.specs.Answers.{IsAnswer}
 use Rattle.mq_talk.specs.Judging.{IsJudged}
 use Rattle.mq_machine.specs.Settle.{settle}
-use Rattle.mq_machine.specs.State.{Conn, Held, held_of, Worker, Orders, Shared, State}
+use Rattle.mq_machine.specs.State.{Conn, Front, Head, OverHttp1, OverHttp2, Held, held_of, Worker, Orders, Shared, State}
 use Rattle.mq_machine.specs.Want.{Answer}
 use Rattle.mq_machine.specs.Done.{done}
 use Rattle.mq_machine.specs.Steps.{can_read}
@@ -77,9 +77,15 @@ BeginsWithAct (due.Do act ∷ rest) = ⊤
 BeginsWithAct (due.Spend stream size ∷ rest) = ⊥
 BeginsWithAct (due.Fault code ∷ rest) = ⊥
 
--- where no mark is in front, the end of an act changes nothing
+-- it has no frames
+abbrev pub IsPlain : Front → Type 0
+IsPlain (Head bytes) = ⊤
+IsPlain OverHttp1 = ⊤
+IsPlain (OverHttp2 h) = ⊥
+
+-- where there are no frames and no mark is in front, the end of an act changes nothing
 abbrev pub SettlesNothing : Type 0
-SettlesNothing = (c : Conn) → BeginsWithAct c.due → settle c ≡ c
+SettlesNothing = (c : Conn) → IsPlain c.front → BeginsWithAct c.due → settle c ≡ c
 
 -- a step of an actor that was refused memory when it had come so far leads to one state
 abbrev pub HasOneSilentTurn : Type 0

@@ -1,5 +1,6 @@
 pub mod Words
 pub mod State
+pub mod Http2
 pub mod Settle
 pub mod Want
 pub mod Done

@@ -10,9 +10,15 @@ use Rattle.mq_addr.specs.declared.range.Flow.{Flow}
 use Rattle.mq_capsule.specs.declared.item.Item.{Item}
 use Rattle.mq_capsule.specs.declared.item.Item.TheVariants as item
 use Rattle.mq_capsule.specs.Items.{ItemsOf, EndsInside}
+use Rattle.mq_h2.specs.declared.event.StreamEvent as http2
+use Rattle.mq_h2.specs.declared.event.StreamEvent.TheVariants as frame_event
+use Rattle.mq_h2.specs.Reading.{ReadTo}
+use Rattle.mq_h2.specs.Stand.{IsBegun}
+use Rattle.mq_h2.specs.State as h2
 use Rattle.mq_head.specs.declared.step.HeadStep.{HeadStep}
 use Rattle.mq_head.specs.declared.step.HeadStep.TheVariants.{More, Upgrade, Refuse}
 use Rattle.mq_head.specs.Steps.{IsStep}
+use Rattle.mq_hpack.specs.declared.field.Field.{Field}
 use Rattle.mq_policy.specs.Decisions.{Decides}
 use Rattle.mq_policy.specs.declared.decision.Decision.{Decision}
 use Rattle.mq_policy.specs.declared.decision.Decision.TheVariants.{Go, Denied, UnknownName}
@@ -32,8 +38,9 @@ use Rattle.mq_machine.specs.declared.act.Due.TheVariants as due
 use Rattle.mq_machine.specs.declared.setup.Setup.{Setup}
 use Rattle.mq_talk.specs.Packets.{flow_of}
 use Rattle.mq_machine.specs.Words.{assigned_of, asked_of, ranges_of}
+use Rattle.mq_machine.specs.Http2 as request
 use Rattle.mq_machine.specs.Settle.{settle}
-use Rattle.mq_machine.specs.State.{Conn, Stream, Tunnel, Front, Head, OverHttp1, kind_of}
+use Rattle.mq_machine.specs.State.{Conn, Stream, Tunnel, Front, Head, OverHttp1, OverHttp2, kind_of}
 use Rattle.mq_machine.specs.Steps.{can_read}
 
 -- ---- requests
@@ -57,6 +64,15 @@ MatchedMeans setup (Yes target) meaning = (decision : Decision) × Decides setup
 abbrev pub PathMeans : Setup → Kind → List ℕ → Meaning → Type 0
 PathMeans setup kind.Udp path meaning = (matched : Matched) × Matches setup.udp path matched × MatchedMeans setup matched meaning
 PathMeans setup kind.Ip path meaning = meaning ≡ Refused 501 0
+
+-- What the request of a kind comes to, or one for no tunnel.
+abbrev pub KindMeans : Setup → Option Kind → List ℕ → Meaning → Type 0
+KindMeans setup None path meaning = meaning ≡ Refused 501 0
+KindMeans setup (Some kind) path meaning = PathMeans setup kind path meaning
+
+-- what the fields of a request of HTTP/2 come to
+abbrev pub FieldsMean : Setup → List Field → Meaning → Type 0
+FieldsMean setup fields meaning = KindMeans setup (request.kind_of fields) (request.path_of fields) meaning
 
 -- ---- events
 
@@ -233,10 +249,34 @@ StepBrings setup before bytes (Upgrade kind path used) events front =
 abbrev pub HeadBrings : Setup → List ℕ → List ℕ → List StreamEvent → Front → Type 0
 HeadBrings setup before bytes events front = (step : HeadStep) × IsStep before bytes step × StepBrings setup before bytes step events front
 
+-- ---- frames
+
+-- what the core of HTTP/2 tells, with the meaning of a request
+abbrev pub EventBrings : Setup → http2.StreamEvent → StreamEvent → Type 0
+EventBrings setup (frame_event.Request id fields ends) e = (meaning : Meaning) × FieldsMean setup fields meaning × (e ≡ Request id meaning ends)
+EventBrings setup (frame_event.Malformed id code) e = e ≡ Malformed id code
+EventBrings setup (frame_event.Content id bytes size ends) e = e ≡ Content id bytes (Some size) ends
+EventBrings setup (frame_event.Reset id code) e = e ≡ Reset id
+EventBrings setup (frame_event.ConnectionError code) e = e ≡ ConnectionError code
+
+abbrev pub EventsBring : Setup → List http2.StreamEvent → List StreamEvent → Type 0
+EventsBring setup [] events = events ≡ []
+EventsBring setup (f ∷ told) events = (e : StreamEvent) × (later : List StreamEvent) × EventBrings setup f e × EventsBring setup told later × (events ≡ e ∷ later)
+
+-- the frames that end in these bytes bring events, put bytes, and lead on
+pub record FramesBring (setup : Setup) (old : h2.State) (bytes : List ℕ) (events : List StreamEvent) (text : List ℕ) (new : Front) : Type 0 where
+  pub told : List http2.StreamEvent
+  pub next : h2.State
+  pub reads : ReadTo old bytes told next
+  pub brings : EventsBring setup told events
+  pub text_is : text ≡ next.out
+  pub new_is : new ≡ OverHttp2 (record next { out = [] })
+
 -- One read: the events that it brings, in order, the bytes that are put with it, and how far the bytes were read then.
 abbrev pub Brings : Setup → Front → List ℕ → List StreamEvent → List ℕ → Front → Type 0
 Brings setup (Head before) bytes events text new = HeadBrings setup before bytes events new × (text ≡ [])
 Brings setup OverHttp1 bytes events text new = (events ≡ content_of bytes) × (text ≡ []) × (new ≡ OverHttp1)
+Brings setup (OverHttp2 h) bytes events text new = FramesBring setup h bytes events text new
 
 -- The bytes of one more read are taken.
 pub record TookNext (setup : Setup) (old : Conn) (bytes : List ℕ) (new : Conn) : Type 0 where
@@ -256,6 +296,16 @@ EndsIn None inside = inside ≡ false
 EndsIn (Some s) true = EndsInside (has_values s.goal) s.bytes
 EndsIn (Some s) false = EndsInside (has_values s.goal) s.bytes → ⊥
 
--- that of an HTTP/1.1 connection
+-- whether frames ended inside a frame or a header block
+abbrev pub EndsInFrames : h2.State → Bool → Type 0
+EndsInFrames h true = IsBegun h
+EndsInFrames h false = IsBegun h → ⊥
+
+abbrev pub EndsBy : Front → List Stream → Bool → Type 0
+EndsBy (Head bytes) streams inside = EndsIn (stream_of streams 0) inside
+EndsBy OverHttp1 streams inside = EndsIn (stream_of streams 0) inside
+EndsBy (OverHttp2 h) streams inside = EndsInFrames h inside
+
+-- whether the bytes of a connection ended inside a capsule of HTTP/1.1, or a frame or header block of HTTP/2
 abbrev pub EndsThere : Conn → Bool → Type 0
-EndsThere c inside = EndsIn (stream_of c.streams 0) inside
+EndsThere c inside = EndsBy c.front c.streams inside

@@ -11,6 +11,7 @@ use Rattle.mq_talk.specs.declared.note.End.{End}
 use Rattle.mq_talk.specs.declared.note.From.{From}
 use Rattle.mq_talk.specs.declared.place.Parcel.{Parcel}
 use Rattle.mq_outside.specs.Links.{LinkHolds, empty_link}
+use Rattle.mq_h2.specs.State as http2
 use Rattle.mq_machine.specs.declared.act.Due.{Due}
 use Rattle.mq_machine.specs.declared.setup.Setup.{Setup}
 
@@ -96,6 +97,8 @@ pub data Front : Type 0 where
   Head : (bytes : List ℕ) → Front
   -- in HTTP/1.1, a head was read
   OverHttp1 : Front
+  -- in HTTP/2, the preface was read. What is put for writing stands in the connection: this state has none.
+  OverHttp2 : (h : http2.State) → Front
 
 pub record Conn : Type 0 where
   pub number : ℕ

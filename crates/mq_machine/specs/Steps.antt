@@ -12,8 +12,9 @@ use Rattle.mq_talk.specs.declared.note.Why.TheVariants as why
 use Rattle.mq_talk.specs.declared.place.Cause.TheVariants as cause
 use Rattle.mq_machine.specs.declared.act.Act.TheVariants as act
 use Rattle.mq_machine.specs.declared.act.StreamAct.TheVariants as stream
-use Rattle.mq_machine.specs.Settle.{settle}
-use Rattle.mq_machine.specs.State.{Conn, Tunnel, Waiting, What, Packet, Value, Front, Head, OverHttp1, Port, owed, packets, waiting_bytes, tunnel_of}
+use Rattle.mq_machine.specs.Http2 as http2
+use Rattle.mq_machine.specs.Settle.{settle, put_over}
+use Rattle.mq_machine.specs.State.{Conn, Tunnel, Waiting, What, Packet, Value, Front, Head, OverHttp1, OverHttp2, Port, owed, packets, waiting_bytes, tunnel_of}
 use Rattle.mq_machine.specs.Want.{Want, Nothing, want_of}
 use Rattle.mq_machine.specs.Done.{before, with_waiting}
 
@@ -35,15 +36,17 @@ can_go_on c = is_nothing (want_of c) && nat_le (length (owed c)) most_owed && no
 
 -- ---- frames
 
--- how many of so many bytes can be framed now, all or none of them in HTTP/1.1
+-- how many of so many bytes can be framed now: all or none of them in HTTP/1.1, and in HTTP/2 those of one DATA frame
 abbrev pub frame_size : Front → ℕ → ℕ → ℕ
 frame_size (Head bytes) stream size = 0
 frame_size OverHttp1 stream size = size
+frame_size (OverHttp2 h) stream size = http2.data_room stream size h
 
 -- so many of these bytes put
 abbrev pub framing : Conn → Front → ℕ → List ℕ → ℕ → Conn
 framing c (Head bytes) stream rest count = c
 framing c OverHttp1 stream rest count = record c { out = c.out ++ take count rest }
+framing c (OverHttp2 h) stream rest count = put_over (http2.puts_data stream (take count rest) h) c
 
 abbrev pub can_frame : Conn → Tunnel → Bool
 can_frame c t = by_waiting t.waiting where
@@ -106,8 +109,9 @@ abbrev pub finish_by : Conn → Front → Bool → Conn
 finish_by c (Head []) inside = record c { ending = Some end.Done }
 finish_by c (Head (b ∷ bytes)) inside = record c { ending = Some end.Truncated }
 finish_by c OverHttp1 inside = before (act.OfStream 0 (stream.Close (if inside then why.Truncated else why.End))) c
+finish_by c (OverHttp2 h) inside = record c { ending = Some (if inside then end.Truncated else end.Done) }
 
--- The link has ended, inside a capsule of HTTP/1.1 or not.
+-- The link has ended: inside a capsule of HTTP/1.1 or not, inside a frame or header block of HTTP/2 or not.
 abbrev pub finished : Conn → Bool → Note × Conn
 finished c inside = (note.Finished c.number, settle (finish_by (record c { is_finished = true }) c.front inside))
 

@@ -2,6 +2,7 @@
 ghost use Rattle.mq_machine.specs.Laws.{StarvesOnce, BringsOnce, IsToldStep, HasOneSilentTurn, IsSilentOrQuiet, HasOneTurn, HasOneWorkerTurn, IsDoneOnce, IsQuietOrTurn, IsTurnOrQuiet, SettlesNothing};
 
 use mq_capsule::is_read_once;
+use mq_h2::one_read;
 use mq_head::one_answer;
 use mq_policy::one_decision;
 use mq_target::one_reading;
@@ -11,7 +12,7 @@ pub fn done_once()
     ensures { IsDoneOnce }
 {}
 
-/// Where no mark is in front, the end of an act changes nothing.
+/// Where there are no frames and no mark is in front, the end of an act changes nothing.
 pub fn settles_nothing()
     ensures { SettlesNothing }
 {}
@@ -56,6 +57,7 @@ pub fn brings_once()
     ensures { BringsOnce }
 {
     one_answer();
+    one_read();
     is_read_once();
     one_reading();
     one_decision();

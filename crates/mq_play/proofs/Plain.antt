@@ -1,6 +1,6 @@
 -- Connections that ask for UDP alone, as all do yet: what they do leads to such connections, and calls of the book are Opens and
 -- Closes.
-use Rattle.std.proofs.Common.{ℕ, ◌+◌, Bool, true, false, List, [], ◌∷◌, Option, Some, None, nat_le, nat_lt}
+use Rattle.std.proofs.Common.{ℕ, ◌+◌, Bool, true, false, List, [], ◌∷◌, Option, Some, None, nat_le, nat_lt, sym, subst}
 use Rattle.std.specs.Prelude.{option_map, option_and_then, ◌||◌, drop, length, if◌then◌else◌}
 use Rattle.std.specs.List.{AllByRecursion}
 use Rattle.mq_talk.specs.declared.book.Call.{Call}
@@ -25,10 +25,11 @@ use Rattle.mq_machine.specs.declared.act.StreamAct.{StreamAct}
 use Rattle.mq_machine.specs.declared.act.StreamAct.TheVariants as stream
 use Rattle.mq_machine.specs.declared.act.Due.{Due}
 use Rattle.mq_machine.specs.declared.act.Due.TheVariants as due
-use Rattle.mq_machine.specs.State.{Conn, Stream, Tunnel, Waiting, Packet, Front, Head, OverHttp1, Port, tunnel_on, tunnel_of, owed, packets, waiting_bytes}
+use Rattle.mq_machine.specs.State.{Conn, Stream, Tunnel, Waiting, Packet, Front, Head, OverHttp1, OverHttp2, Port, tunnel_on, tunnel_of, owed, packets, waiting_bytes}
 use Rattle.mq_machine.specs.Want.{Want, Ask, Over, Nothing, want_by, Answer, Said, Bound, Replied, Put, want_of, due_want, stream_want, tunnel_want, act_want, ending_want, over_want}
 use Rattle.mq_machine.specs.Done.{Done, without, refused, closed, with_waiting, sent, stream_done, tunnel_done, act_done, due_done, ending_done, done_by, done}
-use Rattle.mq_machine.specs.Settle.{passing, settle, gives_up}
+use Rattle.mq_machine.specs.Settle.{passing, spending, settle, gives_up}
+use Rattle.mq_machine.proofs.Settling.{settled_rests}
 use Rattle.mq_machine.specs.Steps.{most_packets, most_waiting, framed_front, framed_by, framing, framed, settled_note, next_framed, frame_size, wrote, finish_by, finished, failed, queued, received, port_failed}
 use Rattle.mq_play.proofs.Lists.{if_both, each_filter}
 
@@ -73,11 +74,13 @@ PlainDone (Some d) = PlainConn d.1
 plain_passing : (ds : List Due) (c : Conn) → AllByRecursion PlainDue ds → AllByRecursion PlainStream c.streams → PlainConn (passing ds c)
 plain_passing [] c h k = record { due = tt; streams = k }
 plain_passing (due.Do act ∷ rest) c h k = record { due = h; streams = k }
-plain_passing (due.Spend id size ∷ rest) c h k = plain_passing rest c h.1 k
+plain_passing (due.Spend id size ∷ rest) c h k = plain_passing rest (record c { front = spending c.front id size }) h.1 k
 plain_passing (due.Fault code ∷ rest) c h k = record { due = tt; streams = k }
 
 pub plain_settle : (c : Conn) → PlainConn c → PlainConn (settle c)
-plain_settle c h = plain_passing c.due c h.due h.streams
+plain_settle c h =
+    let passed = plain_passing c.due c h.due h.streams in
+    subst PlainConn (sym (settled_rests (passing c.due c))) (record { due = passed.due; streams = passed.streams })
 
 pub plain_settled : (o : Done) → PlainDone o → PlainDone (option_map settled_note o)
 plain_settled None h = tt
@@ -204,6 +207,7 @@ plain_want c h = plain_want_by c c.ending h
 
 plain_framing : (c : Conn) (f : Front) (id : ℕ) (rest : List ℕ) (count : ℕ) → PlainConn c → PlainConn (framing c f id rest count)
 plain_framing c (Head bytes) id rest count h = h
+plain_framing c (OverHttp2 state) id rest count h = record { due = h.due; streams = h.streams }
 plain_framing c OverHttp1 id rest count h = record { due = h.due; streams = h.streams }
 
 abbrev PlainPair : Note × Conn → Type 0
@@ -231,6 +235,7 @@ plain_wrote c count h = plain_settle (record c { given = c.given + count }) (rec
 plain_finish : (c : Conn) (f : Front) (inside : Bool) → PlainConn c → PlainConn (finish_by c f inside)
 plain_finish c (Head []) inside h = record { due = h.due; streams = h.streams }
 plain_finish c (Head (b ∷ bytes)) inside h = record { due = h.due; streams = h.streams }
+plain_finish c (OverHttp2 state) inside h = record { due = h.due; streams = h.streams }
 plain_finish c OverHttp1 inside h = record { due = (tt, h.due); streams = h.streams }
 
 pub plain_finished : (c : Conn) (inside : Bool) → PlainConn c → PlainConn (finished c inside).1

@@ -32,8 +32,11 @@ use Rattle.mq_machine.specs.declared.act.StreamAct.{StreamAct}
 use Rattle.mq_machine.specs.declared.act.Due.{Due}
 use Rattle.mq_machine.specs.declared.act.Due.TheVariants as due
 use Rattle.mq_machine.specs.declared.setup.Setup.{Setup}
-use Rattle.mq_machine.specs.State.{Conn, Stream, Tunnel, Front, Head as HeadFront, OverHttp1, kind_of}
-use Rattle.mq_machine.specs.Reading.{Meaning, Leads, Refused, decided, MatchedMeans, PathMeans, StreamEvent, Request, Malformed, Content, Reset, ConnectionError, max_udp, item_acts, is_payload, payload_count, is_close, then_acts, acts_of, on_stream, has_values, EndsWith, BytesAsk, stream_of, more_bytes, mark_of, goal_act, ended_acts, error_acts, reset_acts, ContentAsks, EventAsks, EventsAsk, content_of, StepBrings, Brings, TookNext}
+use Rattle.mq_machine.specs.State.{Conn, Stream, Tunnel, Front, Head as HeadFront, OverHttp1, OverHttp2, kind_of}
+use Rattle.mq_machine.specs.Reading.{Meaning, Leads, Refused, decided, MatchedMeans, PathMeans, StreamEvent, Request, Malformed, Content, Reset, ConnectionError, max_udp, item_acts, is_payload, payload_count, is_close, then_acts, acts_of, on_stream, has_values, EndsWith, BytesAsk, stream_of, more_bytes, mark_of, goal_act, ended_acts, error_acts, reset_acts, ContentAsks, EventAsks, EventsAsk, content_of, StepBrings, KindMeans, EventBrings, EventsBring, Brings, TookNext}
+use Rattle.mq_machine.specs.Http2 as fields_of
+use Rattle.mq_h2.specs.declared.event.StreamEvent as http2
+use Rattle.mq_h2.specs.declared.event.StreamEvent.TheVariants as frame_event
 use Rattle.mq_play.proofs.Lists.{if_both, each_append, each_behind, each_found, some_same}
 use Rattle.mq_play.proofs.Plain.{IsUdp, PlainAct, PlainDue, PlainStream, PlainConn, plain_settle}
 
@@ -244,8 +247,25 @@ plain_step setup k before bytes (Refuse status) es front x = subst AreEvents (sy
 plain_step setup k before bytes (Upgrade kind path used) es front x =
     subst AreEvents (sym x.2) (plain_request 0 x.0 false (plain_path setup k kind path x.0 x.1), plain_bytes_of (drop used bytes))
 
+plain_kind : (setup : Setup) → setup.udp.kind ≡ kind.Udp → (o : Option Kind) (path : List ℕ) (meaning : Meaning) → KindMeans setup o path meaning → PlainMeaning meaning
+plain_kind setup k None path meaning x = subst PlainMeaning (sym x) tt
+plain_kind setup k (Some asked) path meaning x = plain_path setup k asked path meaning x
+
+plain_frame : (setup : Setup) → setup.udp.kind ≡ kind.Udp → (f : http2.StreamEvent) (e : StreamEvent) → EventBrings setup f e → PlainEvent e
+plain_frame setup k (frame_event.Request id fields ends) e x =
+    subst PlainEvent (sym x.2) (plain_request id x.0 ends (plain_kind setup k (fields_of.kind_of fields) (fields_of.path_of fields) x.0 x.1))
+plain_frame setup k (frame_event.Malformed id code) e x = subst PlainEvent (sym x) tt
+plain_frame setup k (frame_event.Content id bytes size ends) e x = subst PlainEvent (sym x) tt
+plain_frame setup k (frame_event.Reset id code) e x = subst PlainEvent (sym x) tt
+plain_frame setup k (frame_event.ConnectionError code) e x = subst PlainEvent (sym x) tt
+
+plain_frames : (setup : Setup) → setup.udp.kind ≡ kind.Udp → (fs : List http2.StreamEvent) (es : List StreamEvent) → EventsBring setup fs es → AreEvents es
+plain_frames setup k [] es x = subst AreEvents (sym x) tt
+plain_frames setup k (f ∷ fs) es x = subst AreEvents (sym x.4) (plain_frame setup k f x.0 x.2, plain_frames setup k fs x.1 x.3)
+
 plain_brings : (setup : Setup) → setup.udp.kind ≡ kind.Udp → (old : Front) (bytes : List ℕ) (es : List StreamEvent) (text : List ℕ) (new : Front) → Brings setup old bytes es text new → AreEvents es
 plain_brings setup k (HeadFront before) bytes es text new x = plain_step setup k before bytes x.0.0 es new x.0.2
+plain_brings setup k (OverHttp2 state) bytes es text new x = plain_frames setup k x.told es x.brings
 plain_brings setup k OverHttp1 bytes es text new x = subst AreEvents (sym x.0) (plain_bytes_of bytes)
 
 pub plain_took : (setup : Setup) → setup.udp.kind ≡ kind.Udp → (old new : Conn) (bytes : List ℕ) → PlainConn old → TookNext setup old bytes new → PlainConn new

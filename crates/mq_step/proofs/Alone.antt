@@ -11,8 +11,11 @@ use Rattle.mq_machine.specs.declared.act.StreamAct.{StreamAct}
 use Rattle.mq_machine.specs.declared.act.StreamAct.TheVariants as stream
 use Rattle.mq_machine.specs.declared.act.Due.{Due}
 use Rattle.mq_machine.specs.declared.act.Due.TheVariants as due
-use Rattle.mq_machine.specs.Settle.{gives_up, passing}
-use Rattle.mq_machine.specs.State.{Conn, Tunnel, Front, Head, OverHttp1, owed, tunnel_on}
+use Rattle.mq_machine.specs.Settle.{gives_up, passing, settled}
+use Rattle.mq_machine.specs.Laws.{IsPlain}
+use Rattle.mq_machine.proofs.Settling.{as_it_is}
+use Rattle.mq_conn.proofs.Fronts.{plain_front}
+use Rattle.mq_machine.specs.State.{Conn, Tunnel, Front, Head, OverHttp1, OverHttp2, owed, tunnel_on}
 use Rattle.mq_machine.specs.Want.{Want, Nothing, Say, Bind, Ask, Judge, Push, Send, Over, want_of, want_by, ending_want, over_want, due_want, tunnel_want}
 use Rattle.mq_machine.specs.Steps.{is_nothing, can_go_on, wrote}
 use Rattle.mq_conn.specs.declared.conn.Conn.{Conn as Core}
@@ -71,6 +74,7 @@ shape_is : (e : Option End) (f : Front) (live : Bool) (fi : Option First) (ds : 
 shape_is (Some why) f live fi ds h = nothing_behind fi ds h.0 h.1
 shape_is None (Head bytes) live fi ds h = subst (IsFirst live) (sym (nothing_behind fi ds h.1 h.2)) tt
 shape_is None OverHttp1 live fi ds h = first_is live fi ds h
+shape_is None (OverHttp2 state) live fi ds h = absurd h
 
 -- of a state for which a core stands whose live tunnel this is
 record Stands (o : Option Live) (s : Conn) : Type 0 where
@@ -485,4 +489,7 @@ shape_settles (Some why) live ds x h = ap (λ (y : List Due). passing y x) h ∙
 
 -- a write gives bytes to the link, and changes nothing else
 pub wrote_is : (c : Core) (s : Conn) (count : ℕ) → IsConn c s → (wrote s count).1 ≡ record s { given = s.given + count }
-wrote_is c s count is = shape_settles s.ending (is_some c.tunnel) s.due (record s { given = s.given + count }) (stands_so c s is).shape
+wrote_is c s count is =
+    let x : Conn = record s { given = s.given + count } in
+    let P : Conn → Type 0 = λ y. IsPlain y.front in
+    ap settled (shape_settles s.ending (is_some c.tunnel) s.due x (stands_so c s is).shape) ∙ as_it_is s.front x (subst P (sym is.is) (plain_front c s is))

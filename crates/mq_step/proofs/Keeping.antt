@@ -1,5 +1,5 @@
 -- What an answer leaves of a connection: its number, its actor and its tunnels, and whether an opening is due.
-use Rattle.std.proofs.Common.{◌≡◌, ℕ, ◌==◌, ◌+◌, cond, Bool, true, false, not, ◌&&◌, List, [], ◌∷◌, ◌++◌, map, drop, length, nat_lt, nat_le, All, Option, Some, None, refl, ap, ◌∙◌, subst}
+use Rattle.std.proofs.Common.{◌≡◌, ℕ, ◌==◌, ◌+◌, cond, Bool, true, false, not, ◌&&◌, List, [], ◌∷◌, ◌++◌, map, drop, length, nat_lt, nat_le, All, Option, Some, None, refl, sym, ap, ◌∙◌, subst}
 use Rattle.std.specs.Prelude.{filter, find, option_map, option_and_then}
 use Rattle.std.proofs.lemmas.List.Elements.{All-cons, All-head, All-tail, All-nil, All-filter}
 use Rattle.mq_talk.specs.declared.book.Call.{Call}
@@ -23,11 +23,12 @@ use Rattle.mq_machine.specs.declared.act.StreamAct.{StreamAct}
 use Rattle.mq_machine.specs.declared.act.StreamAct.TheVariants as stream
 use Rattle.mq_machine.specs.declared.act.Due.{Due}
 use Rattle.mq_machine.specs.declared.act.Due.TheVariants as due
-use Rattle.mq_machine.specs.Settle.{settle, passing, gives_up}
-use Rattle.mq_machine.specs.State.{Conn, Tunnel, Waiting, Packet, Front, Head, OverHttp1, owed, values, kind_of, tunnel_on}
+use Rattle.mq_machine.specs.Settle.{settle, settled, passing, spending, gives_up}
+use Rattle.mq_machine.specs.State.{Conn, Tunnel, Waiting, Packet, Front, Head, OverHttp1, OverHttp2, owed, values, kind_of, tunnel_on}
 use Rattle.mq_machine.specs.Want.{Nothing, Bind, Ask, Over, Answer, Said, Bound, Replied, Put, want_of, want_by, ending_want, over_want, due_want, act_want, tunnel_want, most_values}
 use Rattle.mq_machine.specs.Done.{Done, done, done_by, due_done, act_done, tunnel_done, ending_done, first_waiting, is_on, waits, with_waiting, closed, dropped, sent}
 use Rattle.mq_machine.specs.Steps.{settled_note, is_nothing, is_ending, can_go_on, most_owed, can_frame, tunnels_from, framed, framed_front, framed_by, framing, frame_size, whole_note, next_framed, set_waiting, wrote, finished, finish_by, queued, port_failed}
+use Rattle.mq_machine.proofs.Settling.{settled_rests}
 
 -- ---- openings that are due
 
@@ -72,15 +73,20 @@ pub record Kept (c t : Conn) : Type 0 where
 passing_kept : (ds : List Due) (c x : Conn) → x.number ≡ c.number → x.actor ≡ c.actor → x.tunnels ≡ c.tunnels → NoOpens ds → Kept c (passing ds x)
 passing_kept [] c x number actor tunnels opens = record { number = number; actor = actor; tunnels = tunnels; opens = no_opens_nil }
 passing_kept (due.Do a ∷ rest) c x number actor tunnels opens = record { number = number; actor = actor; tunnels = tunnels; opens = opens }
-passing_kept (due.Spend id size ∷ rest) c x number actor tunnels opens = passing_kept rest c x number actor tunnels (All-tail IsNoOpen (due.Spend id size) rest opens)
+passing_kept (due.Spend id size ∷ rest) c x number actor tunnels opens = passing_kept rest c (record x { front = spending x.front id size }) number actor tunnels (All-tail IsNoOpen (due.Spend id size) rest opens)
 passing_kept (due.Fault code ∷ rest) c x number actor tunnels opens = record { number = number; actor = actor; tunnels = tunnels; opens = no_opens_nil }
 
+settled_kept : (c x : Conn) → Kept c x → Kept c (settled x)
+settled_kept c x kept =
+    let P : Conn → Type 0 = λ y. Kept c y in
+    subst P (sym (settled_rests x)) (record { number = kept.number; actor = kept.actor; tunnels = kept.tunnels; opens = kept.opens })
+
 pub settle_kept : (c x : Conn) → Kept c x → Kept c (settle x)
-settle_kept c x kept = passing_kept x.due c x kept.number kept.actor kept.tunnels kept.opens
+settle_kept c x kept = settled_kept c (passing x.due x) (passing_kept x.due c x kept.number kept.actor kept.tunnels kept.opens)
 
 -- the end of an act alone
 pub settles : (x : Conn) → NoOpens x.due → Kept x (settle x)
-settles x opens = passing_kept x.due x x refl refl refl opens
+settles x opens = settled_kept x (passing x.due x) (passing_kept x.due x x refl refl refl opens)
 
 -- ---- what is true of the connection behind an answer
 
@@ -316,8 +322,10 @@ act_bound : (c : Conn) (rest : List Due) (a : Act) (id : ℕ) (goal : Goal) → 
     → Each (IsBoundNext c id goal) (option_map settled_note (act_done (record c { due = rest }) a (Bound true)))
 act_bound c rest (act.Bind on g) id goal ending w =
     let x : Conn = record c { due = due.Do (act.Open on g) ∷ rest } in
-    let opens : want_by x None ≡ Ask (call.Open c.number id c.actor goal) = cc in
-    (refl, refl, refl, ap (λ (e : Option End). want_by x e) ending ∙ opens)
+    let y : Conn = record x { front = (settled x).front; out = (settled x).out } in
+    let opens : want_by y None ≡ Ask (call.Open c.number id c.actor goal) = cc in
+    let P : Conn → Type 0 = λ z. IsBoundNext c id goal z in
+    subst P (sym (settled_rests x)) (refl, refl, refl, ap (λ (e : Option End). want_by y e) ending ∙ opens)
 act_bound c rest (act.Open on g) id goal ending w = tt
 act_bound c rest (act.Refuse on status rule) id goal ending w = tt
 act_bound c rest (act.Reset on code) id goal ending w = tt
@@ -492,6 +500,7 @@ framing_kept : (c : Conn) (f : Front) (id : ℕ) (rest : List ℕ) (count : ℕ)
     → IsKept c (record (framing c f id rest count) { tunnels = ts; next_tunnel = next })
 framing_kept c (Head bytes) id rest count ts next opens numbers = (refl, refl, opens, numbers)
 framing_kept c OverHttp1 id rest count ts next opens numbers = (refl, refl, opens, numbers)
+framing_kept c (OverHttp2 h) id rest count ts next opens numbers = (refl, refl, opens, numbers)
 
 framed_by_kept : (c : Conn) (t : Tunnel) (w : Waiting) (ws : List Waiting) (count : ℕ) → NoOpens c.due → IsKept c (framed_by c t w ws count).1
 framed_by_kept c t w ws count opens = by_whole (nat_le (length w.capsule) (w.framed + count)) where
@@ -542,6 +551,7 @@ wrote_keeps c count opens =
 finish_kept : (c : Conn) (f : Front) (inside : Bool) → NoOpens c.due → Kept c (finish_by (record c { is_finished = true }) f inside)
 finish_kept c (Head []) inside opens = record { number = refl; actor = refl; tunnels = refl; opens = opens }
 finish_kept c (Head (b ∷ bytes)) inside opens = record { number = refl; actor = refl; tunnels = refl; opens = opens }
+finish_kept c (OverHttp2 h) inside opens = record { number = refl; actor = refl; tunnels = refl; opens = opens }
 finish_kept c OverHttp1 inside opens = record { number = refl; actor = refl; tunnels = refl; opens = no_opens_cons _ c.due refl opens }
 
 pub finished_keeps : (c : Conn) (inside : Bool) → NoOpens c.due → Kept c (finished c inside).1

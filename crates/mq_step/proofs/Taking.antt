@@ -10,7 +10,8 @@ use Rattle.mq_machine.specs.declared.act.StreamAct.{StreamAct}
 use Rattle.mq_machine.specs.declared.act.Due.{Due}
 use Rattle.mq_machine.specs.declared.act.Due.TheVariants as due
 use Rattle.mq_machine.specs.declared.setup.Setup.{Setup}
-use Rattle.mq_machine.specs.Settle.{passing}
+use Rattle.mq_machine.proofs.Settling.{settled_rests}
+use Rattle.mq_machine.specs.Settle.{passing, spending}
 use Rattle.mq_machine.specs.State.{Conn, Tunnel, Stream, owed}
 use Rattle.mq_machine.specs.Want.{Want, Nothing, Say, Bind, Ask, Judge, Push, Send, Over, want_of, want_by, due_want}
 use Rattle.mq_machine.specs.Steps.{is_nothing, is_ending, can_go_on, can_read, most_owed, finished}
@@ -99,7 +100,7 @@ events_bound mtu ts old (e ∷ events) acts new asks =
 passing_bound : (ds : List Due) (x : Conn) → Bounds ds → Bounds (passing ds x).due
 passing_bound [] x bounds = bounds_nil
 passing_bound (due.Do a ∷ rest) x bounds = bounds
-passing_bound (due.Spend id size ∷ rest) x bounds = passing_bound rest x (All-tail IsBound (due.Spend id size) rest bounds)
+passing_bound (due.Spend id size ∷ rest) x bounds = passing_bound rest (record x { front = spending x.front id size }) (All-tail IsBound (due.Spend id size) rest bounds)
 passing_bound (due.Fault code ∷ rest) x bounds = bounds_nil
 
 abbrev Same : Conn → Conn → Type 0
@@ -108,7 +109,7 @@ Same x y = (y.number ≡ x.number) × (y.actor ≡ x.actor) × (y.tunnels ≡ x.
 passing_same : (ds : List Due) (x : Conn) → Same x (passing ds x)
 passing_same [] x = (refl, refl, refl)
 passing_same (due.Do a ∷ rest) x = (refl, refl, refl)
-passing_same (due.Spend id size ∷ rest) x = passing_same rest x
+passing_same (due.Spend id size ∷ rest) x = passing_same rest (record x { front = spending x.front id size })
 passing_same (due.Fault code ∷ rest) x = (refl, refl, refl)
 
 -- ---- what is wanted then
@@ -143,12 +144,13 @@ pub took_keeps : (setup : Setup) (c : Core) (s t : Conn) (bytes : List ℕ) → 
 took_keeps setup c s t bytes took is =
     let x : Conn = record s { front = took.front; streams = took.streams; due = took.acts; out = s.out ++ took.text } in
     let same = passing_same took.acts x in
+    let new_is = took.new_is ∙ settled_rests (passing took.acts x) in
     let bounds = passing_bound took.acts x (events_bound setup.mtu s.tunnels s.streams took.events took.acts took.streams took.asks) in
     record {
-      number = ap (λ (y : Conn). y.number) took.new_is ∙ same.0;
-      actor = ap (λ (y : Conn). y.actor) took.new_is ∙ same.1;
-      tunnels = ap (λ (y : Conn). y.tunnels) took.new_is ∙ same.2;
-      opens = none_opens c t is (wants_bound c t is (subst (λ (y : Conn). Bounds y.due) (sym took.new_is) bounds));
+      number = ap (λ (y : Conn). y.number) new_is ∙ same.0;
+      actor = ap (λ (y : Conn). y.actor) new_is ∙ same.1;
+      tunnels = ap (λ (y : Conn). y.tunnels) new_is ∙ same.2;
+      opens = none_opens c t is (wants_bound c t is (subst (λ (y : Conn). Bounds y.due) (sym new_is) bounds));
     }
 
 -- ---- a connection that can read, or go on

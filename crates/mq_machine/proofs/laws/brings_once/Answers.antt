@@ -3,5 +3,5 @@ use Rattle.mq_machine.proofs.laws.brings_once.Goals as goal
 
 pub returns : goal.returns
 returns c = λ setup told old a b bytes x y.
-    one_took (record { answer = c.one_answer.ensures; capsules = c.is_read_once.ensures; reading = c.one_reading.ensures; decision = c.one_decision.ensures })
+    one_took (record { answer = c.one_answer.ensures; capsules = c.is_read_once.ensures; reading = c.one_reading.ensures; decision = c.one_decision.ensures; frames = c.one_read.ensures })
     setup told old a b bytes x y
