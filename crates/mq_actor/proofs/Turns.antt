@@ -30,6 +30,14 @@ pub seat_part : (upper : Bool) (from number seat : ℕ) (r b : Bool) → seat �
     → is_in_part upper from (number + 2) ≡ b
 seat_part upper from number seat r b seat_is is so = ap (λ (k : ℕ). is_in_part upper from k) (sym seat_is) ∙ sym is ∙ so
 
+-- the connection at a place is one alone, which has its seat in one part
+pub part_at : {L : Type 0} (conns : List (HeldBy L)) (upper : Bool) (from place : ℕ) (held was : HeldBy L) → slice_get conns place ≡ Some held
+    → slice_get conns place ≡ Some was → InPart upper from was.number → is_in_part upper from (held.number + 2) ≡ true
+part_at {L} conns upper from place held was at at_was part =
+    let both : Some held ≡ Some was = sym at ∙ at_was in
+    let e : held ≡ was = cc in
+    ap (λ (h : HeldBy L). is_in_part upper from (h.number + 2)) e ∙ part
+
 -- ---- it wasn't tried, or did nothing
 
 -- the one at the place has its seat in the other part
@@ -128,26 +136,24 @@ module _ {L Q : Type 0} (words : Words L Q) (upper : Bool) (place : ℕ) (r mid 
         leaves = (refl, t.1, same);
       }
 
-  ended_ring : (s : Ring L) (k : ℕ) (gone now : HeldBy L) → s ≡ record mid { conns = s.conns; next_seat = k; ended = Some gone } → k ≡ held.number + 3
-      → gone ≡ now → Same → s ≡ record r { conns = s.conns; rooms = s.rooms; next_seat = held.number + 3; ended = Some now }
-  ended_ring s k gone now is seat e same =
+  ended_ring : (s : Ring L) (k : ℕ) (now : HeldBy L) → s ≡ record mid { conns = s.conns; next_seat = k; ended = s.ended } → s.ended ≡ Some now
+      → k ≡ held.number + 3 → Same → s ≡ record r { conns = s.conns; rooms = s.rooms; next_seat = held.number + 3; ended = Some now }
+  ended_ring s k now is kept seat same =
       is
-      ∙ ap {B = Ring L} (λ (x : Ring L). record x { conns = s.conns; next_seat = k; ended = Some gone }) same
-      ∙ ap {B = Ring L} (λ (j : ℕ). record r { conns = s.conns; rooms = mid.rooms; next_seat = j; ended = Some gone }) seat
-      ∙ ap {B = Ring L} (λ (h : HeldBy L). record r { conns = s.conns; rooms = mid.rooms; next_seat = held.number + 3; ended = Some h }) e
+      ∙ ap {B = Ring L} (λ (h : Option (HeldBy L)). record mid { conns = s.conns; next_seat = k; ended = h }) kept
+      ∙ ap {B = Ring L} (λ (x : Ring L). record x { conns = s.conns; next_seat = k; ended = Some now }) same
+      ∙ ap {B = Ring L} (λ (j : ℕ). record r { conns = s.conns; rooms = mid.rooms; next_seat = j; ended = Some now }) seat
       ∙ ap {B = Ring L} (λ (x : Ring L). record r { conns = s.conns; rooms = x.rooms; next_seat = held.number + 3; ended = Some now }) (sym is)
 
   -- It is over, and leaves the ring.
-  pub try_ends : (s : Ring L) (x : Stepped) (note : Note) (k : ℕ) (gone : HeldBy L) → x ≡ Ended note → k ≡ held.number + 3
-      → slice_get old.conns place ≡ Some held → is_in_part upper r.next_seat (held.number + 2) ≡ true → slice_get mid.conns.items place ≡ Some gone
+  pub try_ends : (s : Ring L) (x : Stepped) (note : Note) (k : ℕ) → x ≡ Ended note → k ≡ held.number + 3
+      → slice_get old.conns place ≡ Some held → is_in_part upper r.next_seat (held.number + 2) ≡ true → s.ended ≡ slice_get mid.conns.items place
       → s.conns.items ≡ remove mid.conns.items place
-      → s ≡ record mid { conns = s.conns; next_seat = k; ended = Some gone } → Same → Turns (Ok x) → Acted words upper place r s old new (Ok (Some note))
-  try_ends s x note k gone over seat at part there rest is same turns =
+      → s ≡ record mid { conns = s.conns; next_seat = k; ended = s.ended } → Same → Turns (Ok x) → Acted words upper place r s old new (Ok (Some note))
+  try_ends s x note k over seat at part kept rest is same turns =
       let t = same_turn words r.setup place old (record new { conns = mid.conns.items }) x (Ended note) over turns held at in
       let stands : slice_get mid.conns.items place ≡ Some t.0 =
       ap (λ (hs : List (HeldBy L)). slice_get hs place) t.1 ∙ get_set_same old.conns place held t.0 at in
-      let both : Some gone ≡ Some t.0 = sym there ∙ stands in
-      let e : gone ≡ t.0 = cc in
       record {
         stepped = Ok (Ended note);
         was = held;
@@ -158,6 +164,6 @@ module _ {L Q : Type 0} (words : Words L Q) (upper : Bool) (place : ℕ) (r mid 
         leaves = (
           refl,
           rest ∙ ap (λ (hs : List (HeldBy L)). remove hs place) t.1 ∙ remove_set old.conns place t.0,
-          ended_ring s k gone t.0 is seat e same,
+          ended_ring s k t.0 is (kept ∙ stands) seat same,
         );
       }

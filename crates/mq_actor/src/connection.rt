@@ -1,12 +1,13 @@
 //! The turn of a connection.
-ghost use Rattle.std.specs.Prelude.{◌≡◌, ◌<◌};
+ghost use Rattle.std.specs.Prelude.{◌≡◌, ◌<◌, Bool, Some, remove, slice_get};
 ghost use Rattle.std.specs.Vec.{vec_len};
 ghost use Rattle.mq_addr.specs.declared.kind.Kind.TheVariants as kind;
 ghost use Rattle.mq_machine.specs.Acting.{binder};
 ghost use Rattle.mq_ports.specs.Tables.{IsBalanced};
+ghost use Rattle.mq_held.specs.declared.held.Held.{Held as HeldBy};
 ghost use Rattle.mq_step.specs.Rooms.{HasRooms};
 ghost use Rattle.mq_actor.specs.Holds.{HaveOwnPorts};
-ghost use Rattle.mq_actor.specs.Passing.{AreKnown, TurnsAt, TryGives};
+ghost use Rattle.mq_actor.specs.Passing.{AreKnown, InPart, TurnsAt, TryGives};
 
 use crate::ring::{Ring, is_in, seat_of};
 use mq_held::{ReceiveReady, WriteReady};
@@ -44,8 +45,55 @@ impl<L: WriteReady> Ring<L> {
         step(alloc, held, &self.setup, &mut self.rooms, table, office)
     }
 
-    /// The connection at a place has its turn, where its seat is in this part of the ring. Where it does something, the ring
-    /// begins with the seat behind its own from then on. One that is over leaves the ring.
+    /// The connection at a place, which is over, leaves the ring, and is kept until its link is taken.
+    fn leave(&mut self, place: usize)
+        requires { place < vec_len self.old.conns }
+        ensures left { self.new.conns.items ≡ remove self.old.conns.items place }
+        ensures kept { self.new.ended ≡ slice_get self.old.conns.items place }
+        ensures rest { self.new ≡ record self.old { conns = self.new.conns; ended = self.new.ended } }
+    {
+        self.ended = Some(self.conns.remove(place));
+    }
+
+    /// The connection at a place has its turn. Where it does something, the ring begins with the seat behind its own from then on.
+    /// One that is over leaves the ring.
+    fn act_at<P: Ports, O: Office>(
+        &mut self,
+        alloc: Global,
+        place: usize,
+        table: &mut PortTable<P>,
+        office: &mut O,
+    ) -> Result<Option<Note>, NoMemory>
+    where
+        P::P: ReceiveReady,
+        requires known { AreKnown (record { most = P.P.most; link = L.holds; link_counts = L.counts; port = P.P.holds; port_counts = P.P.counts }) (record { conns = self.old.conns.items; table = table.old.table; binds = binder P.holds P.faults table.old.ports; seen = O.seen office.old }) }
+        requires ports { HaveOwnPorts self.old.conns.items }
+        requires rooms { HasRooms self.old.rooms }
+        requires udp { self.old.setup.udp.kind ≡ kind.Udp }
+        requires place { place < vec_len self.old.conns }
+        ensures ring { (self.new.id ≡ self.old.id) × (self.new.setup ≡ self.old.setup) }
+        ensures gives { (upper : Bool) (was : HeldBy L) → slice_get self.old.conns.items place ≡ Some was → InPart upper self.old.next_seat was.number → TryGives (record { most = P.P.most; link = L.holds; link_counts = L.counts; port = P.P.holds; port_counts = P.P.counts }) upper place self.old self.new (record { conns = self.old.conns.items; table = table.old.table; binds = binder P.holds P.faults table.old.ports; seen = O.seen office.old }) (record { conns = self.new.conns.items; table = table.new.table; binds = binder P.holds P.faults table.new.ports; seen = O.seen office.new }) result }
+        ensures ports { HaveOwnPorts self.new.conns.items }
+        ensures rooms { HasRooms self.new.rooms }
+        ensures actor { (O.seen office.new).actor ≡ (O.seen office.old).actor }
+        ensures balanced { IsBalanced P.P.place (P.past table.old.ports) table.old.table.slots → IsBalanced P.P.place (P.past table.new.ports) table.new.table.slots }
+    {
+        let seat = seat_of(self.conns[place].number);
+        match self.turn_at(alloc, place, table, office)? {
+            Stepped::Quiet => Ok(None),
+            Stepped::Did(note) => {
+                self.next_seat = seat + 1;
+                Ok(Some(note))
+            }
+            Stepped::Ended(note) => {
+                self.next_seat = seat + 1;
+                self.leave(place);
+                Ok(Some(note))
+            }
+        }
+    }
+
+    /// The connection at a place has its turn, where its seat is in this part of the ring.
     pub(crate) fn try_at<P: Ports, O: Office>(
         &mut self,
         alloc: Global,
@@ -72,17 +120,6 @@ impl<L: WriteReady> Ring<L> {
         if !is_in(seat, self.next_seat, upper) {
             return Ok(None);
         }
-        match self.turn_at(alloc, place, table, office)? {
-            Stepped::Quiet => Ok(None),
-            Stepped::Did(note) => {
-                self.next_seat = seat + 1;
-                Ok(Some(note))
-            }
-            Stepped::Ended(note) => {
-                self.next_seat = seat + 1;
-                self.ended = Some(self.conns.remove(place));
-                Ok(Some(note))
-            }
-        }
+        self.act_at(alloc, place, table, office)
     }
 }

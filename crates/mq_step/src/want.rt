@@ -69,8 +69,8 @@ fn answer<L, P: Ports, O: Office>(
     }
 }
 
-/// Does what the connection wants, where that can be done now. Where memory is refused, the connection is ending.
-pub fn act<L, P: Ports, O: Office>(
+/// Does what the connection wants, where that can be done now.
+fn act_now<L, P: Ports, O: Office>(
     held: &mut Held<L>,
     table: &mut PortTable<P>,
     office: &mut O,
@@ -99,4 +99,34 @@ pub fn act<L, P: Ports, O: Office>(
             Err(refused)
         }
     }
+}
+
+/// Does what the connection wants, where that can be done now. Where memory is refused, the connection is ending. One that wants
+/// nothing is quiet, which is asked first: it is so most of the time.
+pub fn act<L, P: Ports, O: Office>(
+    held: &mut Held<L>,
+    table: &mut PortTable<P>,
+    office: &mut O,
+) -> Result<Stepped, NoMemory>
+    requires known { (s : machine.Held) × IsHeld P.P.most table.old.table held.old s × IsKnown (O.seen office.old) (O.seen office.old).actor s }
+    ensures gives { (o n : Outside) → SeesTable P.P.holds P.P.counts (binder P.holds P.faults table.old.ports) table.old.table held.old.ports.items o
+        → SeesTable P.P.holds P.P.counts (binder P.holds P.faults table.new.ports) table.new.table held.new.ports.items n
+        → (s : machine.Held) → IsHeld P.P.most table.old.table held.old s
+        → ActGives o n (O.seen office.old) (O.seen office.new) (IsHeld P.P.most table.new.table held.new) s result }
+    ensures closes { (s : machine.Held) → IsHeld P.P.most table.old.table held.old s → (tunnel : ℕ) → want_of s.conn ≡ Ask (Close tunnel)
+        → CloseGives (O.seen office.old) (O.seen office.new) (IsHeld P.P.most table.new.table held.new) s result
+        × HandsBack P.P.counts table.old.table held.old.ports.items (binder P.holds P.faults table.old.ports) (binder P.holds P.faults table.new.ports) }
+    ensures rest { held.new ≡ record held.old { conn = held.new.conn; ports = held.new.ports; bound = held.new.bound } }
+    ensures stays { IfOk result (λ stepped. stepped ≡ Stepped.Quiet → held.new.ports.items ≡ held.old.ports.items) }
+    ensures few { length held.new.ports.items ≤ 1 }
+    ensures ends { IfOk result (λ stepped. (said : Said) → stepped ≡ Stepped.Ended said → held.new.ports.items ≡ held.old.ports.items) }
+    ensures calm { IfOk result (λ stepped. stepped ≡ Stepped.Quiet → (O.seen office.new ≡ O.seen office.old) × (binder P.holds P.faults table.new.ports ≡ binder P.holds P.faults table.old.ports)) }
+    ensures actor { (O.seen office.new).actor ≡ (O.seen office.old).actor }
+    ensures others { KeepsOthers held.old held.new table.old.table table.new.table }
+    ensures balanced { IsBalanced P.P.place (P.past table.old.ports) table.old.table.slots → IsBalanced P.P.place (P.past table.new.ports) table.new.table.slots }
+{
+    if !held.conn.wants() {
+        return Ok(Stepped::Quiet);
+    }
+    act_now(held, table, office)
 }

@@ -1,7 +1,37 @@
+use Rattle.std.proofs.Common.{◌≡◌, false, not, refl, ◌∙◌, sym}
+use Rattle.mq_machine.specs.Acting.{binder}
+use Rattle.mq_machine.specs.Want.{Want, Nothing, Say, Bind, Ask, Judge, Push, Send, Over, want_of}
+use Rattle.mq_machine.specs.Steps.{is_nothing}
+use Rattle.mq_step.proofs.Filling.{none_changed}
+use Rattle.mq_step.proofs.Binding.{Stays, quiet}
+use Rattle.mq_step.proofs.Passing.{at_most_one}
 use Rattle.mq_step.proofs.want.act.Goals as goal
 
-pub returns-in-Ok-clause-gives : goal.returns-in-Ok-clause-gives
-returns-in-Ok-clause-gives g c = λ o n so sn s held. c.answer.ensures.gives o n so sn s held (c.in-Ok.ensures.wants s.conn held.conn)
+-- where it wants something is false, it wants nothing
+nothing_left : (w : Want) → false ≡ not (is_nothing w) → w ≡ Nothing
+nothing_left Nothing is = refl
+nothing_left Say is = absurd cc
+nothing_left (Bind stream goal) is = absurd cc
+nothing_left (Ask call) is = absurd cc
+nothing_left (Judge tunnel n flow) is = absurd cc
+nothing_left (Push parcel) is = absurd cc
+nothing_left (Send tunnel n payload) is = absurd cc
+nothing_left (Over why) is = absurd cc
 
-pub returns-in-Ok-clause-closes : goal.returns-in-Ok-clause-closes
-returns-in-Ok-clause-closes g c = λ s held tunnel closes. c.answer.ensures.closes s held (c.in-Ok.ensures.wants s.conn held.conn) tunnel closes
+pub returns-then-not-wants-clause-gives : goal.returns-then-not-wants-clause-gives
+returns-then-not-wants-clause-gives g c = λ o n so sn s held.
+    let old = c.args.held.now in
+    let table = c.args.table.now.table in
+    let binds = binder g.P.Ports.holds g.P.Ports.faults c.args.table.now.ports in
+    let wanted = nothing_left (want_of s.conn) (sym c.if-not-wants.true ∙ c.wants.ensures s.conn held.conn) in
+    let stays : Stays g.P.P.Port.most g.P.P.Port.holds g.P.P.Port.counts binds binds table table old old o n s =
+    record { held = held; keeps = none_changed table; seats = refl; number = refl; sees = so; sees_after = sn } in
+    (quiet g.P.P.Port.most g.P.P.Port.holds g.P.P.Port.counts binds binds table table old old o n s stays (g.O.Office.seen c.args.office.now) wanted refl, held)
+
+pub returns-then-not-wants-clause-closes : goal.returns-then-not-wants-clause-closes
+returns-then-not-wants-clause-closes g c = λ s held tunnel closes.
+    let wanted = nothing_left (want_of s.conn) (sym c.if-not-wants.true ∙ c.wants.ensures s.conn held.conn) in
+    absurd (let e = sym wanted ∙ closes in cc)
+
+pub returns-then-not-wants-clause-few : goal.returns-then-not-wants-clause-few
+returns-then-not-wants-clause-few g c = let k = c.requires.known in at_most_one g.P.P.Port.most c.args.table.now.table c.args.held.now k.0 k.1

@@ -1,9 +1,7 @@
-use Rattle.std.proofs.Common.{rules, ◌≡◌, ◌+◌, false, true, List, length, Some, slice_get, refl, sym, subst, arith}
+use Rattle.std.proofs.Common.{rules, ◌≡◌, false, true, length, Some, slice_get, refl, arith}
 use Rattle.std.specs.Vec.{vec_len}
-use Rattle.mq_held.specs.declared.held.Held.{Held as HeldBy}
-use Rattle.mq_actor.specs.Holds.{HaveOwnPorts}
-use Rattle.mq_actor.proofs.OwnPorts.{at_index, own_ports_removed}
-use Rattle.mq_actor.proofs.Turns.{seat_part, try_skips, try_waits, try_does, try_refused, try_ends, turn_length}
+use Rattle.mq_actor.proofs.OwnPorts.{at_index}
+use Rattle.mq_actor.proofs.Turns.{seat_part, try_skips}
 use Rattle.mq_actor.proofs.ring.Ring.try_at.Goals as goal
 
 pub returns-then-not-is_in-clause-gives : goal.returns-then-not-is_in-clause-gives
@@ -17,82 +15,12 @@ returns-then-not-is_in-clause-gives g c =
     let part = seat_part c.args.upper from held.number c.seat_of-seat.result c.is_in.result false c.seat_of-seat.ensures c.is_in.ensures c.if-not-is_in.true in
     (try_skips _ _ c.args.upper from c.args.place held at part, refl)
 
-pub returns-in_err-turn_at-clause-gives : goal.returns-in_err-turn_at-clause-gives
-returns-in_err-turn_at-clause-gives g c =
+pub returns-clause-gives : goal.returns-clause-gives
+returns-clause-gives g c =
     let conns = c.args.self.now.conns.items in
     let held = c.index.result.now in
     let len : vec_len c.args.self.now.conns ≡ length conns = search rules in
     let place = c.requires.place in
     let at : slice_get conns c.args.place ≡ Some held = at_index conns c.args.place held (omega (arith, len, place)) c.index.ensures in
-    let from = c.args.self.now.next_seat in
-    let part = seat_part c.args.upper from held.number c.seat_of-seat.result c.is_in.result true c.seat_of-seat.ensures c.is_in.ensures c.if-not-is_in.false in
-    try_refused _ c.args.upper c.args.place c.args.self.now c.turn_at.new.self _ _ held c.in_err-turn_at.field-0.0 c.from_residual.result
-    c.from_residual.ensures.0 at part c.in_err-turn_at.ensures.rest c.in_err-turn_at.ensures.turns
-
-pub remove-requires : goal.remove-requires
-remove-requires g c =
-    let conns = c.args.self.now.conns.items in
-    let mid = c.turn_at.new.self.conns in
-    let held = c.index.result.now in
-    let len : vec_len c.args.self.now.conns ≡ length conns = search rules in
-    let long : vec_len mid ≡ length mid.items = search rules in
-    let place = c.requires.place in
-    let at : slice_get conns c.args.place ≡ Some held = at_index conns c.args.place held (omega (arith, len, place)) c.index.ensures in
-    let same : length mid.items ≡ length conns = turn_length conns mid.items c.args.place held _ c.in_ok-turn_at.ensures.turns at in
-    omega (arith, len, long, place, same)
-
-pub returns-in-Quiet-clause-gives : goal.returns-in-Quiet-clause-gives
-returns-in-Quiet-clause-gives g c =
-    let conns = c.args.self.now.conns.items in
-    let held = c.index.result.now in
-    let len : vec_len c.args.self.now.conns ≡ length conns = search rules in
-    let place = c.requires.place in
-    let at : slice_get conns c.args.place ≡ Some held = at_index conns c.args.place held (omega (arith, len, place)) c.index.ensures in
-    let from = c.args.self.now.next_seat in
-    let part = seat_part c.args.upper from held.number c.seat_of-seat.result c.is_in.result true c.seat_of-seat.ensures c.is_in.ensures c.if-not-is_in.false in
-    let does = c.in_ok-turn_at.ensures in
-    let k = c.requires in (
-      try_waits _ c.args.self.now.setup _ _ c.args.upper from c.args.place held c.in_ok-turn_at.field-0 c.in-Quiet.is k.known k.ports at part does.turns,
-      does.rest,
-    )
-
-pub returns-in-Did-clause-gives : goal.returns-in-Did-clause-gives
-returns-in-Did-clause-gives g c =
-    let conns = c.args.self.now.conns.items in
-    let held = c.index.result.now in
-    let len : vec_len c.args.self.now.conns ≡ length conns = search rules in
-    let place = c.requires.place in
-    let at : slice_get conns c.args.place ≡ Some held = at_index conns c.args.place held (omega (arith, len, place)) c.index.ensures in
-    let from = c.args.self.now.next_seat in
-    let part = seat_part c.args.upper from held.number c.seat_of-seat.result c.is_in.result true c.seat_of-seat.ensures c.is_in.ensures c.if-not-is_in.false in
-    let seat = c.seat_of-seat.ensures in
-    let next : c.seat_of-seat.result + 1 ≡ held.number + 3 = omega (arith, seat) in
-    let does = c.in_ok-turn_at.ensures in
-    try_does _ c.args.upper c.args.place c.args.self.now c.turn_at.new.self _ _ held c.in_ok-turn_at.field-0 c.in-Did.note
-    (c.seat_of-seat.result + 1) c.in-Did.is next at part does.rest does.turns
-
-pub returns-in-Ended-clause-gives : goal.returns-in-Ended-clause-gives
-returns-in-Ended-clause-gives g c =
-    let conns = c.args.self.now.conns.items in
-    let mid = c.turn_at.new.self in
-    let held = c.index.result.now in
-    let len : vec_len c.args.self.now.conns ≡ length conns = search rules in
-    let long : vec_len mid.conns ≡ length mid.conns.items = search rules in
-    let place = c.requires.place in
-    let at : slice_get conns c.args.place ≡ Some held = at_index conns c.args.place held (omega (arith, len, place)) c.index.ensures in
-    let from = c.args.self.now.next_seat in
-    let part = seat_part c.args.upper from held.number c.seat_of-seat.result c.is_in.result true c.seat_of-seat.ensures c.is_in.ensures c.if-not-is_in.false in
-    let seat = c.seat_of-seat.ensures in
-    let next : c.seat_of-seat.result + 1 ≡ held.number + 3 = omega (arith, seat) in
-    let does = c.in_ok-turn_at.ensures in
-    let same : length mid.conns.items ≡ length conns = turn_length conns mid.conns.items c.args.place held _ does.turns at in
-    let there : slice_get mid.conns.items c.args.place ≡ Some c.remove.result =
-    at_index mid.conns.items c.args.place c.remove.result (omega (arith, len, place, same)) c.remove.ensures.value in
-    try_ends _ c.args.upper c.args.place c.args.self.now mid _ _ held _ c.in_ok-turn_at.field-0 c.in-Ended.note
-    (c.seat_of-seat.result + 1) c.remove.result c.in-Ended.is next at part there c.remove.ensures.items refl does.rest does.turns
-
-pub returns-in-Ended-clause-ports : goal.returns-in-Ended-clause-ports
-returns-in-Ended-clause-ports g c =
-    let mid = c.turn_at.new.self.conns.items in
-    let P : List (HeldBy g.row.L.Denot) → Type 0 = λ hs. HaveOwnPorts hs in
-    subst P (sym c.remove.ensures.items) (own_ports_removed mid c.args.place c.in_ok-turn_at.ensures.ports)
+    let part = seat_part c.args.upper c.args.self.now.next_seat held.number c.seat_of-seat.result c.is_in.result true c.seat_of-seat.ensures c.is_in.ensures c.if-not-is_in.false in
+    c.act_at.ensures.gives c.args.upper held at part
