@@ -33,6 +33,19 @@ fn empty(alloc: Global, worker: &mut Plain, tunnel: u32)
     }
 }
 
+/// Where the book has an entry more than before a step, the port of the tunnel that opened in it holds nothing from now on.
+/// Where it has none more, no tunnel opened, and no port is looked for.
+fn empty_opened(alloc: Global, worker: &mut Plain, office: &PlainOffice, next: u32)
+    ensures serves { (links : List machine.Told) (boxes : Boxes) (number : ℕ) (w : machine.Worker) → Serves links (seen_of office.now) boxes number worker.old w
+        → Serves links (seen_of office.now) boxes number worker.new (with_held_ports next (holding empty_port) w) }
+    ensures ports { worker.new.table.ports ≡ worker.old.table.ports }
+{
+    if office.book().count() == next {
+        return;
+    }
+    empty(alloc, worker, next);
+}
+
 /// The worker takes a step. Where a bind is to fail, the first that it tries takes that back. Nothing came to the port of a
 /// tunnel before it opened.
 pub fn take(
@@ -55,6 +68,6 @@ pub fn take(
     }
     let stepped = worker.step(office, mail);
     *bind_fails = worker.table.ports.unfail();
-    empty(alloc, worker, next);
+    empty_opened(alloc, worker, office, next);
     stepped
 }

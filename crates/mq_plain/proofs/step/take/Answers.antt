@@ -84,7 +84,7 @@ returns c =
           let size = c.step-stepped.ensures.inboxes in
           let at_rest = serves_ready links number old new a b s c.step-stepped.result begun.ring ready fails_now id left size w x p in
           let resting = subst (λ (q : PortsOf). Serves links (seen_of new.office) new.mail.boxes number (record s { table = record s.table { ports = q } }) p.t) (sym c.unfail.ensures.after) at_rest in
-          let served = c.empty.ensures.serves links (seen_of new.office) new.mail.boxes number p.t resting in
-          took links number old new a b s c.step-stepped.result begun.ring ready fails_now id left size w x p c.empty.new.worker
-          (subst (λ (k : ℕ). Serves links (seen_of new.office) new.mail.boxes number c.empty.new.worker (with_held_ports k (holding empty_port) p.t)) (c.count-next.ensures ∙ ap (λ (j : Journal). length j.history) c.book.ensures) served);
+          let served = c.empty_opened.ensures.serves links new.mail.boxes number p.t resting in
+          took links number old new a b s c.step-stepped.result begun.ring ready fails_now id left size w x p c.empty_opened.new.worker
+          (subst (λ (k : ℕ). Serves links (seen_of new.office) new.mail.boxes number c.empty_opened.new.worker (with_held_ports k (holding empty_port) p.t)) (c.count-next.ensures ∙ ap (λ (j : Journal). length j.history) c.book.ensures) served);
     }
