@@ -10,11 +10,12 @@ use Rattle.std.proofs.lemmas.List.{nil_from_length}
 use Rattle.std.proofs.lemmas.List.Concat.{flat_map-cons}
 use Rattle.std.proofs.lemmas.List.Folds.{find_at, find-append}
 use Rattle.std.proofs.lemmas.Option.{slice_get_past}
+use Rattle.mq_conn.specs.declared.conn.Conn.{Conn as Core}
 use Rattle.mq_held.specs.declared.held.Held.{Held as HeldBy}
 use Rattle.mq_held.specs.declared.held.PortSeat.{PortSeat}
 use Rattle.mq_actor.specs.declared.offer.Offer.{Offer as OfferBy}
 use Rattle.mq_actor.specs.declared.ring.Ring.{Ring}
-use Rattle.mq_actor.specs.Lent.{link_at, with_link, with_conn_link, with_offer_link}
+use Rattle.mq_actor.specs.Lent.{conn_at, link_at, with_link, with_conn_link, with_offer_link}
 use Rattle.mq_actor.proofs.Pointwise.{there}
 
 -- ---- searches
@@ -97,6 +98,23 @@ module _ {L : Type 0} (r : Ring L) (number : ℕ) where
   -- nothing has it
   pub at_none : position has r.conns.items ≡ None → position offers r.offered.items ≡ None → link_at number r ≡ None
   at_none none never = rw (missing has r.conns.items none, missing offers r.offered.items never) refl
+
+-- ---- connections
+
+module _ {L : Type 0} (r : Ring L) (number : ℕ) where
+  abbrev numbered : HeldBy L → Bool
+  numbered h = h.number == number
+
+  -- a connection has the number
+  pub core_there : (place : ℕ) → position numbered r.conns.items ≡ Some place
+      → (h : HeldBy L) × (slice_get r.conns.items place ≡ Some h) × (conn_at number r ≡ Some h.conn)
+  core_there place is =
+      let x = found numbered r.conns.items place is in
+      (x.0, x.1, ap {B = Option Core} (λ (o : Option (HeldBy L)). option_map (λ (h : HeldBy L). h.conn) o) x.2)
+
+  -- none has it
+  pub core_none : position numbered r.conns.items ≡ None → conn_at number r ≡ None
+  core_none none = rw (missing numbered r.conns.items none) refl
 
 -- ---- seats
 

@@ -15,6 +15,7 @@ mod Beside
 mod Replies
 mod Behind
 mod Ending
+mod Emptying
 mod Starving
 pub mod Refilled
 pub mod SoFar

@@ -4,6 +4,7 @@ use Rattle.std.specs.Option.{option_or, option_map_or}
 use Rattle.std.specs.Vec.{with_item}
 use Rattle.std.specs.VecDeque.{deque_with_item}
 use Rattle.slab.specs.Slab.{Slab, get, with_value}
+use Rattle.mq_conn.specs.declared.conn.Conn.{Conn as Core}
 use Rattle.mq_held.specs.declared.held.Held.{Held as HeldBy}
 use Rattle.mq_held.specs.declared.held.PortSeat.{PortSeat}
 use Rattle.mq_actor.specs.declared.offer.Offer.{Offer as OfferBy}
@@ -35,6 +36,13 @@ abbrev pub with_link : {L : Type 0} → ℕ → Ring L → L → Ring L
 with_link {L} number r link =
     option_map_or (λ place. with_conn_link r place link) (position (λ (h : HeldBy L). h.number == number) r.conns.items)
     (option_map_or (λ place. with_offer_link r place link) (position (λ (f : OfferBy L). f.number == number) r.offered.items) r)
+
+-- ---- connections
+
+-- the core of the connection with this number
+abbrev pub conn_at : {L : Type 0} → ℕ → Ring L → Option Core
+conn_at {L} number r =
+    option_map (λ (h : HeldBy L). h.conn) (find (λ (h : HeldBy L). h.number == number) r.conns.items)
 
 -- ---- ports
 

@@ -1,17 +1,18 @@
 //! A worker lends its links and ports.
 ghost use Rattle.std.specs.Prelude.{◌≡◌, option_copied, Some, IfSome};
 ghost use Rattle.std.specs.Option.{option_copied_mut};
-ghost use Rattle.std.specs.Borrow.{sem, LendsIf};
+ghost use Rattle.std.specs.Borrow.{sem, Lends, LendsIf};
 ghost use Rattle.slab.specs.Slab.{get, with_value};
 ghost use Rattle.mq_machine.specs.State as machine;
 ghost use Rattle.mq_held.specs.declared.held.PortSeat.{PortSeat as SeatOf};
 ghost use Rattle.mq_ports.specs.Tables.{Changes, IsBalanced};
 ghost use Rattle.mq_actor.specs.Holds.{IsWorker, numbers_of};
-ghost use Rattle.mq_actor.specs.Lent.{link_at, port_at, seat_at, with_link, with_port};
+ghost use Rattle.mq_actor.specs.Lent.{conn_at, link_at, port_at, seat_at, with_link, with_port};
 ghost use Rattle.mq_ports.specs.contracts.table.PortTable.{the_row as table_row};
 ghost use Rattle.mq_actor.specs.contracts.actor.Actor.{the_row};
 
 use crate::actor::Actor;
+use mq_conn::Conn;
 use mq_outside::Ports;
 use mq_ports::PortTable;
 
@@ -21,6 +22,14 @@ fn port_of<P: Ports>(table: &mut PortTable<P>, key: usize) -> Option<&mut P::P>
     ensures value { option_copied_mut result ≡ get table.old.table key }
 {
     table.table.get_mut(key)
+}
+
+/// What binds the ports of a table.
+fn ports_of<P: Ports>(table: &mut PortTable<P>) -> &mut P
+    ensures* writes_back { sem 𝓛 (Lends (table_row P.row P.P.row) P.row table.entry result (λ ports. record table.old { ports = ports })) }
+    ensures value { result.now ≡ table.old.ports }
+{
+    &mut table.ports
 }
 
 impl<L: Drop, P: Ports> Actor<L, P> {
@@ -41,6 +50,21 @@ impl<L: Drop, P: Ports> Actor<L, P> {
         ensures { option_copied result ≡ link_at conn self.now.ring }
     {
         self.ring.link_at(conn)
+    }
+
+    /// The connection with this number, for reading, without its link and ports. None where no connection has it.
+    pub fn conn(&self, number: u32) -> Option<&Conn>
+        ensures { option_copied result ≡ conn_at number self.now.ring }
+    {
+        self.ring.conn_at(number)
+    }
+
+    /// Lends what binds ports.
+    pub fn ports(&mut self) -> &mut P
+        ensures* writes_back { sem 𝓛 (Lends (the_row L.row P.row P.P.row) P.row self.entry result (λ ports. record self.old { table = record self.old.table { ports = ports } })) }
+        ensures value { result.now ≡ self.old.table.ports }
+    {
+        ports_of(&mut self.table)
     }
 
     /// Lends the bound port of this live tunnel for UDP. None where no connection has one.

@@ -4,6 +4,7 @@
 
 mod accept;
 mod actor;
+mod close;
 mod connection;
 mod inbox;
 mod lend;

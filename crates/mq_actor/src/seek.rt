@@ -6,10 +6,11 @@ ghost use Rattle.std.specs.Vec.{vec_len};
 ghost use Rattle.std.specs.VecDeque.{deque_len};
 ghost use Rattle.mq_held.specs.declared.held.Held.{Held as HeldBy};
 ghost use Rattle.mq_actor.specs.declared.offer.Offer.{Offer as OfferBy};
-ghost use Rattle.mq_actor.specs.Lent.{link_at, seat_at, with_conn_link, with_link, with_offer_link};
+ghost use Rattle.mq_actor.specs.Lent.{conn_at, link_at, seat_at, with_conn_link, with_link, with_offer_link};
 ghost use Rattle.mq_actor.specs.contracts.ring.Ring.{the_row};
 
 use crate::ring::Ring;
+use mq_conn::Conn;
 use mq_held::PortSeat;
 
 /// The place of the first of these seats that is of this tunnel.
@@ -83,6 +84,14 @@ impl<L: Drop> Ring<L> {
         }
         let place = self.offer_of(number)?;
         Some(&self.offered[place].link)
+    }
+
+    /// The connection with this number, without its link and ports.
+    pub(crate) fn conn_at(&self, number: u32) -> Option<&Conn>
+        ensures { option_copied result ≡ conn_at number self.now }
+    {
+        let place = self.place_of(number)?;
+        Some(&self.conns[place].conn)
     }
 
     /// The seat of the port of this live tunnel.
