@@ -4,9 +4,6 @@ use Rattle.std.specs.Prelude.{option_map, IfOk}
 use Rattle.mq_addr.specs.declared.addr.Addr.{Addr}
 use Rattle.mq_addr.specs.declared.kind.Kind.{Kind}
 use Rattle.mq_addr.specs.declared.kind.Kind.TheVariants as kind
-use Rattle.mq_capsule.specs.Capsule.{head_of, capsule_of}
-use Rattle.mq_capsule.specs.Items.{ItemsOf}
-use Rattle.mq_capsule.specs.Readers.{Stands}
 use Rattle.mq_wire.specs.declared.NoMemory.{NoMemory}
 use Rattle.mq_policy.specs.Names.{NameTable}
 use Rattle.mq_head.specs.declared.reader.HeadReader.{HeadReader}
@@ -34,56 +31,22 @@ use Rattle.mq_machine.specs.declared.setup.Setup.{Setup}
 use Rattle.mq_machine.specs.Reading.{HeadBrings, Request, Leads, Refused, PathMeans, MatchedMeans, content_of, EventsAsk, on_stream}
 use Rattle.mq_machine.specs.State as machine
 use Rattle.mq_machine.specs.State.{Stream, Head as InHead, OverHttp1, OverHttp2}
-use Rattle.mq_conn.specs.declared.front.DataStream.{DataStream}
+use Rattle.mq_front.specs.declared.data.DataStream.{DataStream}
+use Rattle.mq_front.specs.Data.{IsStream, IsUdp}
+use Rattle.mq_front.proofs.UdpPaths.{udp_means}
 use Rattle.mq_conn.specs.declared.front.Front.{Front}
 use Rattle.mq_conn.specs.declared.front.Front.TheVariants as front
-use Rattle.mq_conn.specs.Conns.{IsRead, IsBegun, Follows, IsUdp}
+use Rattle.mq_conn.specs.Conns.{IsRead, IsBegun, Follows}
 use Rattle.mq_conn.specs.Feeding.{Asks, ReadsOn, ReadsData, ReadsFirst, ReadTo, ReadsHead}
-
--- ---- a path of a UDP template leads to UDP
-
-udp_goal : (o : Option Addr) (port : ℕ) (g : Goal) → option_map (λ a. goal.Udp a port) o ≡ Some g → IsUdp g
-udp_goal None port g h = absurd cc
-udp_goal (Some a) port g h = let e : goal.Udp a port ≡ g = cc in subst IsUdp e tt
-
-udp_target : (text detail : List ℕ) (t : Target) → IsTarget kind.Udp text detail t → (names : NameTable) (g : Goal) → goal_of names t ≡ Some g → IsUdp g
-udp_target text detail (target.Udp host port) h names g is = udp_goal (addr_of names host) port g is
-udp_target text detail (target.Ip area protocol) h names g is = absurd h
-
-udp_read : (order : Order) (first second : List ℕ) (t : Target) → ReadsTarget kind.Udp order first second t → (names : NameTable) (g : Goal) → goal_of names t ≡ Some g → IsUdp g
-udp_read TargetFirst first second t h names g is = udp_target _ _ t h names g is
-udp_read TargetLast first second t h names g is = udp_target _ _ t h names g is
-
-udp_matched : (setup : Setup) (path : List ℕ) (matched : Matched) (g : Goal) → setup.udp.kind ≡ kind.Udp → Matches setup.udp path matched → MatchedMeans setup matched (Leads g) → IsUdp g
-udp_matched setup path No g udp matches means = absurd cc
-udp_matched setup path Bad g udp matches means = absurd cc
-udp_matched setup path (Yes t) g udp matches (UnknownName, decides, is) = absurd cc
-udp_matched setup path (Yes t) g udp matches (Denied rule, decides, is) = absurd cc
-udp_matched setup path (Yes t) g udp matches (Go found, decides, is) =
-    let same : found ≡ g = (let e : Leads g ≡ Leads found = is in let f : g ≡ found = cc in sym f) in
-    let P : Kind → Type 0 = λ k. ReadsTarget k setup.udp.order matches.0 matches.1 t in
-    let there : IsUdp decides.0 = udp_read setup.udp.order matches.0 matches.1 t (subst P udp matches.3) setup.policy.names decides.0 decides.1 in
-    subst IsUdp (sym decides.2.0 ∙ same) there
-
-pub udp_path : (setup : Setup) (path : List ℕ) (g : Goal) → setup.udp.kind ≡ kind.Udp → PathMeans setup kind.Udp path (Leads g) → IsUdp g
-udp_path setup path g udp (matched, matches, means) = udp_matched setup path matched g udp matches means
-
-udp_means : (setup : Setup) (k : Kind) (path : List ℕ) (g : Goal) → setup.udp.kind ≡ kind.Udp → PathMeans setup k path (Leads g) → IsUdp g
-udp_means setup kind.Udp path g udp h = udp_path setup path g udp h
-udp_means setup kind.Ip path g udp h = absurd cc
 
 -- ---- the first bytes of a data stream
 
-nothing_said : ItemsOf false [] []
-unfolding capsule_of head_of integer.int_of
-nothing_said = record { capsules = []; rest = []; are = (refl, refl); items_are = refl }
-
-pub leads_first : (old : DataStream) (bytes : List ℕ) (before mid after : List Due) (result : Result DataStream NoMemory) → old.n ≡ 0 → Stands old.reader false [] → mid ≡ before
+pub leads_first : (old : DataStream) (bytes : List ℕ) (before mid after : List Due) (result : Result DataStream NoMemory) → ((g : Goal) → IsUdp g → IsStream old (record { id = 0; goal = g; bytes = [] })) → mid ≡ before
     → IfOk result (λ new. ReadsData old bytes mid after new) → IfOk result (λ new. ReadsFirst bytes before after new)
-leads_first old bytes before mid after (Err e) zero_is stands same h = tt
-leads_first old bytes before mid after (Ok new) zero_is stands same h = λ mtu addr port.
-    let P : List Due → Type 0 = λ ds. ReadsOn mtu addr port [] bytes ds after new in
-    subst P same (h mtu addr port [] [] stands nothing_said zero_is)
+leads_first old bytes before mid after (Err e) stands same h = tt
+leads_first old bytes before mid after (Ok new) stands same h = λ mtu g udp.
+    let P : List Due → Type 0 = λ ds. ReadsOn mtu g [] bytes ds after new in
+    subst P same (h mtu g [] (stands g udp))
 
 -- ---- heads
 
@@ -157,7 +120,7 @@ leads_by setup known bytes path k used before after (goal.Ip area protocol) new 
 leads_by setup known bytes path k used before after (goal.Udp addr port) new is means udp reads =
     let g = goal.Udp addr port in
     let behind = drop used bytes in
-    let r = reads setup.mtu addr port in
+    let r = reads setup.mtu g udp in
     let bind = due.Do (act.Bind 0 g) in
     record {
       events = Request 0 (Leads g) false ∷ content_of behind;
@@ -167,7 +130,7 @@ leads_by setup known bytes path k used before after (goal.Udp addr port) new is 
       after_is = r.after_is ∙ append_assoc before (bind ∷ []) (on_stream 0 r.asked);
       brings = ((Upgrade k path used, is, (Leads g, means, refl, refl)), refl);
       asks = λ ts. (bind ∷ [], record { id = 0; goal = g; bytes = [] } ∷ [], on_stream 0 r.asked, (refl, refl), content_some setup.mtu ts g [] behind r.asked r.asks, refl);
-      read = r.stream;
+      read = record { goal = g; bytes = behind; only = refl; stands = r.stands };
       begun = λ h. tt;
       follows = λ live h. (h.0, refl, tt, r.follows);
     }
@@ -189,17 +152,17 @@ pub data_so : (setup : Setup) (old new : DataStream) (bytes : List ℕ) (before 
 data_so setup old new bytes before after (InHead known) streams reads is = absurd is
 data_so setup old new bytes before after (OverHttp2 state) streams reads is = absurd is
 data_so setup old new bytes before after OverHttp1 streams reads is =
-    let r = reads setup.mtu is.addr is.port is.bytes is.items is.stands is.items_are is.next in
+    let r = reads setup.mtu is.goal is.bytes is.stands in
     let P : List Stream → Type 0 = λ ss. ReadTo setup OverHttp1 ss bytes before after (front.Data new) in
     subst P (sym is.only) (record {
       events = content_of bytes;
       front = OverHttp1;
       acts = on_stream 0 r.asked;
-      others = record { id = 0; goal = goal.Udp is.addr is.port; bytes = is.bytes ++ bytes } ∷ [];
+      others = record { id = 0; goal = is.goal; bytes = is.bytes ++ bytes } ∷ [];
       after_is = r.after_is;
       brings = (refl, refl, refl);
-      asks = λ ts. content_some setup.mtu ts (goal.Udp is.addr is.port) is.bytes bytes r.asked r.asks;
-      read = r.stream;
+      asks = λ ts. content_some setup.mtu ts is.goal is.bytes bytes r.asked r.asks;
+      read = record { goal = is.goal; bytes = is.bytes ++ bytes; only = refl; stands = r.stands };
       begun = λ h. tt;
       follows = λ live h. (let Q : Bool → Type 0 = λ b. Follows b (on_stream 0 r.asked) in subst Q (sym h) r.follows);
     })

@@ -1,5 +1,4 @@
 mod QueueLists
-mod ItemLists
 pub mod Fronts
 mod Standing
 mod Acting

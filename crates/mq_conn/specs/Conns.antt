@@ -1,14 +1,8 @@
 -- What the core of a connection stands for.
 use Rattle.std.specs.Prelude.{◌≡◌, ◌≢◌, ℕ, ◌≤◌, ◌⊎◌, nat_lt, Bool, true, false, List, [], ◌∷◌, length, drop, Option, Some, None, Result, Ok, Err}
 use Rattle.std.specs.Option.{is_some}
-use Rattle.mq_addr.specs.declared.addr.Addr.{Addr}
-use Rattle.mq_capsule.specs.declared.item.Item.{Item}
-use Rattle.mq_capsule.specs.declared.reader.Reader.{Reader}
-use Rattle.mq_capsule.specs.Items.{ItemsOf}
-use Rattle.mq_capsule.specs.Readers.{Stands}
 use Rattle.mq_head.specs.Reader.{IsHeadOf}
 use Rattle.mq_talk.specs.declared.goal.Goal.{Goal}
-use Rattle.mq_talk.specs.declared.goal.Goal.TheVariants as goal
 use Rattle.mq_talk.specs.declared.note.End.{End}
 use Rattle.mq_talk.specs.declared.note.Note.{Note}
 use Rattle.mq_talk.specs.declared.note.Why.TheVariants as why
@@ -19,7 +13,9 @@ use Rattle.mq_machine.specs.declared.act.StreamAct.{StreamAct}
 use Rattle.mq_machine.specs.declared.act.StreamAct.TheVariants as stream
 use Rattle.mq_machine.specs.declared.act.Due.{Due}
 use Rattle.mq_machine.specs.declared.act.Due.TheVariants as due
-use Rattle.mq_machine.specs.Reading.{payload_count}
+use Rattle.mq_front.specs.declared.data.DataStream.{DataStream}
+use Rattle.mq_front.specs.Data.{IsStream}
+pub use Rattle.mq_front.specs.Data.{IsUdp}
 use Rattle.mq_machine.specs.Steps.{starved}
 use Rattle.mq_outside.specs.declared.PortPut.{PortPut}
 use Rattle.mq_outside.specs.declared.PortPut.TheVariants as put
@@ -83,24 +79,16 @@ state c past = record {
 
 -- ---- what is true of them
 
-abbrev pub IsUdp : Goal → Type 0
-IsUdp (goal.Udp addr port) = Unit {0}
-IsUdp (goal.Ip area protocol) = ⊥
-
 abbrev pub IsUdpTunnel : Option Tunnel → Type 0
 IsUdpTunnel None = Unit {0}
 IsUdpTunnel (Some t) = IsUdp t.goal
 
--- the data stream of a UDP tunnel, whose bytes the reader was fed, and the number of its next payload
-pub record InStream (streams : List Stream) (reader : Reader) (n : ℕ) : Type 0 where
-  pub addr : Addr
-  pub port : ℕ
+-- the one data stream
+pub record InStream (streams : List Stream) (d : DataStream) : Type 0 where
+  pub goal : Goal
   pub bytes : List ℕ
-  pub items : List Item
-  pub only : streams ≡ record { id = 0; goal = goal.Udp addr port; bytes = bytes } ∷ []
-  pub stands : Stands reader false bytes
-  pub items_are : ItemsOf false bytes items
-  pub next : n ≡ payload_count items
+  pub only : streams ≡ record { id = 0; goal = goal; bytes = bytes } ∷ []
+  pub stands : IsStream d (record { id = 0; goal = goal; bytes = bytes })
 
 -- how far the bytes were read; they are those of HTTP/1.1
 abbrev pub IsRead : Front → Option End → machine.Front → List Stream → Type 0
@@ -108,7 +96,7 @@ IsRead (Head reader) ending (InHead bytes) streams = IsHeadOf reader bytes × (s
 IsRead (Head reader) ending OverHttp1 streams = ⊥
 IsRead (Head reader) ending (OverHttp2 h) streams = ⊥
 IsRead (Data d) ending (InHead bytes) streams = ⊥
-IsRead (Data d) ending OverHttp1 streams = InStream streams d.reader d.n
+IsRead (Data d) ending OverHttp1 streams = InStream streams d
 IsRead (Data d) ending (OverHttp2 h) streams = ⊥
 IsRead Shut None (InHead bytes) streams = ⊥
 IsRead Shut (Some why) (InHead bytes) streams = streams ≡ []

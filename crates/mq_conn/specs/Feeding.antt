@@ -1,44 +1,41 @@
 -- What a piece leads to.
 use Rattle.std.specs.Prelude.{◌≡◌, ◌≢◌, ℕ, Bool, true, false, List, [], ◌∷◌, ◌++◌, None}
-use Rattle.mq_capsule.specs.declared.item.Item.{Item}
-use Rattle.mq_capsule.specs.Items.{ItemsOf}
-use Rattle.mq_capsule.specs.Readers.{Stands}
-use Rattle.mq_addr.specs.declared.addr.Addr.{Addr}
 use Rattle.mq_addr.specs.declared.kind.Kind.TheVariants as kind
 use Rattle.mq_head.specs.Reader.{IsHeadOf}
 use Rattle.mq_head.specs.declared.reader.HeadReader.{HeadReader}
-use Rattle.mq_talk.specs.declared.goal.Goal.TheVariants as goal
+use Rattle.mq_talk.specs.declared.goal.Goal.{Goal}
 use Rattle.mq_machine.specs.declared.act.StreamAct.{StreamAct}
 use Rattle.mq_machine.specs.declared.act.Due.{Due}
 use Rattle.mq_machine.specs.declared.setup.Setup.{Setup}
-use Rattle.mq_machine.specs.Reading.{Brings, BytesAsk, EventsAsk, StreamEvent, on_stream, payload_count}
+use Rattle.mq_machine.specs.Reading.{Brings, BytesAsk, EventsAsk, StreamEvent, on_stream}
 use Rattle.mq_machine.specs.State as machine
 use Rattle.mq_machine.specs.State.{Stream, Head as InHead, OverHttp1}
-use Rattle.mq_conn.specs.declared.front.DataStream.{DataStream}
+use Rattle.mq_front.specs.declared.data.DataStream.{DataStream}
+use Rattle.mq_front.specs.Data.{IsStream, IsUdp}
 use Rattle.mq_conn.specs.declared.front.Front.{Front}
-use Rattle.mq_conn.specs.Conns.{InStream, IsRead, IsDue, IsBegun, Follows}
+use Rattle.mq_conn.specs.Conns.{IsRead, IsDue, IsBegun, Follows}
 
 -- what bytes of a data stream ask for; none ask for nothing
 abbrev pub Asks : ℕ → Stream → List ℕ → List StreamAct → Type 0
 Asks mtu s [] asked = asked ≡ []
 Asks mtu s (b ∷ bytes) asked = BytesAsk mtu s (b ∷ bytes) false asked
 
--- more bytes of a data stream of UDP
-pub record ReadsOn (mtu : ℕ) (addr : Addr) (port : ℕ) (known bytes : List ℕ) (before after : List Due) (new : DataStream) : Type 0 where
+-- more bytes of the data stream
+pub record ReadsOn (mtu : ℕ) (goal : Goal) (known bytes : List ℕ) (before after : List Due) (new : DataStream) : Type 0 where
   pub asked : List StreamAct
   pub after_is : after ≡ before ++ on_stream 0 asked
-  pub asks : Asks mtu (record { id = 0; goal = goal.Udp addr port; bytes = known }) bytes asked
+  pub asks : Asks mtu (record { id = 0; goal = goal; bytes = known }) bytes asked
   pub follows : Follows true (on_stream 0 asked)
-  pub stream : InStream (record { id = 0; goal = goal.Udp addr port; bytes = known ++ bytes } ∷ []) new.reader new.n
+  pub stands : IsStream new (record { id = 0; goal = goal; bytes = known ++ bytes })
 
 -- whatever was read of it before
 abbrev pub ReadsData : DataStream → List ℕ → List Due → List Due → DataStream → Type 0
-ReadsData old bytes before after new = (mtu : ℕ) (addr : Addr) (port : ℕ) (known : List ℕ) (items : List Item) → Stands old.reader false known → ItemsOf false known items → old.n ≡ payload_count items
-    → ReadsOn mtu addr port known bytes before after new
+ReadsData old bytes before after new = (mtu : ℕ) (goal : Goal) (known : List ℕ) → IsStream old (record { id = 0; goal = goal; bytes = known })
+    → ReadsOn mtu goal known bytes before after new
 
 -- the first bytes of one
 abbrev pub ReadsFirst : List ℕ → List Due → List Due → DataStream → Type 0
-ReadsFirst bytes before after new = (mtu : ℕ) (addr : Addr) (port : ℕ) → ReadsOn mtu addr port [] bytes before after new
+ReadsFirst bytes before after new = (mtu : ℕ) (goal : Goal) → IsUdp goal → ReadsOn mtu goal [] bytes before after new
 
 -- One read behind what was read before: what it brings and asks for, and how far the bytes were read then.
 pub record ReadTo (setup : Setup) (f : machine.Front) (streams : List Stream) (bytes : List ℕ) (before after : List Due) (new : Front) : Type 0 where

@@ -1,6 +1,4 @@
 pub mod Queues
-pub mod Meanings
-pub mod Items
 pub mod Conns
 pub mod Closing
 pub mod Wants

@@ -6,10 +6,10 @@ ghost use Rattle.mq_machine.specs.Steps.{failed, starved};
 ghost use Rattle.mq_conn.specs.Conns.{IsConn};
 ghost use Rattle.mq_conn.specs.Closing.{is_spent};
 
-use crate::dues::Dues;
 use crate::front::Front;
 use crate::owed::Owed;
 use crate::queue::Queue;
+use mq_front::Dues;
 use mq_head::HeadReader;
 use mq_talk::{End, Goal, Why};
 use mq_wire::NoMemory;

@@ -4,22 +4,12 @@ ghost use Rattle.mq_machine.specs.declared.act.Act.TheVariants as asks;
 ghost use Rattle.mq_machine.specs.declared.act.Due.TheVariants.{Do};
 ghost use Rattle.mq_conn.specs.Feeding.{ReadsData, ReadsFirst, ReadsHead, Reads};
 
-use crate::dues::Dues;
-use crate::items::put_items;
-use crate::judge::{Verdict, judge};
-use mq_capsule::Reader;
+use mq_front::{DataStream, Dues, Verdict, judge_path};
 use mq_head::{HeadReader, HeadStep};
 use mq_machine::{Act, Due, Setup};
 use mq_talk::Goal;
 use mq_wire::NoMemory;
 use std::alloc::Global;
-
-/// The data stream of a request that may open: its reader, and the number of its next payload.
-#[derive(Drop)]
-pub struct DataStream {
-    pub reader: Reader,
-    pub n: u64,
-}
 
 /// How far the bytes of a connection were read.
 #[derive(Drop)]
@@ -35,7 +25,7 @@ pub enum Front {
 /// Reads more bytes of a data stream, and puts what they ask for at the back of the list.
 fn read_data(
     alloc: Global,
-    stream: DataStream,
+    mut stream: DataStream,
     bytes: &[u8],
     due: &mut Dues,
 ) -> Result<DataStream, NoMemory>
@@ -44,10 +34,8 @@ fn read_data(
     if bytes.is_empty() {
         return Ok(stream);
     }
-    let DataStream { mut reader, n } = stream;
-    let items = reader.feed(alloc, bytes)?;
-    let n = put_items(n, items.into_vec(), due)?;
-    Ok(DataStream { reader, n })
+    stream.take(alloc, bytes, false, due)?;
+    Ok(stream)
 }
 
 /// The request is refused, and nothing more is read.
@@ -67,11 +55,7 @@ fn lead(alloc: Global, goal: Goal, bytes: &[u8], due: &mut Dues) -> Result<DataS
     ensures { IfOk result (λ new. ReadsFirst bytes.now (due.old ++ Do (asks.Bind 0 goal) ∷ []) due.new new) }
 {
     due.push(Due::Do(Act::Bind { stream: 0, goal }))?;
-    let stream = DataStream {
-        reader: Reader::new(false),
-        n: 0,
-    };
-    read_data(alloc, stream, bytes, due)
+    read_data(alloc, DataStream::new(0), bytes, due)
 }
 
 /// Reads a piece of the head, and the capsules behind it where it ends there.
@@ -88,7 +72,7 @@ fn read_head(
         HeadStep::More => Ok(Front::Head(reader)),
         HeadStep::Refuse { status } => refuse(status, 0, due),
         HeadStep::Upgrade { kind, path, used } => {
-            match judge(alloc, setup, kind, path.as_slice())? {
+            match judge_path(alloc, setup, kind, path.as_slice())? {
                 Verdict::Refused { status, rule } => refuse(status, rule, due),
                 Verdict::Leads(goal) => {
                     let (_, rest) = bytes.split_at((used as usize).min(bytes.len()));

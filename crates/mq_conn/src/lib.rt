@@ -5,12 +5,9 @@
 mod acts;
 mod answer;
 mod conn;
-mod dues;
 mod feed;
 mod frame;
 mod front;
-mod items;
-mod judge;
 mod next;
 mod owed;
 mod packets;

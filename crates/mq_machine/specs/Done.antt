@@ -127,7 +127,7 @@ value kind bytes = record { what = Value; capsule = capsule_text (record { kind 
 -- it waits last in the tunnel of this number
 abbrev pub waits : ℕ → Waiting → List Tunnel → List Tunnel
 waits id w [] = []
-waits id w (t ∷ ts) = (if t.id == id then record t { waiting = t.waiting ++ w ∷ [] } else t) ∷ waits id w ts
+waits id w (t ∷ ts) = if t.id == id then record t { waiting = t.waiting ++ w ∷ [] } ∷ ts else t ∷ waits id w ts
 
 abbrev pub with_waiting : ℕ → Waiting → Conn → Conn
 with_waiting id w c = record c { tunnels = waits id w c.tunnels }

@@ -186,7 +186,7 @@ stream_of streams id = find (λ (s : Stream). s.id == id) streams
 
 abbrev pub more_bytes : ℕ → List ℕ → List Stream → List Stream
 more_bytes id bytes [] = []
-more_bytes id bytes (s ∷ streams) = (if s.id == id then record s { bytes = s.bytes ++ bytes } else s) ∷ more_bytes id bytes streams
+more_bytes id bytes (s ∷ streams) = if s.id == id then record s { bytes = s.bytes ++ bytes } ∷ streams else s ∷ more_bytes id bytes streams
 
 abbrev pub mark_of : ℕ → Option ℕ → List Due
 mark_of id None = []

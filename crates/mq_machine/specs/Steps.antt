@@ -64,7 +64,7 @@ next_framed c = if can_go_on c then find (can_frame c) (tunnels_from c.next_tunn
 
 abbrev pub set_waiting : ℕ → List Waiting → List Tunnel → List Tunnel
 set_waiting id ws [] = []
-set_waiting id ws (t ∷ ts) = (if t.id == id then record t { waiting = ws } else t) ∷ set_waiting id ws ts
+set_waiting id ws (t ∷ ts) = if t.id == id then record t { waiting = ws } ∷ ts else t ∷ set_waiting id ws ts
 
 abbrev pub whole_note : Tunnel → Waiting → What → Note
 whole_note t w (Packet from n packet) = note.Delivered from n t.id packet

@@ -2,9 +2,9 @@ use Rattle.std.proofs.Common.{ℕ, drop, List, Ok, ap, subst, ◌∙◌}
 use Rattle.mq_head.specs.declared.step.HeadStep.{HeadStep}
 use Rattle.mq_head.specs.Steps.{IsStep}
 use Rattle.mq_machine.specs.Reading.{PathMeans}
-use Rattle.mq_conn.specs.declared.judge.Verdict.{Verdict}
-use Rattle.mq_conn.specs.declared.judge.Verdict.TheVariants as verdict
-use Rattle.mq_conn.specs.Meanings.{meaning_of}
+use Rattle.mq_front.specs.declared.judge.Verdict.{Verdict}
+use Rattle.mq_front.specs.declared.judge.Verdict.TheVariants as verdict
+use Rattle.mq_front.specs.Meanings.{meaning_of}
 use Rattle.mq_conn.proofs.Heads.{more_so, refused_head, refused_path, leads_so}
 use Rattle.mq_conn.proofs.front.read_head.Goals as goal
 

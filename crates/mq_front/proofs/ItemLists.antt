@@ -12,7 +12,7 @@ use Rattle.mq_machine.specs.declared.act.Due.{Due}
 use Rattle.mq_machine.specs.declared.act.Due.TheVariants as due
 use Rattle.mq_machine.specs.declared.act.StreamAct.{StreamAct}
 use Rattle.mq_machine.specs.Reading.{item_acts, acts_of, payload_count, is_payload, is_close, on_stream, then_acts}
-use Rattle.mq_conn.specs.Items.{HasNoValue, HaveNoValue, PutsUnless}
+use Rattle.mq_front.specs.Items.{HasNoValue, HaveNoValue, PutsUnless}
 
 abbrev pub close_in : List StreamAct → Bool
 close_in acts = list_any is_close acts
@@ -59,41 +59,41 @@ pub payloads_last : (xs : List Item) (i : Item) → payload_count (xs ++ i ∷ [
 payloads_last [] i = omega arith
 payloads_last (x ∷ xs) i = let rest = payloads_last xs i in omega (arith, rest)
 
-on_both : (xs ys : List StreamAct) → on_stream 0 (xs ++ ys) ≡ on_stream 0 xs ++ on_stream 0 ys
-on_both [] ys = refl
-on_both (x ∷ xs) ys = ap (λ (ds : List Due). due.Do (act.OfStream 0 x) ∷ ds) (on_both xs ys)
+pub on_both : (id : ℕ) (xs ys : List StreamAct) → on_stream id (xs ++ ys) ≡ on_stream id xs ++ on_stream id ys
+on_both id [] ys = refl
+on_both id (x ∷ xs) ys = ap (λ (ds : List Due). due.Do (act.OfStream id x) ∷ ds) (on_both id xs ys)
 
 no_values_both : (xs ys : List Item) → HaveNoValue (xs ++ ys) → HaveNoValue xs × HaveNoValue ys
 no_values_both [] ys h = (tt, h)
 no_values_both (x ∷ xs) ys h = let r = no_values_both xs ys h.1 in ((h.0, r.0), r.1)
 
 -- what the items so far ask for was put
-abbrev pub Went : ℕ → List Item → List Due → List Due → ℕ → Bool → Type 0
-Went n items old new next closes = (mtu : ℕ) → HaveNoValue items
-    → (new ≡ old ++ on_stream 0 (acts_of kind.Udp mtu n items)) × (next ≡ n + payload_count items) × (closes ≡ close_in (acts_of kind.Udp mtu n items))
+abbrev pub Went : ℕ → ℕ → List Item → List Due → List Due → ℕ → Bool → Type 0
+Went id n items old new next closes = (mtu : ℕ) → HaveNoValue items
+    → (new ≡ old ++ on_stream id (acts_of kind.Udp mtu n items)) × (next ≡ n + payload_count items) × (closes ≡ close_in (acts_of kind.Udp mtu n items))
 
-pub went_none : (n : ℕ) (old : List Due) → Went n [] old old n false
-went_none n old = λ mtu h. (sym (append-nil old), omega arith, refl)
+pub went_none : (id n : ℕ) (old : List Due) → Went id n [] old old n false
+went_none id n old = λ mtu h. (sym (append-nil old), omega arith, refl)
 
 -- one more item
-unless_puts : (b c : Bool) (n : ℕ) (i : Item) (mid new : List Due) (mtu : ℕ) → PutsUnless b n i mid new c → HasNoValue i
-    → (new ≡ mid ++ on_stream 0 (cond b [] (item_acts kind.Udp mtu n i))) × (c ≡ (b || close_in (cond b [] (item_acts kind.Udp mtu n i))))
-unless_puts true c n i mid new mtu p h = (p.0 ∙ sym (append-nil mid), p.1)
-unless_puts false c n i mid new mtu p h = p mtu h
+unless_puts : (b c : Bool) (id n : ℕ) (i : Item) (mid new : List Due) (mtu : ℕ) → PutsUnless b id n i mid new c → HasNoValue i
+    → (new ≡ mid ++ on_stream id (cond b [] (item_acts kind.Udp mtu n i))) × (c ≡ (b || close_in (cond b [] (item_acts kind.Udp mtu n i))))
+unless_puts true c id n i mid new mtu p h = (p.0 ∙ sym (append-nil mid), p.1)
+unless_puts false c id n i mid new mtu p h = p mtu h
 
-pub went_more : (n k : ℕ) (xs : List Item) (i : Item) (old mid new : List Due) (next : ℕ) (b c : Bool) → Went n xs old mid k b → PutsUnless b k i mid new c
-    → next ≡ k + cond (is_payload i) 1 0 → Went n (xs ++ i ∷ []) old new next c
-went_more n k xs i old mid new next b c was puts next_is mtu h =
+pub went_more : (id n k : ℕ) (xs : List Item) (i : Item) (old mid new : List Due) (next : ℕ) (b c : Bool) → Went id n xs old mid k b → PutsUnless b id k i mid new c
+    → next ≡ k + cond (is_payload i) 1 0 → Went id n (xs ++ i ∷ []) old new next c
+went_more id n k xs i old mid new next b c was puts next_is mtu h =
     let parts = no_values_both xs (i ∷ []) h in
     let w = was mtu parts.0 in
-    let u = unless_puts b c k i mid new mtu puts parts.1.0 in
+    let u = unless_puts b c id k i mid new mtu puts parts.1.0 in
     let acts = acts_of kind.Udp mtu n xs in
     let F : ℕ → Bool → List StreamAct = λ m d. cond d [] (item_acts kind.Udp mtu m i) in
     let here : F k b ≡ F (n + payload_count xs) (close_in acts) = ap (λ (m : ℕ). F m b) w.1 ∙ ap (λ (d : Bool). F (n + payload_count xs) d) w.2 in
     let whole : acts ++ F k b ≡ acts_of kind.Udp mtu n (xs ++ i ∷ []) = ap (λ (ys : List StreamAct). acts ++ ys) here ∙ sym (acts_last mtu n xs i) in
     let pay = payloads_last xs i in (
-      u.0 ∙ ap (λ (ds : List Due). ds ++ on_stream 0 (F k b)) w.0 ∙ append_assoc old (on_stream 0 acts) (on_stream 0 (F k b))
-          ∙ ap (λ (ds : List Due). old ++ ds) (sym (on_both acts (F k b)) ∙ ap (λ (ys : List StreamAct). on_stream 0 ys) whole),
+      u.0 ∙ ap (λ (ds : List Due). ds ++ on_stream id (F k b)) w.0 ∙ append_assoc old (on_stream id acts) (on_stream id (F k b))
+          ∙ ap (λ (ds : List Due). old ++ ds) (sym (on_both id acts (F k b)) ∙ ap (λ (ys : List StreamAct). on_stream id ys) whole),
       omega (arith, next_is, pay, w.1),
       u.1 ∙ ap (λ (d : Bool). d || close_in (F k b)) w.2 ∙ sym (any_both acts (F k b)) ∙ ap close_in whole,
     )

@@ -1,9 +1,9 @@
 //! What the capsules of a tunnel for UDP ask for (RFC 9298, section 5).
-ghost use Rattle.std.specs.Prelude.{◌≡◌, ℕ, ◌+◌, ◌++◌, ◌∷◌, [], IfOk, if◌then◌else◌};
+ghost use Rattle.std.specs.Prelude.{◌≡◌, ℕ, ◌+◌, ◌++◌, ◌∷◌, [], IfOk, OnOk, if◌then◌else◌};
 ghost use Rattle.std.specs.Option.{option_to_list};
 ghost use Rattle.mq_addr.specs.declared.kind.Kind.TheVariants as kind;
 ghost use Rattle.mq_machine.specs.Reading.{udp_act, in_context, item_acts, is_payload, is_close, on_stream};
-ghost use Rattle.mq_conn.specs.Items.{HasNoValue, PutsItem, PutsUnless, Puts};
+ghost use Rattle.mq_front.specs.Items.{HasNoValue, PutsItem, PutsUnless, Puts};
 
 use crate::dues::Dues;
 use mq_capsule::Item;
@@ -94,63 +94,88 @@ fn next_number(n: u64, item: &Item) -> Result<u64, NoMemory>
     }
 }
 
-/// Puts an act of the data stream at the back of the list, and answers whether it closes the tunnel.
-fn put_act(act: StreamAct, due: &mut Dues) -> Result<bool, NoMemory>
-    ensures { IfOk result (λ closes. (due.new ≡ due.old ++ on_stream 0 (act ∷ [])) × (closes ≡ is_close act)) }
+/// Puts an act of a data stream at the back of the list, and answers whether it closes the tunnel.
+fn put_act(stream: u32, act: StreamAct, due: &mut Dues) -> Result<bool, NoMemory>
+    ensures { IfOk result (λ closes. (due.new ≡ due.old ++ on_stream stream (act ∷ [])) × (closes ≡ is_close act)) }
 {
     let closes = is_close(&act);
-    due.push(Due::Do(Act::OfStream { stream: 0, act }))?;
+    due.push(Due::Do(Act::OfStream { stream, act }))?;
     Ok(closes)
 }
 
+/// Puts an act of a data stream at the back of the list, or nothing.
+pub(crate) fn put_if(
+    puts: bool,
+    stream: u32,
+    act: StreamAct,
+    due: &mut Dues,
+) -> Result<(), NoMemory>
+    ensures { OnOk result (due.new ≡ due.old ++ on_stream stream (if puts then act ∷ [] else [])) }
+{
+    if puts {
+        put_act(stream, act, due)?;
+    }
+    Ok(())
+}
+
 /// Puts what an item asks for at the back of the list, and answers whether it closes the tunnel.
-fn put_item(n: u64, item: Item, due: &mut Dues) -> Result<bool, NoMemory>
-    ensures { IfOk result (λ closes. PutsItem n item due.old due.new closes) }
+fn put_item(stream: u32, n: u64, item: Item, due: &mut Dues) -> Result<bool, NoMemory>
+    ensures { IfOk result (λ closes. PutsItem stream n item due.old due.new closes) }
 {
     match item_act(n, item) {
-        Some(act) => put_act(act, due),
+        Some(act) => put_act(stream, act, due),
         None => Ok(false),
     }
 }
 
 /// The same, where nothing asked for a close before, else nothing.
-fn put_unless(closes: bool, n: u64, item: Item, due: &mut Dues) -> Result<bool, NoMemory>
-    ensures { IfOk result (λ closed. PutsUnless closes n item due.old due.new closed) }
+fn put_unless(
+    closes: bool,
+    stream: u32,
+    n: u64,
+    item: Item,
+    due: &mut Dues,
+) -> Result<bool, NoMemory>
+    ensures { IfOk result (λ closed. PutsUnless closes stream n item due.old due.new closed) }
 {
     if closes {
         Ok(true)
     } else {
-        put_item(n, item, due)
+        put_item(stream, n, item, due)
     }
 }
 
 /// What the items of a data stream asked for so far: the number of its next payload, and whether its tunnel is to close.
 #[derive(Clone, Copy)]
-struct Asked {
-    n: u64,
-    closes: bool,
+pub struct Asked {
+    pub n: u64,
+    pub closes: bool,
 }
 
 /// Puts what one more item asks for.
-fn put_next(asked: Asked, item: Item, due: &mut Dues) -> Result<Asked, NoMemory>
-    ensures { IfOk result (λ next. PutsUnless asked.closes asked.n item due.old due.new next.closes × (next.n ≡ asked.n + (if is_payload item then 1 else 0))) }
+fn put_next(stream: u32, asked: Asked, item: Item, due: &mut Dues) -> Result<Asked, NoMemory>
+    ensures { IfOk result (λ next. PutsUnless asked.closes stream asked.n item due.old due.new next.closes × (next.n ≡ asked.n + (if is_payload item then 1 else 0))) }
 {
     let n = next_number(asked.n, &item)?;
-    let closes = put_unless(asked.closes, asked.n, item, due)?;
+    let closes = put_unless(asked.closes, stream, asked.n, item, due)?;
     Ok(Asked { n, closes })
 }
 
-/// Puts what the items ask for at the back of the list, behind a close nothing. `first` is the number of their first payload;
-/// answers the number behind them.
-pub fn put_items(first: u64, items: Vec<Item>, due: &mut Dues) -> Result<u64, NoMemory>
-    ensures { IfOk result (λ next. Puts first items.items due.old due.new next) }
+/// Puts what the items ask for at the back of the list, behind a close nothing. `first` is the number of their first payload.
+pub fn put_items(
+    stream: u32,
+    first: u64,
+    items: Vec<Item>,
+    due: &mut Dues,
+) -> Result<Asked, NoMemory>
+    ensures { IfOk result (λ asked. Puts stream first items.items due.old due.new asked.n asked.closes) }
 {
     let mut asked = Asked {
         n: first,
         closes: false,
     };
     for item in items {
-        asked = put_next(asked, item, due)?;
+        asked = put_next(stream, asked, item, due)?;
     }
-    Ok(asked.n)
+    Ok(asked)
 }

@@ -1,7 +1,7 @@
 //! What the path of a request means: where its tunnel leads, or a refusal (RFC 9298, section 3).
 ghost use Rattle.std.specs.Prelude.{◌≡◌, IfOk};
 ghost use Rattle.mq_machine.specs.Reading.{PathMeans, decided};
-ghost use Rattle.mq_conn.specs.Meanings.{meaning_of};
+ghost use Rattle.mq_front.specs.Meanings.{meaning_of};
 
 use mq_addr::Kind;
 use mq_machine::Setup;
@@ -51,7 +51,7 @@ pub fn judge_udp(alloc: Global, setup: &Setup, path: &[u8]) -> Result<Verdict, N
 }
 
 /// What the path of a request means. Tunnels for IP packets aren't served yet.
-pub fn judge(alloc: Global, setup: &Setup, kind: Kind, path: &[u8]) -> Result<Verdict, NoMemory>
+pub fn judge_path(alloc: Global, setup: &Setup, kind: Kind, path: &[u8]) -> Result<Verdict, NoMemory>
     ensures { IfOk result (λ verdict. PathMeans setup.now kind path.now (meaning_of verdict)) }
 {
     match kind {

@@ -1,0 +1,42 @@
+-- What a data stream stands for, and what more of its bytes ask for.
+use Rattle.std.specs.Prelude.{◌≡◌, ℕ, Bool, true, false, List, ◌++◌, if◌then◌else◌}
+use Rattle.mq_capsule.specs.declared.item.Item.{Item}
+use Rattle.mq_capsule.specs.Items.{ItemsOf}
+use Rattle.mq_capsule.specs.Readers.{Stands, TellsBegun}
+use Rattle.mq_talk.specs.declared.goal.Goal.{Goal}
+use Rattle.mq_talk.specs.declared.goal.Goal.TheVariants as goal
+use Rattle.mq_talk.specs.declared.note.Why.{Why}
+use Rattle.mq_talk.specs.declared.note.Why.TheVariants as why
+use Rattle.mq_machine.specs.declared.act.Due.{Due}
+use Rattle.mq_machine.specs.declared.act.StreamAct.{StreamAct}
+use Rattle.mq_machine.specs.Reading.{BytesAsk, on_stream, payload_count}
+use Rattle.mq_machine.specs.State.{Stream}
+use Rattle.mq_front.specs.declared.data.DataStream.{DataStream}
+
+abbrev pub IsUdp : Goal → Type 0
+IsUdp (goal.Udp addr port) = Unit {0}
+IsUdp (goal.Ip area protocol) = ⊥
+
+-- the data stream of a tunnel for UDP, whose bytes the reader was fed, and the number of its next payload
+pub record IsStream (d : DataStream) (s : Stream) : Type 0 where
+  pub id_is : d.id ≡ s.id
+  pub udp : IsUdp s.goal
+  pub items : List Item
+  pub stands : Stands d.reader false s.bytes
+  pub items_are : ItemsOf false s.bytes items
+  pub next : d.n ≡ payload_count items
+
+-- why its end closes the tunnel
+abbrev pub EndsAs : DataStream → Why → Type 0
+EndsAs d end = (inside : Bool) × (end ≡ (if inside then why.Truncated else why.End)) × TellsBegun d.reader (inside ≡ true)
+
+-- more bytes, with which the data stream ends or doesn't: what they ask for was put
+pub record Took (mtu : ℕ) (s : Stream) (bytes : List ℕ) (ends : Bool) (before after : List Due) (new : DataStream) : Type 0 where
+  pub asked : List StreamAct
+  pub asks : BytesAsk mtu s bytes ends asked
+  pub after_is : after ≡ before ++ on_stream s.id asked
+  pub stands : IsStream new (record s { bytes = s.bytes ++ bytes })
+
+-- whatever was read of it before
+abbrev pub Takes : DataStream → List ℕ → Bool → List Due → List Due → DataStream → Type 0
+Takes old bytes ends before after new = (mtu : ℕ) (s : Stream) → IsStream old s → Took mtu s bytes ends before after new

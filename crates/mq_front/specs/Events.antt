@@ -1,0 +1,87 @@
+-- What the events of a read of HTTP/2 ask for, as it is put into the list of what is due.
+use Rattle.std.specs.Prelude.{◌≡◌, ◌⊎◌, ℕ, Bool, true, false, slice_set, List, [], ◌∷◌, ◌++◌}
+use Rattle.mq_addr.specs.declared.kind.Kind.TheVariants as kind
+use Rattle.mq_h2.specs.declared.event.StreamEvent as http2
+use Rattle.mq_h2.specs.declared.h2.H2.{H2}
+use Rattle.mq_h2.specs.Reading.{ReadTo}
+use Rattle.mq_h2.specs.Stand.{IsH2}
+use Rattle.mq_h2.specs.State as h2
+use Rattle.mq_talk.specs.declared.goal.Goal.{Goal}
+use Rattle.mq_talk.specs.declared.note.Why.TheVariants as why
+use Rattle.mq_machine.specs.declared.act.Act.TheVariants as act
+use Rattle.mq_machine.specs.declared.act.StreamAct.TheVariants as stream
+use Rattle.mq_machine.specs.declared.act.Due.{Due}
+use Rattle.mq_machine.specs.declared.act.Due.TheVariants as due
+use Rattle.mq_machine.specs.declared.setup.Setup.{Setup}
+use Rattle.mq_machine.specs.Reading.{StreamEvent, EventBrings, EventsBring, EventAsks, EventsAsk, ended_acts}
+use Rattle.mq_machine.specs.State.{Stream, Tunnel}
+use Rattle.mq_front.specs.declared.data.DataStream.{DataStream}
+use Rattle.mq_front.specs.declared.http2.Http2.{Http2}
+use Rattle.mq_front.specs.Data.{IsUdp, Takes}
+use Rattle.mq_front.specs.Streams.{AreStreams, HasNone, IsPlaceOf}
+
+-- Contents of the data stream of this number: what they ask for was put, or nothing where there is none.
+abbrev pub Contains : ℕ → List ℕ → Bool → List Due → List Due → List DataStream → List DataStream → Type 0
+Contains id bytes ends before after old new =
+    ((place : ℕ) × (d : DataStream) × (e : DataStream) × IsPlaceOf old id place d × (new ≡ slice_set old place e) × Takes d bytes ends before after e)
+    ⊎ (HasNone old id × (new ≡ old) × (after ≡ before))
+
+-- a request that leads there: its port is to be bound, and its data stream begins
+pub record Leads (id : ℕ) (goal : Goal) (ends : Bool) (before after : List Due) (old new : List DataStream) : Type 0 where
+  pub after_is : after ≡ before ++ due.Do (act.Bind id goal) ∷ ended_acts id ends
+  pub stand : (streams : List Stream) → IsUdp goal → AreStreams old streams → AreStreams new (streams ++ record { id = id; goal = goal; bytes = [] } ∷ [])
+
+-- an error of a stream, with a tunnel or without, and its reset
+abbrev pub error_dues : ℕ → ℕ → Bool → List Due
+error_dues id code false = due.Do (act.Reset id code) ∷ []
+error_dues id code true = due.Do (act.OfStream id (stream.Close why.Malformed)) ∷ []
+
+abbrev pub reset_dues : ℕ → Bool → List Due
+reset_dues id false = []
+reset_dues id true = due.Do (act.OfStream id (stream.Close why.Reset)) ∷ []
+
+-- what one event asks for was put
+pub record Puts (setup : Setup) (ts : List Tunnel) (told : http2.StreamEvent) (streams : List Stream) (before after : List Due) (new : List DataStream) : Type 0 where
+  pub event : StreamEvent
+  pub acts : List Due
+  pub others : List Stream
+  pub brings : EventBrings setup told event
+  pub asks : EventAsks setup.mtu ts streams event acts others
+  pub after_is : after ≡ before ++ acts
+  pub stand : AreStreams new others
+
+-- of a connection whose tunnels are for UDP
+abbrev pub EventTo : Setup → List Tunnel → http2.StreamEvent → List Due → List Due → List DataStream → List DataStream → Type 0
+EventTo setup ts told before after old new =
+    setup.udp.kind ≡ kind.Udp → (streams : List Stream) → AreStreams old streams → Puts setup ts told streams before after new
+
+-- what events ask for was put, one after the other
+pub record PutsAll (setup : Setup) (ts : List Tunnel) (told : List http2.StreamEvent) (streams : List Stream) (before after : List Due) (new : List DataStream) : Type 0 where
+  pub events : List StreamEvent
+  pub acts : List Due
+  pub others : List Stream
+  pub brings : EventsBring setup told events
+  pub asks : EventsAsk setup.mtu ts streams events acts others
+  pub after_is : after ≡ before ++ acts
+  pub stand : AreStreams new others
+
+abbrev pub EventsTo : Setup → List Tunnel → List http2.StreamEvent → List Due → List Due → List DataStream → List DataStream → Type 0
+EventsTo setup ts told before after old new =
+    setup.udp.kind ≡ kind.Udp → (streams : List Stream) → AreStreams old streams → PutsAll setup ts told streams before after new
+
+-- the core's state and the data streams that a front stands for
+pub record IsFront (f : Http2) (h : h2.State) (streams : List Stream) : Type 0 where
+  pub core : IsH2 f.h2 h
+  pub streams_are : AreStreams f.streams.items streams
+
+-- One read: what its frames do, and what that asks for.
+pub record ReadsTo (setup : Setup) (ts : List Tunnel) (h : h2.State) (streams : List Stream) (piece : List ℕ) (before after : List Due) (new : Http2) : Type 0 where
+  pub told : List http2.StreamEvent
+  pub next : h2.State
+  pub reads : ReadTo h piece told next
+  pub core : IsH2 new.h2 next
+  pub puts : PutsAll setup ts told streams before after new.streams.items
+
+abbrev pub ReadsFrames : Setup → List Tunnel → List ℕ → List Due → List Due → Http2 → Http2 → Type 0
+ReadsFrames setup ts piece before after old new =
+    setup.udp.kind ≡ kind.Udp → (h : h2.State) (streams : List Stream) → IsFront old h streams → ReadsTo setup ts h streams piece before after new

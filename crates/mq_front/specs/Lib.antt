@@ -1,0 +1,5 @@
+pub mod Meanings
+pub mod Items
+pub mod Data
+pub mod Streams
+pub mod Events

@@ -1,0 +1,72 @@
+//! The front end of a connection of HTTP/2: its core, and the data streams of its requests.
+ghost use Rattle.std.specs.Prelude.{◌≡◌, [], OnOk, IfOk};
+ghost use Rattle.mq_h2.specs.State.{new_state};
+ghost use Rattle.mq_front.specs.Events.{IsFront, ReadsFrames, EventsTo};
+
+use crate::data::DataStream;
+use crate::dues::Dues;
+use crate::event::{Tunnels, ask};
+use mq_h2::{H2, StreamEvent};
+use mq_machine::Setup;
+use mq_wire::NoMemory;
+use std::alloc::Global;
+
+/// The core of a connection of HTTP/2, behind the client's preface, and its data streams, in the order of their requests.
+#[derive(Drop)]
+pub struct Http2 {
+    pub h2: H2,
+    streams: Vec<DataStream>,
+}
+
+/// Puts what events ask for at the back of the list, one after the other.
+fn ask_all<T: Tunnels>(
+    alloc: Global,
+    setup: &Setup,
+    tunnels: &T,
+    events: Vec<StreamEvent>,
+    streams: &mut Vec<DataStream>,
+    due: &mut Dues,
+) -> Result<(), NoMemory>
+    ensures { OnOk result (EventsTo setup.now (T.list tunnels.now) events.items due.old due.new streams.old.items streams.new.items) }
+{
+    for event in events {
+        ask(alloc, setup, tunnels, event, streams, due)?;
+    }
+    Ok(())
+}
+
+impl Http2 {
+    /// A connection of which nothing behind the preface was read. It owes the server's SETTINGS (RFC 9113, section 3.4).
+    pub fn new(alloc: Global) -> Result<Http2, NoMemory>
+        ensures { IfOk result (λ f. IsFront f new_state []) }
+    {
+        Ok(Http2 {
+            h2: H2::new(alloc)?,
+            streams: Vec::new(alloc),
+        })
+    }
+
+    /// Takes the bytes of one read, and puts what they ask for at the back of the list: requests judged by the setup of the
+    /// proxy, whose template for UDP tunnels is one of that kind, and the capsules of their data streams. After an `Err` it is
+    /// of no use.
+    pub fn read<T: Tunnels>(
+        &mut self,
+        alloc: Global,
+        setup: &Setup,
+        tunnels: &T,
+        piece: &[u8],
+        due: &mut Dues,
+    ) -> Result<(), NoMemory>
+        ensures { OnOk result (ReadsFrames setup.now (T.list tunnels.now) piece.now due.old due.new self.old self.new) }
+    {
+        let events = self.h2.feed(alloc, piece)?;
+        ask_all(
+            alloc,
+            setup,
+            tunnels,
+            events.into_vec(),
+            &mut self.streams,
+            due,
+        )
+    }
+}

@@ -1,0 +1,236 @@
+//! What the frames of a client ask for, written as lines.
+
+use crate::{Dues, Http2, Tunnels};
+use mq_addr::{Addr, Kind};
+use mq_machine::{Act, Due, Setup, StreamAct};
+use mq_policy::Policy;
+use mq_talk::Goal;
+use mq_target::Template;
+use std::alloc::Global;
+use std::test::Fail;
+
+/// No tunnel is live.
+struct NoTunnel;
+
+impl Tunnels for NoTunnel {
+    ghost use Rattle.std.specs.Prelude.{[]};
+
+    ghost list = { λ t. [] };
+
+    fn is_on(&self, _: u32) -> bool {
+        false
+    }
+}
+
+/// One tunnel is live, on this stream.
+#[derive(Clone, Copy)]
+struct OneTunnel {
+    stream: u32,
+    goal: Goal,
+}
+
+impl Tunnels for OneTunnel {
+    ghost use Rattle.std.specs.Prelude.{[], ◌∷◌};
+
+    ghost list = { λ t. record { id = 0; stream = t.stream; goal = t.goal; waiting = [] } ∷ [] };
+
+    fn is_on(&self, stream: u32) -> bool {
+        self.stream == stream
+    }
+}
+
+fn setup(alloc: Global) -> Result<Setup, Fail> {
+    let Ok(udp) = Template::parse(alloc, Kind::Udp, b"/u/{target_host}/{target_port}") else {
+        return Err(Fail::from("no template"));
+    };
+    Ok(Setup {
+        udp,
+        ip: Template::well_known(alloc, Kind::Ip)?,
+        policy: Policy::new(alloc),
+        mtu: 1500,
+        pump: 1,
+    })
+}
+
+/// The line of what is asked of a tunnel.
+fn stream_line(alloc: Global, stream: u32, act: &StreamAct) -> Result<String, Fail> {
+    Ok(match act {
+        StreamAct::Payload { n, payload } => {
+            let payload = hex::encode(alloc, payload.as_slice())?;
+            format!(in alloc; "{stream} payload {n} {payload}\n")?
+        }
+        StreamAct::Drop { n, cause } => format!(in alloc; "{stream} drop {n} {cause:?}\n")?,
+        StreamAct::Close { why } => format!(in alloc; "{stream} close {why:?}\n")?,
+        _ => format!(in alloc; "{stream} another\n")?,
+    })
+}
+
+fn act_line(alloc: Global, act: &Act) -> Result<String, Fail> {
+    match act {
+        Act::Bind {
+            stream,
+            goal: Goal::Udp { port, .. },
+        } => Ok(format!(in alloc; "{stream} bind {port}\n")?),
+        Act::Refuse {
+            stream,
+            status,
+            rule,
+        } => Ok(format!(in alloc; "{stream} refuse {status} {rule}\n")?),
+        Act::Reset { stream, code } => Ok(format!(in alloc; "{stream} reset {code}\n")?),
+        Act::OfStream { stream, act } => stream_line(alloc, *stream, act),
+        _ => Ok(format!(in alloc; "another\n")?),
+    }
+}
+
+fn due_line(alloc: Global, due: &Due) -> Result<String, Fail> {
+    match due {
+        Due::Do(act) => act_line(alloc, act),
+        Due::Spend { stream, size } => Ok(format!(in alloc; "{stream} spend {size}\n")?),
+        Due::Fault { code } => Ok(format!(in alloc; "fault {code}\n")?),
+    }
+}
+
+/// What a piece, given in hex, asks for.
+fn read<T: Tunnels>(
+    alloc: Global,
+    front: &mut Http2,
+    tunnels: &T,
+    hexed: &str,
+) -> Result<String, Fail> {
+    let Ok(piece) = hex::decode(alloc, hexed.as_bytes()) else {
+        return Err(Fail::from("no hex"));
+    };
+    let mut dues = Dues::new(alloc);
+    front.read(alloc, &setup(alloc)?, tunnels, piece.as_slice(), &mut dues)?;
+    let mut text = String::new(alloc);
+    while let Some(due) = dues.pop() {
+        text.push_str(due_line(alloc, &due)?.as_str())?;
+    }
+    Ok(text)
+}
+
+/// The client's SETTINGS, without one.
+const SETTINGS: &str = "000000040000000000";
+
+/// The block of a request for a tunnel to 192.0.2.6, port 443.
+const BLOCK: &str = "0207434f4e4e4543548704102f752f3139322e302e322e362f34343301017000093a70726f746f636f6c0b636f6e6e6563742d756470";
+
+/// HEADERS of a stream with that block, that end it or don't.
+fn request(alloc: Global, stream: u32, ends: bool) -> Result<String, Fail> {
+    let flags = if ends { "05" } else { "04" };
+    Ok(format!(in alloc; "00003601{flags}0000000{stream}{BLOCK}")?)
+}
+
+/// A connection that has read the client's SETTINGS and a request on stream 1.
+fn asked(alloc: Global) -> Result<Http2, Fail> {
+    let mut front = Http2::new(alloc)?;
+    read(alloc, &mut front, &NoTunnel, SETTINGS)?;
+    let piece = request(alloc, 1, false)?;
+    read(alloc, &mut front, &NoTunnel, piece.as_str())?;
+    Ok(front)
+}
+
+#[test]
+fn capsules_of_two_streams_stay_apart(rt: HostRuntime) -> Result<(), Fail> {
+    let alloc = rt.alloc();
+    let mut front = Http2::new(alloc)?;
+    assert_eq!(rt; read(alloc, &mut front, &NoTunnel, SETTINGS)?, String::new(alloc));
+    let first = request(alloc, 1, false)?;
+    let second = request(alloc, 3, false)?;
+    let both = format!(in alloc; "{first}{second}")?;
+    let text = read(alloc, &mut front, &NoTunnel, both.as_str())?;
+    assert_eq!(rt; text, format!(in alloc; "1 bind 443\n3 bind 443\n")?);
+    let text = read(
+        alloc,
+        &mut front,
+        &NoTunnel,
+        "00000200000000000100030000030000000000030003000000030000000000010061620000020000000000036364",
+    )?;
+    let want = "1 spend 2\n3 spend 3\n1 payload 0 6162\n1 spend 3\n3 payload 0 6364\n3 spend 2\n";
+    assert_eq!(rt; text, format!(in alloc; "{want}")?);
+    Ok(())
+}
+
+#[test]
+fn what_ends_a_stream(rt: HostRuntime) -> Result<(), Fail> {
+    let alloc = rt.alloc();
+    let rows = [
+        // the data stream ends, between capsules and inside one
+        ("000005000100000001000300aabb", "1 payload 0 aabb\n1 close End\n1 spend 5\n"),
+        ("0000040001000000010003aabb", "1 close Truncated\n1 spend 4\n"),
+        ("000000000100000001", "1 close End\n1 spend 0\n"),
+        // a datagram without a Context ID, with the end behind it
+        ("0000020001000000010000", "1 close Malformed\n1 spend 2\n"),
+        // a reset, with a tunnel
+        ("00000403000000000100000008", "1 close Reset\n"),
+        // a second header block, with a tunnel
+        ("000001010400000001 82", "1 close Malformed\n"),
+        // an error of the connection: DATA on a stream that was never begun
+        ("000001000000000009aa", "fault 1\n"),
+    ];
+    for (hexed, want) in rows {
+        let mut front = asked(alloc)?;
+        let tunnels = OneTunnel {
+            stream: 1,
+            goal: Goal::Udp {
+                addr: Addr::V4(0),
+                port: 443,
+            },
+        };
+        let mut piece = String::new(alloc);
+        for part in hexed.split(' ') {
+            piece.push_str(part)?;
+        }
+        let text = read(alloc, &mut front, &tunnels, piece.as_str())?;
+        assert_eq!(rt; text, format!(in alloc; "{want}")?);
+    }
+    Ok(())
+}
+
+#[test]
+fn requests_by_their_meaning(rt: HostRuntime) -> Result<(), Fail> {
+    let alloc = rt.alloc();
+    let ended = request(alloc, 1, true)?;
+    let rows = [
+        // one that ends its side at once
+        (ended.as_str(), "1 bind 443\n1 close End\n"),
+        // GET
+        ("000011010500000001828684418cf1e3c2e5f23a6ba0ab90f4ff", "1 refuse 501 0\n"),
+        // CONNECT with another protocol is malformed no more than GET is: it isn't served
+        (
+            "00003201040000000102 07434f4e4e454354 87 04102f752f3139322e302e322e362f343433 010170 00093a70726f746f636f6c 07776562736f636b",
+            "1 refuse 501 0\n",
+        ),
+        // a method alone is malformed, and has no tunnel
+        ("00000101040000000182", "1 reset 1\n"),
+    ];
+    for (hexed, want) in rows {
+        let mut front = Http2::new(alloc)?;
+        read(alloc, &mut front, &NoTunnel, SETTINGS)?;
+        let mut piece = String::new(alloc);
+        for part in hexed.split(' ') {
+            piece.push_str(part)?;
+        }
+        let text = read(alloc, &mut front, &NoTunnel, piece.as_str())?;
+        assert_eq!(rt; text, format!(in alloc; "{want}")?);
+    }
+    Ok(())
+}
+
+/// The same is asked for by every cutting into two pieces, and the marks of DATA stand once each.
+#[test]
+fn every_cut_asks_for_the_same(rt: HostRuntime) -> Result<(), Fail> {
+    let alloc = rt.alloc();
+    let first = request(alloc, 1, false)?;
+    let whole = format!(in alloc; "{SETTINGS}{first}000007000000000001000300aabb2901")?;
+    let want = "1 bind 443\n1 payload 0 aabb\n1 spend 7\n";
+    for cut in 0..=whole.len() / 2 {
+        let (before, after) = whole.as_str().split_at(2 * cut);
+        let mut front = Http2::new(alloc)?;
+        let mut text = read(alloc, &mut front, &NoTunnel, before)?;
+        let rest = read(alloc, &mut front, &NoTunnel, after)?;
+        text.push_str(rest.as_str())?;
+        assert_eq!(rt; text, format!(in alloc; "{want}")?);
+    }
+    Ok(())
+}
