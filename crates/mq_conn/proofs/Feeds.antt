@@ -1,6 +1,7 @@
 -- What more bytes of the data stream lead to.
-use Rattle.std.proofs.Common.{◌≡◌, ℕ, ◌+◌, ◌==◌, cond, nat_lt, Bool, true, false, List, [], ◌∷◌, ◌++◌, length, refl, sym, ap, ◌∙◌, subst, append-nil}
+use Rattle.std.proofs.Common.{◌≡◌, ℕ, ◌+◌, ◌==◌, cond, nat_lt, true, false, List, [], ◌∷◌, ◌++◌, length, refl, sym, ap, ◌∙◌, subst, append-nil, eqb-true}
 use Rattle.std.specs.List.{list_any}
+use Rattle.std.proofs.lemmas.List.{nil_from_length}
 use Rattle.mq_addr.specs.declared.kind.Kind.TheVariants as kind
 use Rattle.mq_capsule.specs.declared.item.Item.{Item}
 use Rattle.mq_capsule.specs.declared.item.Item.TheVariants as item
@@ -68,14 +69,10 @@ reads_some old new bytes before after some takes mtu g known stands =
     let t = takes mtu (record { id = 0; goal = g; bytes = known }) stands in
     record { asked = t.asked; after_is = t.after_is; asks = asks_so mtu g known bytes t.asked some t.asks; follows = asked_bytes mtu g known bytes t.asked stands.udp t.asks; stands = t.stands }
 
-nil_is : (bytes : List ℕ) → (length bytes == 0) ≡ true → bytes ≡ []
-nil_is [] none = refl
-nil_is (b ∷ bytes) none = absurd cc
-
 pub reads_none : (old : DataStream) (bytes : List ℕ) (before : List Due) → (length bytes == 0) ≡ true → ReadsData old bytes before before old
 reads_none old bytes before none =
     let P : List ℕ → Type 0 = λ xs. ReadsData old xs before before old in
-    subst P (sym (nil_is bytes none)) (λ mtu g known stands. record {
+    subst P (sym (nil_from_length bytes (eqb-true (length bytes) 0 none))) (λ mtu g known stands. record {
       asked = [];
       after_is = sym (append-nil before);
       asks = refl;

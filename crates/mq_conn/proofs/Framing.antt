@@ -76,7 +76,7 @@ framed_so y t packet rest front tunnels goes =
     ∙ ap (λ (f : machine.Front). done (said, record (framing y f 0 text size) { tunnels = set_waiting t.id rest y.tunnels; next_tunnel = t.id + 1 })) front
     ∙ ap (λ (xs : List ℕ). done (said, record y { out = y.out ++ xs; tunnels = set_waiting t.id rest y.tunnels; next_tunnel = t.id + 1 })) (take-length text)
     ∙ ap (λ (ts : List machine.Tunnel). done (said, record y { out = y.out ++ text; tunnels = set_waiting t.id rest ts; next_tunnel = t.id + 1 })) tunnels
-    ∙ ap (λ (b : Bool). done (said, record y { out = y.out ++ text; tunnels = cond b (record m { waiting = rest }) m ∷ []; next_tunnel = t.id + 1 })) (eq-eqb t.id t.id refl)
+    ∙ ap (λ (b : Bool). done (said, record y { out = y.out ++ text; tunnels = cond b (record m { waiting = rest } ∷ []) (m ∷ []); next_tunnel = t.id + 1 })) (eq-eqb t.id t.id refl)
 
 -- ---- the capsule that was put is that of the packet that was taken
 

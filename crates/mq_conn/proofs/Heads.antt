@@ -1,34 +1,20 @@
 -- What a piece of a head leads to, and a piece behind it.
-use Rattle.std.proofs.Common.{◌≡◌, ◌≢◌, ℕ, min, Bool, true, false, List, [], ◌∷◌, ◌++◌, length, drop, Option, Some, None, Result, Ok, Err, refl, sym, ap, ◌∙◌, subst, append_assoc, append-nil, arith}
-use Rattle.std.specs.Prelude.{option_map, IfOk}
-use Rattle.mq_addr.specs.declared.addr.Addr.{Addr}
+use Rattle.std.proofs.Common.{◌≡◌, ◌≢◌, ℕ, min, Bool, true, false, List, [], ◌∷◌, ◌++◌, length, drop, None, Result, Ok, Err, refl, sym, ap, ◌∙◌, subst, append_assoc, append-nil, arith}
+use Rattle.std.specs.Prelude.{IfOk}
 use Rattle.mq_addr.specs.declared.kind.Kind.{Kind}
-use Rattle.mq_addr.specs.declared.kind.Kind.TheVariants as kind
 use Rattle.mq_wire.specs.declared.NoMemory.{NoMemory}
-use Rattle.mq_policy.specs.Names.{NameTable}
 use Rattle.mq_head.specs.declared.reader.HeadReader.{HeadReader}
 use Rattle.mq_head.specs.declared.step.HeadStep.TheVariants.{More, Upgrade, Refuse}
 use Rattle.mq_head.specs.Reader.{IsHeadOf}
 use Rattle.mq_head.specs.Steps.{IsStep}
-use Rattle.mq_policy.specs.Goals.{goal_of, addr_of}
-use Rattle.mq_policy.specs.declared.decision.Decision.TheVariants.{Go, Denied, UnknownName}
 use Rattle.mq_talk.specs.declared.goal.Goal.{Goal}
 use Rattle.mq_talk.specs.declared.goal.Goal.TheVariants as goal
-use Rattle.mq_target.specs.declared.shape.Order.{Order}
-use Rattle.mq_target.specs.declared.shape.Order.TheVariants.{TargetFirst, TargetLast}
-use Rattle.mq_target.specs.declared.target.Target.{Target}
-use Rattle.mq_target.specs.declared.target.Target.TheVariants as target
-use Rattle.mq_target.specs.declared.target.Matched.{Matched}
-use Rattle.mq_target.specs.declared.target.Matched.TheVariants.{No, Bad, Yes}
-use Rattle.mq_target.specs.Matching.{Matches, Reads as ReadsTarget}
-use Rattle.mq_target.specs.Values.{IsTarget}
-use Rattle.mq_wire.specs.Integer as integer
 use Rattle.mq_machine.specs.declared.act.Act.TheVariants as act
 use Rattle.mq_machine.specs.declared.act.StreamAct.{StreamAct}
 use Rattle.mq_machine.specs.declared.act.Due.{Due}
 use Rattle.mq_machine.specs.declared.act.Due.TheVariants as due
 use Rattle.mq_machine.specs.declared.setup.Setup.{Setup}
-use Rattle.mq_machine.specs.Reading.{HeadBrings, Request, Leads, Refused, PathMeans, MatchedMeans, content_of, EventsAsk, on_stream}
+use Rattle.mq_machine.specs.Reading.{HeadBrings, Request, Leads, Refused, PathMeans, content_of, EventsAsk, on_stream}
 use Rattle.mq_machine.specs.State as machine
 use Rattle.mq_machine.specs.State.{Stream, Head as InHead, OverHttp1, OverHttp2}
 use Rattle.mq_front.specs.declared.data.DataStream.{DataStream}

@@ -1,5 +1,5 @@
 -- What the events of a read ask for, one after the other.
-use Rattle.std.proofs.Common.{◌≡◌, ◌==◌, ◌⊎◌, inl, inr, ℕ, Bool, true, false, cond, List, [], ◌∷◌, ◌++◌, Option, Some, None, Result, Ok, Err, slice_set, refl, sym, ap, ◌∙◌, subst, append_assoc, append-nil}
+use Rattle.std.proofs.Common.{◌≡◌, ◌==◌, inl, inr, ℕ, Bool, true, false, cond, List, [], ◌∷◌, ◌++◌, Option, Some, None, Result, Ok, Err, slice_set, refl, sym, ap, ◌∙◌, subst, append_assoc, append-nil}
 use Rattle.std.specs.Prelude.{find, OnOk}
 use Rattle.std.specs.Option.{is_some}
 use Rattle.mq_wire.specs.declared.NoMemory.{NoMemory}
@@ -23,7 +23,7 @@ use Rattle.mq_machine.specs.State.{Stream, Tunnel}
 use Rattle.mq_front.specs.declared.data.DataStream.{DataStream}
 use Rattle.mq_front.specs.declared.http2.Http2.{Http2}
 use Rattle.mq_front.specs.Data.{IsUdp, IsStream, Takes}
-use Rattle.mq_front.specs.Events.{Contains, Leads, error_dues, reset_dues, Puts, EventTo, PutsAll, EventsTo, ReadsFrames}
+use Rattle.mq_front.specs.Events.{Contains, Leads, error_dues, reset_dues, Puts, EventTo, EventsTo, ReadsFrames}
 use Rattle.mq_front.specs.Streams.{AreStreams, HasNone, IsPlaceOf}
 use Rattle.mq_front.proofs.Tables.{found, missing, added}
 

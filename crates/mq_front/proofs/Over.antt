@@ -1,5 +1,5 @@
 -- What a read or an act of HTTP/2 does and puts is the same whatever was put for writing before.
-use Rattle.std.proofs.Common.{◌≡◌, ℕ, Bool, true, false, cond, eqb, ltb, List, [], ◌∷◌, ◌++◌, length, Option, Some, None, Result, Ok, Err, refl, sym, ap, ◌∙◌, subst, inl, inr, ◌⊎◌, append_assoc}
+use Rattle.std.proofs.Common.{◌≡◌, ℕ, Bool, true, false, cond, eqb, ltb, List, [], ◌∷◌, ◌++◌, length, Option, Some, None, Result, Ok, Err, refl, ap, ◌∙◌, subst, inl, inr, append_assoc}
 use Rattle.mq_frame.specs.declared.frame.Frame.{Frame}
 use Rattle.mq_frame.specs.declared.frame.Frame.TheVariants as frame
 use Rattle.mq_frame.specs.declared.frame.Setting.{Setting}
@@ -21,8 +21,8 @@ use Rattle.mq_h2.specs.declared.event.StreamEvent.TheVariants.{ConnectionError, 
 use Rattle.mq_h2.specs.Codes.{max_block, fault_code}
 use Rattle.mq_h2.specs.Fields.{is_malformed}
 use Rattle.mq_h2.specs.State.{State, put}
-use Rattle.mq_h2.specs.Frames.{Did, Is, quietly, breaks, turns_away, fails, fails_at, finish, on_data, on_request, on_fields, on_block, OnWhole, OnPart, OnSome, OnBlock, OnHeaders, OnContinuation, on_reset, on_window, shifts, on_shifted, on_settings, on_ping, Does, DoAll}
-use Rattle.mq_h2.specs.Reading.{Reads, ReadsWhile, ReadTo, lasting, drained}
+use Rattle.mq_h2.specs.Frames.{Did, Is, quietly, breaks, turns_away, fails, fails_at, finish, on_data, on_request, on_fields, on_block, OnPart, OnSome, OnHeaders, OnContinuation, on_reset, on_window, shifts, on_settings, on_ping, Does, DoAll}
+use Rattle.mq_h2.specs.Reading.{ReadsWhile, ReadTo, drained}
 
 -- the same, behind bytes that were put before, of which so many were written
 abbrev pub over : List ℕ → ℕ → State → State

@@ -1,6 +1,5 @@
 -- The data streams of a connection, and that of a number.
-use Rattle.std.proofs.Common.{◌≡◌, ◌<◌, ℕ, zero, suc, ◌==◌, cond, Bool, true, false, List, [], ◌∷◌, ◌++◌, Option, Some, None, slice_get, slice_set, refl, sym, ap, ◌∙◌, subst, arith, eq-eqb, ne_eqb}
-use Rattle.std.specs.Prelude.{find}
+use Rattle.std.proofs.Common.{◌≡◌, ℕ, zero, suc, ◌==◌, cond, Bool, true, false, List, [], ◌∷◌, ◌++◌, Some, None, slice_set, refl, sym, ap, ◌∙◌, subst, arith, eq-eqb, ne_eqb}
 use Rattle.mq_machine.specs.Reading.{stream_of, more_bytes}
 use Rattle.mq_machine.specs.State.{Stream}
 use Rattle.mq_front.specs.declared.data.DataStream.{DataStream}

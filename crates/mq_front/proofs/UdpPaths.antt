@@ -19,7 +19,7 @@ use Rattle.mq_target.specs.Matching.{Matches, Reads as ReadsTarget}
 use Rattle.mq_target.specs.Values.{IsTarget}
 use Rattle.mq_machine.specs.declared.setup.Setup.{Setup}
 use Rattle.mq_machine.specs.Http2.{kind_of, path_of}
-use Rattle.mq_machine.specs.Reading.{Leads, Refused, PathMeans, MatchedMeans, KindMeans, FieldsMean}
+use Rattle.mq_machine.specs.Reading.{Leads, PathMeans, MatchedMeans, KindMeans, FieldsMean}
 use Rattle.mq_front.specs.Data.{IsUdp}
 
 udp_goal : (o : Option Addr) (port : ℕ) (g : Goal) → option_map (λ a. goal.Udp a port) o ≡ Some g → IsUdp g

@@ -1,6 +1,6 @@
 -- What the bytes of a data stream of UDP ask for.
-use Rattle.std.proofs.Common.{◌≡◌, ◌⊎◌, inl, inr, ℕ, ◌+◌, ◌==◌, cond, nat_lt, Bool, true, false, not, ◌&&◌, List, [], ◌∷◌, ◌++◌, length, drop, Option, Some, None, Result, Ok, Err, refl, sym, ap, ◌∙◌, subst, arith, append_assoc, append-nil}
-use Rattle.std.specs.List.{filter_map, cons_option, list_any}
+use Rattle.std.proofs.Common.{◌≡◌, inl, inr, ℕ, ◌+◌, ◌==◌, cond, nat_lt, Bool, true, false, not, ◌&&◌, List, [], ◌∷◌, ◌++◌, length, drop, Option, Some, None, Result, Ok, Err, refl, sym, ap, ◌∙◌, subst, arith, append_assoc}
+use Rattle.std.specs.List.{filter_map, cons_option}
 use Rattle.std.specs.Prelude.{OnOk}
 use Rattle.mq_wire.specs.declared.NoMemory.{NoMemory}
 use Rattle.mq_wire.specs.Integer.{int_of}
@@ -22,7 +22,7 @@ use Rattle.mq_machine.specs.State.{Stream}
 use Rattle.mq_front.specs.declared.data.DataStream.{DataStream}
 use Rattle.mq_front.specs.Data.{IsUdp, IsStream, EndsAs, Took, Takes}
 use Rattle.mq_front.specs.Items.{HasNoValue, HaveNoValue, Puts}
-use Rattle.mq_front.proofs.ItemLists.{close_in, then_none, on_both}
+use Rattle.mq_front.proofs.ItemLists.{on_both}
 
 -- ---- a reader of a tunnel for UDP tells no control capsules
 

@@ -2,7 +2,6 @@
 use Rattle.std.specs.Prelude.{◌≡◌, ◌⊎◌, ℕ, Bool, true, false, slice_set, List, [], ◌∷◌, ◌++◌}
 use Rattle.mq_addr.specs.declared.kind.Kind.TheVariants as kind
 use Rattle.mq_h2.specs.declared.event.StreamEvent as http2
-use Rattle.mq_h2.specs.declared.h2.H2.{H2}
 use Rattle.mq_h2.specs.Reading.{ReadTo}
 use Rattle.mq_h2.specs.Stand.{IsH2}
 use Rattle.mq_h2.specs.State as h2

@@ -51,7 +51,12 @@ pub fn judge_udp(alloc: Global, setup: &Setup, path: &[u8]) -> Result<Verdict, N
 }
 
 /// What the path of a request means. Tunnels for IP packets aren't served yet.
-pub fn judge_path(alloc: Global, setup: &Setup, kind: Kind, path: &[u8]) -> Result<Verdict, NoMemory>
+pub fn judge_path(
+    alloc: Global,
+    setup: &Setup,
+    kind: Kind,
+    path: &[u8],
+) -> Result<Verdict, NoMemory>
     ensures { IfOk result (λ verdict. PathMeans setup.now kind path.now (meaning_of verdict)) }
 {
     match kind {

@@ -75,11 +75,7 @@ fn path_of(fields: &[Field]) -> &[u8]
 }
 
 /// What a request means. One for no tunnel isn't served.
-pub fn judge_request(
-    alloc: Global,
-    setup: &Setup,
-    fields: &[Field],
-) -> Result<Verdict, NoMemory>
+pub fn judge_request(alloc: Global, setup: &Setup, fields: &[Field]) -> Result<Verdict, NoMemory>
     ensures { IfOk result (λ verdict. FieldsMean setup.now fields.now (meaning_of verdict)) }
 {
     match kind_of(fields) {

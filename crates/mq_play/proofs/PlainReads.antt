@@ -149,7 +149,8 @@ plain_asked acts acts2 ss ss2 e f h k = record {
 
 plain_more : (id : ℕ) (bytes : List ℕ) (ss : List Stream) → AllByRecursion PlainStream ss → AllByRecursion PlainStream (more_bytes id bytes ss)
 plain_more id bytes [] h = tt
-plain_more id bytes (s ∷ ss) h = (if_both PlainStream (s.id == id) (record s { bytes = s.bytes ++ bytes }) s h.0 h.0, plain_more id bytes ss h.1)
+plain_more id bytes (s ∷ ss) h =
+    if_both (λ (xs : List Stream). AllByRecursion PlainStream xs) (s.id == id) (record s { bytes = s.bytes ++ bytes } ∷ ss) (s ∷ more_bytes id bytes ss) h (h.0, plain_more id bytes ss h.1)
 
 plain_content : (mtu id : ℕ) (bytes : List ℕ) (size : Option ℕ) (ends : Bool) (o : Option Stream) (acts : List Due) → ((s : Stream) → o ≡ Some s → PlainStream s)
     → ContentAsks mtu id bytes size ends o acts → AllByRecursion PlainDue acts
