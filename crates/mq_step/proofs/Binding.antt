@@ -1,9 +1,9 @@
 -- A port was bound, or wasn't; and what needs no port at all.
-use Rattle.std.proofs.Common.{◌≡◌, ◌≢◌, inl, inr, ℕ, ◌<◌, Bool, true, false, List, [], map, All, Option, Some, None, MatchOption, Result, Ok, Err, refl, sym, ap, subst, ◌∙◌}
+use Rattle.std.proofs.Common.{◌≡◌, ◌≢◌, inl, inr, ℕ, ◌<◌, Bool, true, false, List, [], ◌∷◌, map, All, Option, Some, None, MatchOption, Result, Ok, Err, refl, sym, ap, subst, ◌∙◌}
 use Rattle.std.specs.Prelude.{⊤}
 use Rattle.std.specs.Vec.{vec_len, vec_capacity}
-use Rattle.std.proofs.lemmas.List.Elements.{All-nil}
-use Rattle.slab.specs.Slab.{Slab}
+use Rattle.std.proofs.lemmas.List.Elements.{All-cons, All-nil}
+use Rattle.slab.specs.Slab.{Slab, get}
 use Rattle.mq_addr.specs.declared.addr.Addr.{Addr}
 use Rattle.mq_outside.specs.Counts.{PortCounts}
 use Rattle.mq_outside.specs.Ports.{PortHolds, limit_of}
@@ -36,11 +36,21 @@ use Rattle.std.specs.Result.{IsErr}
 use Rattle.mq_step.proofs.Filling.{are_filled, are_kept, tunnels_filled, StaysTold, stay_told, filled_told, stays_grow, stays_port, stays_work, none_fails, served_any, served_filled, served_none, alive_served}
 use Rattle.mq_step.proofs.Wanting.{over_is, shared_by, shares_same}
 use Rattle.mq_step.proofs.Keeping.{no_opens_nil, kept_said, kept_refused, bound_next}
-use Rattle.mq_step.proofs.Alone.{tail_opens, said_alive, bind_alive}
-use Rattle.mq_step.proofs.Standing.{stands, bound_none}
+use Rattle.mq_step.proofs.Cores.{tail_opens, said_alive, bind_alive}
+use Rattle.mq_step.proofs.Standing.{stands, same_apart, bound_none}
 use Rattle.mq_step.proofs.Doing.{NeedsNoPort, idle_works, left, want_done, left_stands, left_told}
 use Rattle.mq_step.proofs.Refusing.{sunk, Sinks}
-use Rattle.mq_step.proofs.Opening.{Comes, no_seats_open, no_are}
+use Rattle.mq_step.proofs.Opening.{Comes}
+
+-- no seat has a key under which nothing stands
+keys_free : {Q : Type 0} (most : Q → ℕ) (table : Slab Q) (key : ℕ) (seats : List PortSeat) (ports : List Port) → get table key ≡ None → ArePorts most table seats ports
+    → All (λ (seat : PortSeat). seat.key ≢ key) seats
+keys_free most table key [] ports free are = All-nil (λ (seat : PortSeat). seat.key ≢ key)
+keys_free most table key (seat ∷ seats) [] free are = absurd are
+keys_free {Q} most table key (seat ∷ seats) (p ∷ ports) free are =
+    All-cons (λ (x : PortSeat). x.key ≢ key) seat seats (λ same. none (sym are.0.at ∙ ap (λ (k : ℕ). get table k) same ∙ free)) (keys_free most table key seats ports free are.1) where
+      none : ◌≡◌ {A = Option Q} (Some are.0.port) None → ⊥
+      none is = cc
 
 -- ---- memory was refused before anything was asked
 
@@ -97,6 +107,7 @@ module _ {L Q : Type 0} (most : Q → ℕ) (holds : Q → Option PortHolds) (cou
         };
         stands_for = stands most after g u conn (x.held.number ∙ sym x.number)
             (subst A (sym x.seats) (are_filled most after o idle h.ports.items s.ports (are_kept most table after h.ports.items s.ports x.keeps x.held.ports)))
+            (same_apart h.ports.items g.ports.items x.seats x.held.apart)
             (served_filled o idle u.conn.ending s.conn.tunnels s.ports (served_alive s.conn.ending u.conn.ending alive x.held.served)) no_opens_nil bound;
         told_is = filled_told o n idle s.ports (stay x);
       } where
@@ -107,12 +118,12 @@ module _ {L Q : Type 0} (most : Q → ℕ) (holds : Q → Option PortHolds) (cou
   pub bind_sinks : (x : Stays most holds counts binds binds_after table after h g o n s) (seen : Seen) (boxes : List (List Parcel)) (orders : Orders) (stream : ℕ) (goal : Goal)
       → want_of s.conn ≡ Bind stream goal → g.bound ≡ None → IsConn g.conn (starved s.conn) → MayBind binds binds_after → Sinks most after g o n seen seen boxes orders s
   bind_sinks x seen boxes orders stream goal want bound conn (inl same) =
-      sinks_alone x seen boxes orders (Bind stream goal) Said false want (λ ports. refl) (bind_alive h.conn s.conn stream goal x.held.conn want).0 bound conn (refl, refl, refl)
+      sinks_alone x seen boxes orders (Bind stream goal) Said false want (λ ports. refl) (bind_alive h.conn s.conn stream goal x.held.conn want) bound conn (refl, refl, refl)
       (held_back x same)
   bind_sinks x seen boxes orders stream goal want bound conn (inr (done, is)) =
       let sh : Shared = shared_by seen seen.entries boxes orders in
       let A : Want → Type 0 = λ w. Answers s.conn.actor sh w (Bound done) sh in
-      sinks_alone x seen boxes orders (Bind stream goal) (Bound done) true want (λ ports. refl) (bind_alive h.conn s.conn stream goal x.held.conn want).0 bound conn
+      sinks_alone x seen boxes orders (Bind stream goal) (Bound done) true want (λ ports. refl) (bind_alive h.conn s.conn stream goal x.held.conn want) bound conn
       (record {
         tries = refl;
         takes = ap (λ (w : Want). takes_memory w) want;
@@ -152,7 +163,7 @@ module _ {L Q : Type 0} (most : Q → ℕ) (holds : Q → Option PortHolds) (cou
   binds_not x seen boxes orders said t stream goal want same rises does conn =
       let sh : Shared = shared_by seen seen.entries boxes orders in
       let kept = kept_refused s.conn t said (tail_opens h.conn s.conn x.held.conn) does in
-      let alive = (bind_alive h.conn s.conn stream goal x.held.conn want).0 in
+      let alive = (bind_alive h.conn s.conn stream goal x.held.conn want) in
       let bound : g.bound ≡ None = same ∙ bound_none most table h.ports.items (want_of s.conn) (Bind stream goal) h.bound x.held.bound want in
       let served = served_any t.ending s.conn.tunnels s.ports (alive_served s.conn.ending s.conn.tunnels s.ports alive x.held.served) in
       record {
@@ -177,32 +188,36 @@ module _ {L Q : Type 0} (most : Q → ℕ) (holds : Q → Option PortHolds) (cou
       let goal = goal.Udp addr number in
       let sh : Shared = shared_by seen seen.entries boxes orders in
       let k = bound_next s.conn t said stream goal want does in
-      let alone = bind_alive h.conn s.conn stream goal x.held.conn want in
-      let none = served_none s.conn.ending s.conn.tunnels s.ports alone.1 x.held.served in
-      let empty : g.ports.items ≡ [] = x.seats ∙ no_seats_open most table h.ports.items s.ports none x.held.ports in
-      let K : List PortSeat → Type 0 = λ xs. All (λ (seat : PortSeat). seat.key ≢ was.key) xs in
+      let alive = bind_alive h.conn s.conn stream goal x.held.conn want in
       let ready : IsReady most after (limit_of addr) was.key g.ports.items = record {
         port = was.port;
         at = was.adds.updates.changed;
         limit_is = was.limit;
-        apart = subst K (sym empty) (All-nil (λ (seat : PortSeat). seat.key ≢ was.key));
+        apart = all_apart was;
       } in
       let R : Option ℕ → Type 0 = λ b. MatchOption b ⊤ (λ key. vec_len g.ports < vec_capacity g.ports) in
+      let A : List PortSeat → Type 0 = λ xs. ArePorts most after xs (map (filled_port o idle) s.ports) in
       let served : tunnels_of (map (filled_port o idle) s.ports) ≡ numbers_of t.tunnels =
-      tunnels_filled o idle s.ports ∙ alive_served s.conn.ending s.conn.tunnels s.ports alone.0 x.held.served ∙ sym (ap (λ (ts : List Tunnel). numbers_of ts) k.2) in
+      tunnels_filled o idle s.ports ∙ alive_served s.conn.ending s.conn.tunnels s.ports alive x.held.served ∙ sym (ap (λ (ts : List Tunnel). numbers_of ts) k.2) in
       record {
         left_is = left o s t;
         done_is = want_done o n seen seen boxes orders s (Bind stream goal) (Bound true) said t sh sh want (binds_plain stream goal true) does refl (shares_same seen seen boxes orders refl) (binds_seen x true was.binds_are);
         stands_for = record {
           conn = conn;
           number = k.0 ∙ x.held.number ∙ sym x.number;
-          ports = no_are most after o g.ports.items s.ports none empty;
+          ports = subst A (sym x.seats) (are_filled most after o idle h.ports.items s.ports (are_kept most table after h.ports.items s.ports x.keeps x.held.ports));
+          apart = same_apart h.ports.items g.ports.items x.seats x.held.apart;
           served = served_any t.ending t.tunnels (map (filled_port o idle) s.ports) served;
           bound = ready_for t t.number stream t.actor number was.key addr g.bound k.3 was.bound_is ready;
           room = subst R (sym was.bound_is) room;
         };
         told_is = left_told most holds counts binds binds_after table after h g o n s t x.held x.keeps x.seats x.sees x.sees_after;
-      }
+      } where
+        -- no seat has the key of the port that was bound
+        all_apart : (was : PortBound most counts addr table after g.bound binds binds_after) → All (λ (seat : PortSeat). seat.key ≢ was.key) g.ports.items
+        all_apart was = keys_free most table was.key g.ports.items s.ports was.adds.free (subst B (sym x.seats) x.held.ports) where
+          B : List PortSeat → Type 0
+          B xs = ArePorts most table xs s.ports
 
   -- ---- nothing is wanted, or nothing is left
 

@@ -23,7 +23,7 @@ use Rattle.mq_step.specs.Wanted.{Shares, WantDone, ported, with_prepared}
 use Rattle.mq_step.proofs.Filling.{are_filled, are_kept, stay_told, filled_told, FailsNot, none_fails, served_filled}
 use Rattle.mq_step.proofs.Wanting.{IsNotOver, acted_is}
 use Rattle.mq_step.proofs.Keeping.{Kept}
-use Rattle.mq_step.proofs.Standing.{stands}
+use Rattle.mq_step.proofs.Standing.{stands, same_apart}
 
 -- this answer to this want leaves the ports as they are
 pub record NeedsNoPort (n : Outside) (w : Want) (a : Answer) : Type 0 where
@@ -75,6 +75,7 @@ left_stands most table after h g o s t held keeps seats number bound served kept
     let A : List PortSeat → Type 0 = λ seats. ArePorts most after seats (map (filled_port o idle) s.ports) in
     stands most after g (left o s t) conn (kept.number ∙ held.number ∙ sym number)
     (subst A (sym seats) (are_filled most after o idle h.ports.items s.ports (are_kept most table after h.ports.items s.ports keeps held.ports)))
+    (same_apart h.ports.items g.ports.items seats held.apart)
     (serves t.ending s.conn.tunnels t.tunnels (sym kept.tunnels) served)
     kept.opens
     bound where

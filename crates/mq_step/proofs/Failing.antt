@@ -23,7 +23,7 @@ use Rattle.mq_step.specs.Sights.{Found, idle, PortsFit}
 use Rattle.mq_step.specs.Whole.{filled}
 use Rattle.mq_step.specs.Wanted.{ActGives, ported, is_send, with_prepared}
 use Rattle.mq_step.specs.Gives.{Tries, InVain, first_of, Gives}
-use Rattle.mq_step.proofs.Alone.{gives_up_wants}
+use Rattle.mq_step.proofs.Cores.{gives_up_wants}
 use Rattle.mq_step.proofs.Linking.{on_link}
 
 -- the connection whose link failed

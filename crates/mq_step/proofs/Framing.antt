@@ -27,9 +27,9 @@ use Rattle.mq_step.specs.Wanted.{SendsWait}
 use Rattle.mq_step.proofs.Filling.{are_filled, are_kept, StaysTold, filled_told, FailsNot, none_fails, served_any, served_filled, alive_served}
 use Rattle.mq_step.proofs.Wanting.{shared_by, shares_same}
 use Rattle.mq_step.proofs.Keeping.{NoOpens, framed_keeps, framed_goes_on}
-use Rattle.mq_step.proofs.Alone.{none_opens, go_on_opens}
+use Rattle.mq_step.proofs.Cores.{none_opens, go_on_opens}
 use Rattle.mq_step.proofs.Taking.{go_alive, waits_unopened}
-use Rattle.mq_step.proofs.Standing.{stands}
+use Rattle.mq_step.proofs.Standing.{stands, same_apart}
 use Rattle.mq_step.proofs.Doing.{idle_works}
 use Rattle.mq_step.proofs.Trying.{first_true}
 
@@ -64,6 +64,7 @@ whole_stands most table after h g o f s t link held keeps seats number bound sam
     let A : List PortSeat → Type 0 = λ xs. ArePorts most after xs (map (filled_port o f) s.ports) in
     stands most after g (whole o f s t link) conn (same ∙ held.number ∙ sym number)
     (subst A (sym seats) (are_filled most after o f h.ports.items s.ports (are_kept most table after h.ports.items s.ports keeps held.ports)))
+    (same_apart h.ports.items g.ports.items seats held.apart)
     (served_filled o f t.ending t.tunnels s.ports served) opens bound
 
 pub told_link : (told : Option Link) (found : Link) → IsTold told (link_if told found)

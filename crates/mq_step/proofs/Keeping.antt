@@ -1,6 +1,6 @@
 -- What an answer leaves of a connection: its number, its actor and its tunnels, and whether an opening is due.
 use Rattle.std.proofs.Common.{◌≡◌, ℕ, ◌==◌, ◌+◌, cond, Bool, true, false, not, ◌&&◌, List, [], ◌∷◌, ◌++◌, map, drop, length, nat_lt, nat_le, All, Option, Some, None, refl, sym, ap, ◌∙◌, subst}
-use Rattle.std.specs.Prelude.{filter, find, option_map, option_and_then}
+use Rattle.std.specs.Prelude.{filter, find, option_map, option_and_then, is_some}
 use Rattle.std.proofs.lemmas.List.Elements.{All-cons, All-head, All-tail, All-nil, All-filter}
 use Rattle.mq_talk.specs.declared.book.Call.{Call}
 use Rattle.mq_talk.specs.declared.book.Call.TheVariants as call
@@ -26,7 +26,7 @@ use Rattle.mq_machine.specs.declared.act.Due.TheVariants as due
 use Rattle.mq_machine.specs.Settle.{settle, settled, passing, spending, gives_up}
 use Rattle.mq_machine.specs.State.{Conn, Tunnel, Waiting, Packet, Front, Head, OverHttp1, OverHttp2, owed, values, kind_of, tunnel_on}
 use Rattle.mq_machine.specs.Want.{Nothing, Bind, Ask, Over, Answer, Said, Bound, Replied, Put, want_of, want_by, ending_want, over_want, due_want, act_want, tunnel_want, most_values}
-use Rattle.mq_machine.specs.Done.{Done, done, done_by, due_done, act_done, tunnel_done, ending_done, first_waiting, is_on, waits, with_waiting, closed, dropped, sent}
+use Rattle.mq_machine.specs.Done.{Done, first_of, closing, done, done_by, due_done, act_done, tunnel_done, ending_done, first_waiting, is_on, waits, with_waiting, closed, dropped, sent}
 use Rattle.mq_machine.specs.Steps.{settled_note, is_nothing, is_ending, can_go_on, most_owed, can_frame, tunnels_from, framed, framed_front, framed_by, framing, frame_size, whole_note, next_framed, set_waiting, wrote, finished, finish_by, queued, port_failed}
 use Rattle.mq_machine.proofs.Settling.{settled_rests}
 
@@ -465,6 +465,40 @@ closed_next c t n tunnel opens w is =
     let l = each_at (Leaves c ts) (done c (Replied reply.Closed)) n t
     (each_settled (Leaves c ts) (done_by c c.ending (Replied reply.Closed)) (settle_leaves c ts) (by_closed c c.ending tunnel opens w)) is in
     (l.number, l.actor, l.opens, l.tunnels)
+
+-- ---- an ending connection goes on to end
+
+abbrev IsToEnd : Conn → Type 0
+IsToEnd c = is_some c.ending ≡ true
+
+passing_ends : (ds : List Due) (x : Conn) → IsToEnd x → IsToEnd (passing ds x)
+passing_ends [] x is = is
+passing_ends (due.Do a ∷ rest) x is = is
+passing_ends (due.Spend id size ∷ rest) x is = passing_ends rest (record x { front = spending x.front id size }) is
+passing_ends (due.Fault code ∷ rest) x is = refl
+
+settle_ends : (x : Conn) → IsToEnd x → IsToEnd (settle x)
+settle_ends x is =
+    let y : Conn = passing x.due x in
+    let P : Conn → Type 0 = λ z. IsToEnd z in
+    subst P (sym (settled_rests y)) (passing_ends x.due x is)
+
+first_ends : (a b : Option End) → is_some a ≡ true → is_some (first_of a b) ≡ true
+first_ends None b is = absurd cc
+first_ends (Some why) b is = refl
+
+close_ends : (c : Conn) (ts : List Tunnel) → IsToEnd c → Each IsToEnd (ending_done c ts (Replied reply.Closed))
+close_ends c [] is = tt
+close_ends c (t ∷ ts) is = first_ends c.ending (closing c.front t reason.Conn).ending is
+
+by_ends : (c : Conn) (e : Option End) → c.ending ≡ e → is_some e ≡ true → Each IsToEnd (done_by c e (Replied reply.Closed))
+by_ends c None same is = absurd cc
+by_ends c (Some why) same is = close_ends c c.tunnels (ap (λ (e : Option End). is_some e) same)
+
+-- one that closes a tunnel while it is ending is ending then
+pub closed_ends : (c t : Conn) (n : Note) → done c (Replied reply.Closed) ≡ Some (n, t) → is_some c.ending ≡ true → is_some t.ending ≡ true
+closed_ends c t n does is =
+    each_at IsToEnd (done c (Replied reply.Closed)) n t (each_settled IsToEnd (done_by c c.ending (Replied reply.Closed)) settle_ends (by_ends c c.ending refl is)) does
 
 -- ---- what a connection does beside its wants
 

@@ -1,12 +1,15 @@
 pub mod Counting
 pub mod Filling
+pub mod Places
+pub mod Seeing
 pub mod Wanting
 pub mod Keeping
-pub mod Alone
+pub mod Cores
 pub mod Saying
 pub mod Standing
 pub mod Doing
 pub mod Others
+pub mod Retiring
 pub mod Asking
 pub mod Opening
 pub mod Refusing
@@ -27,4 +30,3 @@ pub mod Moving
 pub mod Incoming
 pub mod Stepping
 pub mod Still
-pub mod Few

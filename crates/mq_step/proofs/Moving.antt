@@ -9,11 +9,12 @@ use Rattle.mq_outside.specs.Counts.{risen, LinkCounts, PortCounts}
 use Rattle.mq_outside.specs.Links.{LinkPast, taken_of}
 use Rattle.mq_outside.specs.Ports.{PortHolds}
 use Rattle.mq_talk.specs.declared.note.Note.{Note}
+use Rattle.mq_talk.specs.declared.note.End.{End}
 use Rattle.mq_talk.specs.declared.note.End.TheVariants as end
 use Rattle.mq_talk.specs.Mails.{IsTold}
 use Rattle.mq_talk.specs.Offices.{Seen}
 use Rattle.mq_machine.specs.declared.setup.Setup.{Setup}
-use Rattle.mq_machine.specs.State.{Conn, Link, new_link, Held, owed}
+use Rattle.mq_machine.specs.State.{Conn, Tunnel, Link, new_link, Held, owed}
 use Rattle.mq_machine.specs.Want.{want_of}
 use Rattle.mq_machine.specs.Steps.{failed, starved, wrote}
 use Rattle.mq_machine.specs.Turn.{Write, Read, can_try, has_room_for, WriteNext}
@@ -34,8 +35,8 @@ use Rattle.mq_step.specs.Gives.{Tries, InVain, Asked, Gives, WritesWait, receive
 use Rattle.mq_step.specs.Wanted.{SendsWait}
 use Rattle.mq_step.proofs.Filling.{StaysTold, stay_told, none_changed, served_ending}
 use Rattle.mq_step.proofs.Keeping.{NoOpens, no_opens_nil}
-use Rattle.mq_step.proofs.Alone.{wrote_is}
-use Rattle.mq_step.proofs.Standing.{stands}
+use Rattle.mq_step.proofs.Cores.{Wrote, wrote_leaves}
+use Rattle.mq_step.proofs.Standing.{stands, same_apart}
 use Rattle.mq_step.proofs.Counting.{rose_risen, rose_then}
 use Rattle.mq_step.proofs.Trying.{Between, mid, skip, first_true, receives_back, read_back}
 use Rattle.mq_step.proofs.Framing.{still_bound, still_opens, whole, whole_stands, whole_told, same_link, drained, drains}
@@ -63,7 +64,8 @@ pub moved_held : {L Q : Type 0} (most : Q → ℕ) (table : Slab Q) (old new : H
     → new ≡ record old { conn = new.conn; link = new.link } → IsConn new.conn s.conn → IsHeld most table new s
 moved_held most table old new s held wait rest conn =
     let A : List PortSeat → Type 0 = λ xs. ArePorts most table xs s.ports in
-    stands most table new s conn (held.number ∙ sym (ap (λ h. h.number) rest)) (subst A (sym (ap (λ h. h.ports.items) rest)) held.ports) held.served (still_opens old.conn s.conn held.conn wait)
+    stands most table new s conn (held.number ∙ sym (ap (λ h. h.number) rest)) (subst A (sym (ap (λ h. h.ports.items) rest)) held.ports)
+    (same_apart old.ports.items new.ports.items (ap (λ h. h.ports.items) rest) held.apart) held.served (still_opens old.conn s.conn held.conn wait)
     (ap (λ h. h.bound) rest ∙ still_bound most table old s held wait)
 
 -- the connection whose link failed, on any link
@@ -72,6 +74,7 @@ pub fallen_held : {L Q : Type 0} (most : Q → ℕ) (table : Slab Q) (old new : 
 fallen_held most table old new s link held wait rest conn =
     let A : List PortSeat → Type 0 = λ xs. ArePorts most table xs s.ports in
     stands most table new (fallen s link) conn (held.number ∙ sym (ap (λ h. h.number) rest)) (subst A (sym (ap (λ h. h.ports.items) rest)) held.ports)
+    (same_apart old.ports.items new.ports.items (ap (λ h. h.ports.items) rest) held.apart)
     (served_ending s.conn.ending end.Link s.conn.tunnels s.ports held.served) no_opens_nil
     (ap (λ h. h.bound) rest ∙ still_bound most table old s held wait)
 
@@ -147,16 +150,17 @@ module _ {L Q : Type 0} (link : L → Option Link) (past : L → LinkPast) (coun
       let some = took_some o c s said t (seen_link x) d in
       let does = ap {B = Conn} (λ (y : Note × Conn). y.1) d.does in
       let is : t ≡ (wrote s.conn (taken_of d.link.room (length (owed s.conn)))).1 = sym does in
-      let same = is ∙ wrote_is old.conn s.conn (taken_of d.link.room (length (owed s.conn))) x.held.conn in
+      let W : Conn → Type 0 = λ y. Wrote s.conn y in
+      let same : Wrote s.conn t = subst W (sym is) (wrote_leaves old.conn s.conn (taken_of d.link.room (length (owed s.conn))) x.held.conn) in
       let T : Option Link → Type 0 = λ told. IsTold told (written o s (roomy d.link.room)) in
-      let O : Conn → Type 0 = λ y. NoOpens y.due in
-      let S : Conn → Type 0 = λ y. AreServed y.ending y.tunnels s.ports in (
+      let S : Option End → Type 0 = λ e. AreServed e t.tunnels s.ports in
+      let U : List Tunnel → Type 0 = λ ts. AreServed s.conn.ending ts s.ports in (
         whole o f s t (written o s (roomy d.link.room)),
         write_does_turn setup o n c seen boxes orders s said t (seen_link x) d (same_binds x),
         (
           whole_stands most table table old new o f s t (written o s (roomy d.link.room)) x.held (none_changed table) (ap (λ h. h.ports.items) x.rest) (ap (λ h. h.number) x.rest) (bound_none x)
-              (ap (λ (y : Conn). y.number) same) (subst O (sym same) (still_opens old.conn s.conn x.held.conn x.wait)) (subst S (sym same) x.held.served) gives.2,
-          whole_told o n f s t (written o s (roomy d.link.room)) (ap (λ (y : Conn). y.number) same) (subst T (sym (link_behind x)) some.tells) (stay_all x),
+              same.number (subst NoOpens (sym same.dues) (still_opens old.conn s.conn x.held.conn x.wait)) (subst S (sym same.ending) (subst U (sym same.tunnels) x.held.served)) gives.2,
+          whole_told o n f s t (written o s (roomy d.link.room)) same.number (subst T (sym (link_behind x)) some.tells) (stay_all x),
         ),
       )
 

@@ -1,13 +1,15 @@
 -- A tunnel opened, or found no place; or the book was asked in vain.
-use Rattle.std.proofs.Common.{◌≡◌, ◌≢◌, ℕ, ◌≤◌, Bool, List, [], ◌∷◌, ◌++◌, map, Option, Some, None, MatchOption, refl, sym, ap, subst, ◌∙◌, arith}
-use Rattle.std.specs.Prelude.{if◌then◌else◌}
-use Rattle.std.proofs.lemmas.Bool.{eq-eqb}
-use Rattle.slab.specs.Slab.{Slab}
+use Rattle.std.proofs.Common.{◌≡◌, ◌≢◌, ℕ, zero, suc, ◌==◌, ◌<◌, ◌≤◌, List, [], ◌∷◌, ◌++◌, map, length, All, slice_get, Option, Some, None, MatchOption, refl, sym, ap, subst, ◌∙◌, arith}
+use Rattle.std.proofs.lemmas.List.{map-append, length-append}
+use Rattle.std.proofs.lemmas.List.Elements.{All-cons, All-head, All-tail, All-nil}
+use Rattle.slab.specs.Slab.{Slab, get, Updates}
 use Rattle.mq_addr.specs.declared.addr.Addr.{Addr}
 use Rattle.mq_addr.specs.declared.addr.Addr.TheVariants.{V4, V6}
 use Rattle.mq_addr.specs.declared.range.Range.{Range}
+use Rattle.mq_outside.specs.Counts.{PortCounts}
 use Rattle.mq_outside.specs.Ports.{PortHolds, limit_of}
 use Rattle.mq_talk.specs.declared.book.Call.{Call}
+use Rattle.mq_talk.specs.declared.book.Entry.{Entry}
 use Rattle.mq_talk.specs.declared.book.Call.TheVariants as call
 use Rattle.mq_talk.specs.declared.book.Reply.{Reply}
 use Rattle.mq_talk.specs.declared.book.Reply.TheVariants as reply
@@ -18,25 +20,26 @@ use Rattle.mq_talk.specs.declared.place.Parcel.{Parcel}
 use Rattle.mq_talk.specs.Mails.{IsTold}
 use Rattle.mq_talk.specs.Offices.{Seen, CallOk}
 use Rattle.mq_machine.specs.State.{Conn, Tunnel, Held, Port, Orders, Shared}
-use Rattle.mq_machine.specs.Want.{Want, Ask, Answer, Replied, want_of}
+use Rattle.mq_machine.specs.Want.{Want, Nothing, Say, Bind, Ask, Judge, Push, Send, Over, Answer, Replied, want_of}
 use Rattle.mq_machine.specs.Done.{done}
 use Rattle.mq_machine.specs.Shared.{Answers, PortsAnswer, Asks, new_port, port_limit, at_port}
 use Rattle.mq_machine.specs.Turn.{can_do}
-use Rattle.mq_machine.specs.Acting.{Outside, PortsTold, holds_of, prepared}
+use Rattle.mq_machine.specs.Acting.{Outside, IsOpen, PortsTold, holds_of, prepared}
 use Rattle.mq_conn.specs.declared.conn.Conn.{Conn as Core}
 use Rattle.mq_conn.specs.Conns.{IsConn}
 use Rattle.mq_held.specs.declared.held.Held.{Held as HeldBy}
 use Rattle.mq_held.specs.declared.held.PortSeat.{PortSeat}
 use Rattle.mq_held.specs.declared.ask.Heard.{Heard as HeardBy}
 use Rattle.mq_held.specs.Answers.{IsPlain, Hears, opened_by}
-use Rattle.mq_step.specs.Holds.{IsPort, ArePorts, AreServed, IsReady, IsBound, IsHeld, Seats, tunnels_of, numbers_of}
-use Rattle.mq_step.specs.Sights.{filled_port, idle}
+use Rattle.mq_step.specs.Holds.{IsPort, ArePorts, IsApartFrom, SeatsApart, IsReady, IsBound, IsHeld, IsKnown, Seats, tunnels_of, numbers_of}
+use Rattle.mq_step.specs.Sights.{SeesPort, SeesPorts, filled_port, idle}
 use Rattle.mq_step.specs.Wanted.{WantDone, ported, with_prepared}
-use Rattle.mq_step.proofs.Filling.{none_fails, served_any, served_none}
+use Rattle.mq_step.proofs.Filling.{are_filled, tunnels_filled, KeepsSeats, seats_kept, StaysTold, seats_told, filled_told, none_fails, served_any, alive_served}
+use Rattle.mq_step.proofs.Places.{at_all, all_by, all_before, found_all, seat_port, live_of, apart_added, at_last, are_added, told_added}
 use Rattle.mq_step.proofs.Wanting.{behind, acted_is, shared_by}
 use Rattle.mq_step.proofs.Keeping.{opened_next, kept_full}
-use Rattle.mq_step.proofs.Alone.{IsUdpWant, udp_want, open_alone, tail_opens}
-use Rattle.mq_step.proofs.Standing.{stands, bound_none}
+use Rattle.mq_step.proofs.Cores.{IsUdpWant, udp_want, open_alive, tail_opens}
+use Rattle.mq_step.proofs.Standing.{stands, same_apart, bound_none}
 use Rattle.mq_step.proofs.Doing.{NeedsNoPort, idle_works, left, want_done}
 
 -- ---- the port of a tunnel that opens
@@ -64,31 +67,81 @@ prepared_told : (told : Option PortHolds) (p : Port) → IsTold told (holds_of (
 prepared_told None p = tt
 prepared_told (Some holds) p = refl
 
--- the only port is that of the tunnel that opened
-opened_ports : (o n : Outside) (ports : List Port) (tunnel number : ℕ) (addr : Addr) → ports ≡ []
-    → at_port tunnel (prepared (n.port tunnel)) (map (filled_port o idle) ports ++ new_port tunnel addr number ∷ []) ≡ prepared (n.port tunnel) (new_port tunnel addr number) ∷ []
-opened_ports o n ports tunnel number addr none =
-    let p : Port = new_port tunnel addr number in
-    ap (λ (xs : List Port). at_port tunnel (prepared (n.port tunnel)) (map (filled_port o idle) xs ++ p ∷ [])) none
-    ∙ ap {B = List Port} (λ (b : Bool). (if b then prepared (n.port tunnel) p else p) ∷ []) (eq-eqb tunnel tunnel refl)
+-- the ports of the other tunnels stay as they are
+opened_ports : (o n : Outside) (ports : List Port) (tunnel number : ℕ) (addr : Addr) → All (λ (q : Port). q.tunnel ≢ tunnel) (map (filled_port o idle) ports)
+    → at_port tunnel (prepared (n.port tunnel)) (map (filled_port o idle) ports ++ new_port tunnel addr number ∷ [])
+    ≡ map (filled_port o idle) ports ++ prepared (n.port tunnel) (new_port tunnel addr number) ∷ []
+opened_ports o n ports tunnel number addr others = at_last tunnel (prepared (n.port tunnel)) (map (filled_port o idle) ports) (new_port tunnel addr number) others refl
 
--- ---- no port is there before
+-- ---- what was there before
 
-no_ports_open : (c : Core) (s : Held) (conn id actor : ℕ) (goal : Goal) → IsConn c s.conn → AreServed s.conn.ending s.conn.tunnels s.ports → want_of s.conn ≡ Ask (call.Open conn id actor goal) → s.ports ≡ []
-no_ports_open c s conn id actor goal is served want = served_none s.conn.ending s.conn.tunnels s.ports (open_alone c s.conn conn id actor goal is want).0 served
+-- no port is that of the tunnel, where no seat is
+ports_apart : {Q : Type 0} (most : Q → ℕ) (table : Slab Q) (o : Outside) (tunnel : ℕ) (seats : List PortSeat) (ports : List Port) → ArePorts most table seats ports
+    → All (λ (x : PortSeat). x.tunnel ≢ tunnel) seats → All (λ (q : Port). q.tunnel ≢ tunnel) (map (filled_port o idle) ports)
+ports_apart most table o tunnel [] [] are fresh = All-nil (λ (q : Port). q.tunnel ≢ tunnel)
+ports_apart most table o tunnel [] (p ∷ ports) are fresh = absurd are
+ports_apart most table o tunnel (x ∷ seats) [] are fresh = absurd are
+ports_apart most table o tunnel (x ∷ seats) (p ∷ ports) are fresh =
+    let N : PortSeat → Type 0 = λ y. y.tunnel ≢ tunnel in
+    All-cons (λ (q : Port). q.tunnel ≢ tunnel) (filled_port o idle p) (map (filled_port o idle) ports) (λ same. All-head N x seats fresh (sym are.0.tunnel ∙ same))
+    (ports_apart most table o tunnel seats ports are.1 (All-tail N x seats fresh))
 
-pub no_seats_open : {Q : Type 0} (most : Q → ℕ) (table : Slab Q) (seats : List PortSeat) (ports : List Port) → ports ≡ [] → ArePorts most table seats ports → seats ≡ []
-no_seats_open most table [] ports none are = refl
-no_seats_open most table (seat ∷ seats) ports none are = let P : List Port → Type 0 = λ ps. ArePorts most table (seat ∷ seats) ps in absurd (subst P none are)
+within : {A : Type 0} (xs : List A) (i : ℕ) (x : A) → slice_get xs i ≡ Some x → i < length xs
+within [] i x at = absurd cc
+within (y ∷ xs) zero x at = omega arith
+within (y ∷ xs) (suc i) x at = let lt = within xs i x at in omega (arith, lt)
 
-pub no_are : {Q : Type 0} (most : Q → ℕ) (table : Slab Q) (o : Outside) (seats : List PortSeat) (ports : List Port) → ports ≡ [] → seats ≡ [] → ArePorts most table seats (map (filled_port o idle) ports)
-no_are most table o seats ports none empty =
-    let P : List Port → Type 0 = λ ps. ArePorts most table seats (map (filled_port o idle) ps) in
-    let S : List PortSeat → Type 0 = λ xs. ArePorts most table xs [] in
-    subst P (sym none) (subst S (sym empty) tt)
+-- A tunnel is numbered by the place of its entry, which is behind all that was seen: no seat has that number yet.
+fresh : {L Q : Type 0} (most : Q → ℕ) (table : Slab Q) (h : HeldBy L) (actor : ℕ) (seen seen_after : Seen) (s : Held) (conn id names tunnel : ℕ) (goal : Goal) (routes : List Range)
+    → IsHeld most table h s → IsKnown seen actor s → want_of s.conn ≡ Ask (call.Open conn id names goal) → CallOk actor seen (call.Open conn id names goal) (reply.Opened tunnel routes) seen_after
+    → All (λ (x : PortSeat). x.tunnel ≢ tunnel) h.ports.items
+fresh most table h actor seen seen_after s conn id names tunnel goal routes held known want ok = all_by (λ (x : PortSeat). x.tunnel ≢ tunnel) h.ports.items each where
+  I : Tunnel → Type 0
+  I t = IsOpen seen.entries actor t.id s.conn.number t.stream t.goal
 
-pub no_told : (o n : Outside) (ports : List Port) → ports ≡ [] → PortsTold n (map (filled_port o idle) ports)
-no_told o n ports none = let P : List Port → Type 0 = λ ps. PortsTold n (map (filled_port o idle) ps) in subst P (sym none) tt
+  each : (i : ℕ) (x : PortSeat) → slice_get h.ports.items i ≡ Some x → x.tunnel ≢ tunnel
+  each i x at same =
+      let alive = (open_alive h.conn s.conn conn id names goal held.conn want).0 in
+      let p = seat_port most table h.ports.items s.ports held.ports i x at in
+      let t = live_of s.ports s.conn.tunnels i p.0 (alive_served s.conn.ending s.conn.tunnels s.ports alive held.served) p.1 in
+      let is = found_all I (λ (u : Tunnel). u.id == p.0.tunnel) s.conn.tunnels t.0 known.tunnels t.1 in
+      let lt = within seen.entries t.0.id is.entry is.at in
+      let number : t.0.id ≡ tunnel = t.2 ∙ p.2.tunnel ∙ same in
+      let place : tunnel ≡ length ok.book = ok.reply_is.1 in
+      let size = ap (λ (es : List Entry). length es) ok.sees.goes_on ∙ length-append seen.entries ok.sees.more in
+      omega (arith, lt, number, place, size)
+
+-- no seat has the key of a port that is bound
+key_apart : {Q : Type 0} (most : Q → ℕ) (table : Slab Q) (seats : List PortSeat) (w : Want) (key : ℕ) → IsBound most table seats w (Some key) → All (λ (x : PortSeat). x.key ≢ key) seats
+key_apart most table seats Nothing key is = absurd cc
+key_apart most table seats Say key is = absurd cc
+key_apart most table seats (Bind stream goal) key is = absurd cc
+key_apart most table seats (Ask (call.Open conn id names (goal.Udp addr number))) key is = is.apart
+key_apart most table seats (Ask (call.Open conn id names (goal.Ip area protocol))) key is = absurd cc
+key_apart most table seats (Ask (call.Assign tunnel asked)) key is = absurd cc
+key_apart most table seats (Ask (call.Advertise tunnel ranges)) key is = absurd cc
+key_apart most table seats (Ask (call.Close tunnel)) key is = absurd cc
+key_apart most table seats (Judge tunnel n flow) key is = absurd cc
+key_apart most table seats (Push parcel) key is = absurd cc
+key_apart most table seats (Send tunnel n payload) key is = absurd cc
+key_apart most table seats (Over why) key is = absurd cc
+
+-- that one is handed back, and the ports of all seats stay
+pub bound_kept : {Q T : Type 0} (slab : T → Slab Q) (most : Q → ℕ) (before after : T) (seats : List PortSeat) (w : Want) (bound : Option ℕ) → IsBound most (slab before) seats w bound
+    → MatchOption bound (after ≡ before) (λ key. Updates (slab before) (slab after) key None) → KeepsSeats (slab before) (slab after) seats
+bound_kept {Q} slab most before after seats w None is back =
+    all_by (λ (x : PortSeat). (port : Q) → get (slab before) x.key ≡ Some port → get (slab after) x.key ≡ Some port) seats
+    (λ i x at_x port at. ap (λ t. get (slab t) x.key) back ∙ at)
+bound_kept {Q} slab most before after seats w (Some key) is back =
+    all_by (λ (x : PortSeat). (port : Q) → get (slab before) x.key ≡ Some port → get (slab after) x.key ≡ Some port) seats
+    (λ i x at_x port at. back.others x.key (at_all (λ (y : PortSeat). y.key ≢ key) seats (key_apart most (slab before) seats w key is) i x at_x) ∙ at)
+
+-- as they do where the tunnel opened
+pub opened_kept : {Q T : Type 0} (slab : T → Slab Q) (most : Q → ℕ) (before after : T) (seats : List PortSeat) (w : Want) (bound opened : Option ℕ) → IsBound most (slab before) seats w bound
+    → MatchOption opened (MatchOption bound (after ≡ before) (λ key. Updates (slab before) (slab after) key None)) (λ tunnel. after ≡ before) → KeepsSeats (slab before) (slab after) seats
+opened_kept slab most before after seats w bound None is back = bound_kept slab most before after seats w bound is back
+opened_kept {Q} slab most before after seats w bound (Some tunnel) is same =
+    all_by (λ (x : PortSeat). (port : Q) → get (slab before) x.key ≡ Some port → get (slab after) x.key ≡ Some port) seats (λ i x at_x port at. ap (λ t. get (slab t) x.key) same ∙ at)
 
 -- ---- it opened
 
@@ -130,32 +183,45 @@ open_done o n actor seen seen_after boxes orders s conn id names number tunnel a
       then = refl;
     }
 
-open_stands : {L Q : Type 0} (most : Q → ℕ) (table : Slab Q) (c : Core) (g : HeldBy L) (o n : Outside) (s : Held) (conn id names number tunnel key : ℕ) (addr : Addr) (routes : List Range) (said : Note) (t : Conn)
-    (seats : List PortSeat) → IsConn c s.conn → want_of s.conn ≡ Ask (call.Open conn id names (goal.Udp addr number)) → s.ports ≡ [] → IsReady most table (limit_of addr) key seats
-    → s.conn.number ≡ g.number → g.ports.items ≡ record { tunnel = tunnel; key = key; received = 0 } ∷ [] → g.bound ≡ None
+open_stands : {L Q : Type 0} (most : Q → ℕ) (table : Slab Q) (h g : HeldBy L) (o n : Outside) (s : Held) (conn id names number tunnel key : ℕ) (addr : Addr) (routes : List Range) (said : Note) (t : Conn)
+    → IsHeld most table h s → want_of s.conn ≡ Ask (call.Open conn id names (goal.Udp addr number)) → All (λ (x : PortSeat). x.tunnel ≢ tunnel) h.ports.items
+    → IsReady most table (limit_of addr) key h.ports.items
+    → s.conn.number ≡ g.number → g.ports.items ≡ h.ports.items ++ record { tunnel = tunnel; key = key; received = 0 } ∷ [] → g.bound ≡ None
     → done s.conn (Replied (reply.Opened tunnel routes)) ≡ Some (said, t) → IsConn g.conn t → IsHeld most table g (opened_left o n s conn id names addr number tunnel routes t)
-open_stands most table c g o n s conn id names number tunnel key addr routes said t seats is want none ready same items bound does new =
+open_stands most table h g o n s conn id names number tunnel key addr routes said t held want none ready same items bound does new =
     let u : Held = opened_left o n s conn id names addr number tunnel routes t in
-    let k = opened_next s.conn t said conn id names (goal.Udp addr number) tunnel routes (tail_opens c s.conn is) want does in
-    let a = open_alone c s.conn conn id names (goal.Udp addr number) is want in
-    let ports : u.ports ≡ prepared (n.port tunnel) (new_port tunnel addr number) ∷ [] = opened_ports o n s.ports tunnel number addr none in
+    let k = opened_next s.conn t said conn id names (goal.Udp addr number) tunnel routes (tail_opens h.conn s.conn held.conn) want does in
+    let alive = (open_alive h.conn s.conn conn id names (goal.Udp addr number) held.conn want).0 in
+    let before : List Port = map (filled_port o idle) s.ports in
+    let p : Port = prepared (n.port tunnel) (new_port tunnel addr number) in
+    let ports : u.ports ≡ before ++ p ∷ [] = opened_ports o n s.ports tunnel number addr (ports_apart most table o tunnel h.ports.items s.ports held.ports none) in
     let seat : PortSeat = record { tunnel = tunnel; key = key; received = 0 } in
     let P : List Port → Type 0 = λ ps. ArePorts most table g.ports.items ps in
-    let S : List PortSeat → Type 0 = λ xs. ArePorts most table xs (prepared (n.port tunnel) (new_port tunnel addr number) ∷ []) in
-    let are = subst P (sym ports) (subst S (sym items) (prepared_is most table tunnel key number addr seats (n.port tunnel) ready, tt)) in
+    let S : List PortSeat → Type 0 = λ xs. ArePorts most table xs (before ++ p ∷ []) in
+    let are = subst P (sym ports) (subst S (sym items) (are_added most table h.ports.items before seat p (are_filled most table o idle h.ports.items s.ports held.ports)
+    (prepared_is most table tunnel key number addr h.ports.items (n.port tunnel) ready))) in
     let first : Tunnel = record { id = tunnel; stream = id; goal = goal.Udp addr number; waiting = [] } in
-    let tunnels : t.tunnels ≡ first ∷ [] = k.3 ∙ ap (λ (ts : List Tunnel). ts ++ first ∷ []) a.0 in
+    let others : All (IsApartFrom seat) h.ports.items = all_by (IsApartFrom seat) h.ports.items
+    (λ i x at. (at_all (λ (y : PortSeat). y.tunnel ≢ tunnel) h.ports.items none i x at, at_all (λ (y : PortSeat). y.key ≢ key) h.ports.items ready.apart i x at)) in
     let served : tunnels_of u.ports ≡ numbers_of t.tunnels =
-    ap (λ (ps : List Port). tunnels_of ps) ports ∙ ap (λ (x : ℕ). x ∷ []) (prepared_tunnel tunnel number addr (n.port tunnel)) ∙ sym (ap (λ (ts : List Tunnel). numbers_of ts) tunnels) in
-    stands most table g u new (k.0 ∙ same) are (served_any t.ending t.tunnels u.ports served) k.2 bound
+    ap (λ (ps : List Port). tunnels_of ps) ports
+    ∙ map-append (λ (q : Port). q.tunnel) before (p ∷ [])
+    ∙ ap (λ (xs : List ℕ). xs ++ p.tunnel ∷ []) (tunnels_filled o idle s.ports ∙ alive_served s.conn.ending s.conn.tunnels s.ports alive held.served)
+    ∙ ap (λ (x : ℕ). numbers_of s.conn.tunnels ++ x ∷ []) (prepared_tunnel tunnel number addr (n.port tunnel))
+    ∙ sym (map-append (λ (y : Tunnel). y.id) s.conn.tunnels (first ∷ []))
+    ∙ sym (ap (λ (ts : List Tunnel). numbers_of ts) k.3) in
+    stands most table g u new (k.0 ∙ same) are (same_apart (h.ports.items ++ seat ∷ []) g.ports.items items (apart_added h.ports.items seat others held.apart))
+    (served_any t.ending t.tunnels u.ports served) k.2 bound
 
-open_told : (o n : Outside) (s : Held) (conn id names number tunnel : ℕ) (addr : Addr) (routes : List Range) (t : Conn) → s.ports ≡ []
-    → PortsTold n (opened_left o n s conn id names addr number tunnel routes t).ports
-open_told o n s conn id names number tunnel addr routes t none =
+open_told : (o n : Outside) (s : Held) (conn id names number tunnel : ℕ) (addr : Addr) (routes : List Range) (t : Conn) → All (λ (q : Port). q.tunnel ≢ tunnel) (map (filled_port o idle) s.ports)
+    → All (StaysTold o n) s.ports → PortsTold n (opened_left o n s conn id names addr number tunnel routes t).ports
+open_told o n s conn id names number tunnel addr routes t others stay =
     let p : Port = prepared (n.port tunnel) (new_port tunnel addr number) in
     let P : List Port → Type 0 = λ ps. PortsTold n ps in
     let T : ℕ → Type 0 = λ i. IsTold (n.port i) (holds_of p) in
-    subst P (sym (opened_ports o n s.ports tunnel number addr none)) (subst T (sym (prepared_tunnel tunnel number addr (n.port tunnel))) (prepared_told (n.port tunnel) (new_port tunnel addr number)), tt)
+    subst P (sym (opened_ports o n s.ports tunnel number addr others))
+    (told_added n (map (filled_port o idle) s.ports) p (filled_told o n idle s.ports stay)
+    (subst T (sym (prepared_tunnel tunnel number addr (n.port tunnel))) (prepared_told (n.port tunnel) (new_port tunnel addr number))))
 
 -- ---- what it comes to
 
@@ -167,8 +233,10 @@ pub record Comes {L Q : Type 0} (most : Q → ℕ) (after : Slab Q) (g : HeldBy 
   pub told_is : PortsTold n left_is.ports
 
 -- what is known where the book replied to an opening
-pub record Opens {L Q : Type 0} (most : Q → ℕ) (table after : Slab Q) (h g : HeldBy L) (o n : Outside) (actor : ℕ) (seen seen_after : Seen) (s : Held) (asked : Call) (said : HeardBy) (t : Conn) : Type 0 where
+pub record Opens {L Q : Type 0} (most : Q → ℕ) (holds : Q → Option PortHolds) (counts : Q → PortCounts) (table after : Slab Q) (h g : HeldBy L) (o n : Outside) (actor : ℕ) (seen seen_after : Seen) (s : Held)
+    (asked : Call) (said : HeardBy) (t : Conn) : Type 0 where
   pub held : IsHeld most table h s
+  pub known : (x : Held) × IsHeld most table h x × IsKnown seen actor x × (want_of x.conn ≡ Ask asked)
   pub mine : s.conn.actor ≡ actor
   pub want : want_of s.conn ≡ Ask asked
   pub hears : Hears actor seen asked seen_after s.conn said t
@@ -177,88 +245,128 @@ pub record Opens {L Q : Type 0} (most : Q → ℕ) (table after : Slab Q) (h g :
   pub seats : Seats said.opened h.ports.items h.bound g.ports.items
   pub bound : g.bound ≡ None
   pub table_is : (tunnel : ℕ) → said.opened ≡ Some tunnel → after ≡ table
+  pub keeps : KeepsSeats table after h.ports.items
+  pub sees : SeesPorts holds counts table o h.ports.items
+  pub sees_after : SeesPorts holds counts after n g.ports.items
   pub binds : n.binds.holds ≡ o.binds.holds
 
-pub none_before : {L Q : Type 0} (most : Q → ℕ) (table : Slab Q) (h : HeldBy L) (s : Held) (conn id names : ℕ) (goal : Goal) → IsHeld most table h s → want_of s.conn ≡ Ask (call.Open conn id names goal)
-    → (s.ports ≡ []) × (h.ports.items ≡ [])
-none_before most table h s conn id names goal held want =
-    let none = no_ports_open h.conn s conn id names goal held.conn held.served want in
-    (none, no_seats_open most table h.ports.items s.ports none held.ports)
-
-seat_first : (tunnel key : ℕ) (seats after : List PortSeat) → seats ≡ [] → Seats (Some tunnel) seats (Some key) after → after ≡ record { tunnel = tunnel; key = key; received = 0 } ∷ []
-seat_first tunnel key seats after none is = is ∙ ap (λ (xs : List PortSeat). xs ++ record { tunnel = tunnel; key = key; received = 0 } ∷ []) none
-
-comes_open : {L Q : Type 0} (most : Q → ℕ) (table after : Slab Q) (h g : HeldBy L) (o n : Outside) (actor : ℕ) (seen seen_after : Seen) (boxes : List (List Parcel)) (orders : Orders) (s : Held)
+comes_open : {L Q : Type 0} (most : Q → ℕ) (holds : Q → Option PortHolds) (counts : Q → PortCounts) (table after : Slab Q) (h g : HeldBy L) (o n : Outside) (actor : ℕ) (seen seen_after : Seen) (boxes : List (List Parcel)) (orders : Orders) (s : Held)
     (conn id names number : ℕ) (addr : Addr) (said : HeardBy) (t : Conn) (tunnel : ℕ) (routes : List Range) (bound : Option ℕ)
-    → Opens most table after h g o n actor seen seen_after s (call.Open conn id names (goal.Udp addr number)) said t
+    → Opens most holds counts table after h g o n actor seen seen_after s (call.Open conn id names (goal.Udp addr number)) said t
     → CallOk actor seen (call.Open conn id names (goal.Udp addr number)) (reply.Opened tunnel routes) seen_after → done s.conn (Replied (reply.Opened tunnel routes)) ≡ Some (said.note, t)
     → said.opened ≡ Some tunnel → h.bound ≡ bound → IsBound most table h.ports.items (Ask (call.Open conn id names (goal.Udp addr number))) bound
     → Comes most after g o n seen seen_after boxes orders s said.note
-comes_open most table after h g o n actor seen seen_after boxes orders s conn id names number addr said t tunnel routes None opens ok does opened same is = absurd is
-comes_open {L} {Q} most table after h g o n actor seen seen_after boxes orders s conn id names number addr said t tunnel routes (Some key) opens ok does opened same is =
-    let none = none_before most table h s conn id names (goal.Udp addr number) opens.held opens.want in
+comes_open most holds counts table after h g o n actor seen seen_after boxes orders s conn id names number addr said t tunnel routes None opens ok does opened same is = absurd is
+comes_open {L} {Q} most holds counts table after h g o n actor seen seen_after boxes orders s conn id names number addr said t tunnel routes (Some key) opens ok does opened same is =
     let S : Option ℕ → Type 0 = λ x. Seats x h.ports.items h.bound g.ports.items in
     let T : Option ℕ → Type 0 = λ x. Seats (Some tunnel) h.ports.items x g.ports.items in
-    let seats = seat_first tunnel key h.ports.items g.ports.items none.1 (subst T same (subst S opened opens.seats)) in
+    let seats = subst T same (subst S opened opens.seats) in
+    let seat : PortSeat = record { tunnel = tunnel; key = key; received = 0 } in
+    let table_is = opens.table_is tunnel opened in
     let R : Slab Q → Type 0 = λ x. IsReady most x (limit_of addr) key h.ports.items in
-    let ready = subst R (sym (opens.table_is tunnel opened)) is in
+    let ready = subst R (sym table_is) is in
+    let k = opens.known in
+    let none = fresh most table h actor seen seen_after k.0 conn id names tunnel (goal.Udp addr number) routes k.1 k.2 k.3 ok in
+    let H : Slab Q → Type 0 = λ x. IsHeld most x h s in
+    let N : List PortSeat → Type 0 = λ xs. SeesPorts holds counts after n xs in
+    let seen_old = all_before (SeesPort holds counts after n) h.ports.items (seat ∷ []) (subst N seats opens.sees_after) in
+    let stay = seats_told most holds counts table after o n h.ports.items s.ports opens.keeps opens.sees seen_old opens.held.ports in
     record {
       left_is = opened_left o n s conn id names addr number tunnel routes t;
       done_is = open_done o n actor seen seen_after boxes orders s conn id names number tunnel addr routes said.note t opens.mine opens.want ok does opens.binds;
-      stands_for = open_stands most after h.conn g o n s conn id names number tunnel key addr routes said.note t h.ports.items opens.held.conn opens.want none.0 ready opens.number seats opens.bound does opens.conn;
-      told_is = open_told o n s conn id names number tunnel addr routes t none.0;
+      stands_for = open_stands most after h g o n s conn id names number tunnel key addr routes said.note t (subst H (sym table_is) opens.held) opens.want none ready opens.number seats opens.bound does opens.conn;
+      told_is = open_told o n s conn id names number tunnel addr routes t (ports_apart most table o tunnel h.ports.items s.ports opens.held.ports none) stay;
     }
 
 full_needs : (n : Outside) (conn id names number entries live : ℕ) (addr : Addr) → NeedsNoPort n (Ask (call.Open conn id names (goal.Udp addr number))) (Replied (reply.HistoryFull entries live))
 full_needs n conn id names number entries live addr = record { lives = tt; can = λ ports. refl; ports = λ ports. refl; answers = λ ports. tt; plain = λ h. refl }
 
-comes_full : {L Q : Type 0} (most : Q → ℕ) (table after : Slab Q) (h g : HeldBy L) (o n : Outside) (actor : ℕ) (seen seen_after : Seen) (boxes : List (List Parcel)) (orders : Orders) (s : Held)
+comes_full : {L Q : Type 0} (most : Q → ℕ) (holds : Q → Option PortHolds) (counts : Q → PortCounts) (table after : Slab Q) (h g : HeldBy L) (o n : Outside) (actor : ℕ) (seen seen_after : Seen) (boxes : List (List Parcel)) (orders : Orders) (s : Held)
     (conn id names number : ℕ) (addr : Addr) (said : HeardBy) (t : Conn) (entries live : ℕ)
-    → Opens most table after h g o n actor seen seen_after s (call.Open conn id names (goal.Udp addr number)) said t
+    → Opens most holds counts table after h g o n actor seen seen_after s (call.Open conn id names (goal.Udp addr number)) said t
     → CallOk actor seen (call.Open conn id names (goal.Udp addr number)) (reply.HistoryFull entries live) seen_after → done s.conn (Replied (reply.HistoryFull entries live)) ≡ Some (said.note, t)
     → said.opened ≡ None → Comes most after g o n seen seen_after boxes orders s said.note
-comes_full {L} {Q} most table after h g o n actor seen seen_after boxes orders s conn id names number addr said t entries live opens ok does opened =
-    let none = none_before most table h s conn id names (goal.Udp addr number) opens.held opens.want in
+comes_full {L} {Q} most holds counts table after h g o n actor seen seen_after boxes orders s conn id names number addr said t entries live opens ok does opened =
     let asked : Call = call.Open conn id names (goal.Udp addr number) in
     let full : Reply = reply.HistoryFull entries live in
     let k = kept_full s.conn t said.note entries live (tail_opens h.conn s.conn opens.held.conn) does in
-    let a = open_alone h.conn s.conn conn id names (goal.Udp addr number) opens.held.conn opens.want in
+    let alive = (open_alive h.conn s.conn conn id names (goal.Udp addr number) opens.held.conn opens.want).0 in
     let S : Option ℕ → Type 0 = λ x. Seats x h.ports.items h.bound g.ports.items in
-    let empty : g.ports.items ≡ [] = subst S opened opens.seats ∙ none.1 in
+    let same : g.ports.items ≡ h.ports.items = subst S opened opens.seats in
     let sh : Shared = shared_by seen ok.book boxes orders in
     let B : ℕ → Type 0 = λ who. Asks sh who asked full sh in
+    let A : List PortSeat → Type 0 = λ xs. ArePorts most after xs (map (filled_port o idle) s.ports) in
+    let N : List PortSeat → Type 0 = λ xs. SeesPorts holds counts after n xs in
+    let stay = seats_told most holds counts table after o n h.ports.items s.ports opens.keeps opens.sees (subst N same opens.sees_after) opens.held.ports in
     let served : tunnels_of (map (filled_port o idle) s.ports) ≡ numbers_of t.tunnels =
-    ap (λ (ps : List Port). tunnels_of (map (filled_port o idle) ps)) none.0 ∙ sym (ap (λ (ts : List Tunnel). numbers_of ts) (k.tunnels ∙ a.0)) in
+    tunnels_filled o idle s.ports ∙ alive_served s.conn.ending s.conn.tunnels s.ports alive opens.held.served ∙ sym (ap (λ (ts : List Tunnel). numbers_of ts) k.tunnels) in
     record {
       left_is = left o s t;
       done_is = want_done o n seen seen_after boxes orders s (Ask asked) (Replied full) said.note t sh sh opens.want (full_needs n conn id names number entries live addr) does
           (subst B (sym opens.mine) (record { said = full; is = ok.reply_is; reply_is = refl; after_is = refl }))
           (record { config = refl; book = ok.sees; wrote = ok.seen; same = ok.same; boxes_are = refl; boxes_after = refl; orders_are = refl }) opens.binds;
-      stands_for = stands most after g (left o s t) opens.conn (k.number ∙ opens.number) (no_are most after o g.ports.items s.ports none.0 empty) (served_any t.ending t.tunnels (map (filled_port o idle) s.ports) served) k.opens opens.bound;
-      told_is = no_told o n s.ports none.0;
+      stands_for = stands most after g (left o s t) opens.conn (k.number ∙ opens.number)
+          (subst A (sym same) (are_filled most after o idle h.ports.items s.ports (seats_kept most table after h.ports.items s.ports opens.keeps opens.held.ports)))
+          (same_apart h.ports.items g.ports.items same opens.held.apart)
+          (served_any t.ending t.tunnels (map (filled_port o idle) s.ports) served) k.opens opens.bound;
+      told_is = filled_told o n idle s.ports stay;
     }
 
-pub comes : {L Q : Type 0} (most : Q → ℕ) (table after : Slab Q) (h g : HeldBy L) (o n : Outside) (actor : ℕ) (seen seen_after : Seen) (boxes : List (List Parcel)) (orders : Orders) (s : Held)
-    (asked : Call) (said : HeardBy) (t : Conn) → ((tunnel : ℕ) → asked ≢ call.Close tunnel) → Opens most table after h g o n actor seen seen_after s asked said t
+pub comes : {L Q : Type 0} (most : Q → ℕ) (holds : Q → Option PortHolds) (counts : Q → PortCounts) (table after : Slab Q) (h g : HeldBy L) (o n : Outside) (actor : ℕ) (seen seen_after : Seen) (boxes : List (List Parcel)) (orders : Orders) (s : Held)
+    (asked : Call) (said : HeardBy) (t : Conn) → ((tunnel : ℕ) → asked ≢ call.Close tunnel) → Opens most holds counts table after h g o n actor seen seen_after s asked said t
     → Comes most after g o n seen seen_after boxes orders s said.note
-comes most table after h g o n actor seen seen_after boxes orders s (call.Close tunnel) said t not opens = absurd (not tunnel refl)
-comes most table after h g o n actor seen seen_after boxes orders s (call.Assign tunnel list) said t not opens =
+comes most holds counts table after h g o n actor seen seen_after boxes orders s (call.Close tunnel) said t not opens = absurd (not tunnel refl)
+comes most holds counts table after h g o n actor seen seen_after boxes orders s (call.Assign tunnel list) said t not opens =
     let P : Want → Type 0 = λ w. IsUdpWant w in absurd (subst P opens.want (udp_want h.conn s.conn opens.held.conn))
-comes most table after h g o n actor seen seen_after boxes orders s (call.Advertise tunnel list) said t not opens =
+comes most holds counts table after h g o n actor seen seen_after boxes orders s (call.Advertise tunnel list) said t not opens =
     let P : Want → Type 0 = λ w. IsUdpWant w in absurd (subst P opens.want (udp_want h.conn s.conn opens.held.conn))
-comes most table after h g o n actor seen seen_after boxes orders s (call.Open conn id names (goal.Ip area protocol)) said t not opens =
+comes most holds counts table after h g o n actor seen seen_after boxes orders s (call.Open conn id names (goal.Ip area protocol)) said t not opens =
     let P : Want → Type 0 = λ w. IsUdpWant w in absurd (subst P opens.want (udp_want h.conn s.conn opens.held.conn))
-comes {L} {Q} most table after h g o n actor seen seen_after boxes orders s (call.Open conn id names (goal.Udp addr number)) said t not opens =
+comes {L} {Q} most holds counts table after h g o n actor seen seen_after boxes orders s (call.Open conn id names (goal.Udp addr number)) said t not opens =
     by_reply opens.hears.said opens.hears.replied opens.hears.does opens.hears.opened where
       by_reply : (r : Reply) → CallOk actor seen (call.Open conn id names (goal.Udp addr number)) r seen_after → done s.conn (Replied r) ≡ Some (said.note, t) → said.opened ≡ opened_by r
           → Comes most after g o n seen seen_after boxes orders s said.note
       by_reply (reply.Opened tunnel routes) ok does opened =
-          comes_open most table after h g o n actor seen seen_after boxes orders s conn id names number addr said t tunnel routes h.bound opens ok does opened refl
+          comes_open most holds counts table after h g o n actor seen seen_after boxes orders s conn id names number addr said t tunnel routes h.bound opens ok does opened refl
           (bound_none most table h.ports.items (want_of s.conn) (Ask (call.Open conn id names (goal.Udp addr number))) h.bound opens.held.bound opens.want)
-      by_reply (reply.HistoryFull entries live) ok does opened = comes_full most table after h g o n actor seen seen_after boxes orders s conn id names number addr said t entries live opens ok does opened
+      by_reply (reply.HistoryFull entries live) ok does opened = comes_full most holds counts table after h g o n actor seen seen_after boxes orders s conn id names number addr said t entries live opens ok does opened
       by_reply (reply.Assigned list at) ok does opened = absurd ok.reply_is
       by_reply (reply.Accepted accepts at) ok does opened = absurd ok.reply_is
       by_reply reply.Closed ok does opened = absurd ok.reply_is
+
+-- ---- the seats behind it
+
+apart_open : {L Q : Type 0} (most : Q → ℕ) (table : Slab Q) (h : HeldBy L) (tunnel : ℕ) (w : Want) (bound : Option ℕ) (after : List PortSeat) → SeatsApart h.ports.items
+    → IsBound most table h.ports.items w bound → All (λ (x : PortSeat). x.tunnel ≢ tunnel) h.ports.items → Seats (Some tunnel) h.ports.items bound after → SeatsApart after
+apart_open most table h tunnel w None after apart is none seats = same_apart h.ports.items after seats apart
+apart_open most table h tunnel w (Some key) after apart is none seats =
+    let seat : PortSeat = record { tunnel = tunnel; key = key; received = 0 } in
+    let keys = key_apart most table h.ports.items w key is in
+    let others : All (IsApartFrom seat) h.ports.items = all_by (IsApartFrom seat) h.ports.items
+    (λ i x at. (at_all (λ (y : PortSeat). y.tunnel ≢ tunnel) h.ports.items none i x at, at_all (λ (y : PortSeat). y.key ≢ key) h.ports.items keys i x at)) in
+    same_apart (h.ports.items ++ seat ∷ []) after seats (apart_added h.ports.items seat others apart)
+
+pub opened_apart : {L Q : Type 0} (most : Q → ℕ) (table : Slab Q) (h : HeldBy L) (actor : ℕ) (seen seen_after : Seen) (s : Held) (asked : Call) (said : HeardBy) (t : Conn) (after : List PortSeat)
+    → ((tunnel : ℕ) → asked ≢ call.Close tunnel) → IsHeld most table h s → IsKnown seen actor s → want_of s.conn ≡ Ask asked → Hears actor seen asked seen_after s.conn said t
+    → Seats said.opened h.ports.items h.bound after → SeatsApart after
+opened_apart most table h actor seen seen_after s (call.Close tunnel) said t after not held known want hears seats = absurd (not tunnel refl)
+opened_apart most table h actor seen seen_after s (call.Assign tunnel list) said t after not held known want hears seats =
+    let P : Want → Type 0 = λ w. IsUdpWant w in absurd (subst P want (udp_want h.conn s.conn held.conn))
+opened_apart most table h actor seen seen_after s (call.Advertise tunnel list) said t after not held known want hears seats =
+    let P : Want → Type 0 = λ w. IsUdpWant w in absurd (subst P want (udp_want h.conn s.conn held.conn))
+opened_apart {L} {Q} most table h actor seen seen_after s (call.Open conn id names goal) said t after not held known want hears seats =
+    by_reply hears.said hears.replied hears.opened where
+      S : Option ℕ → Type 0
+      S opened = Seats opened h.ports.items h.bound after
+
+      by_reply : (r : Reply) → CallOk actor seen (call.Open conn id names goal) r seen_after → said.opened ≡ opened_by r → SeatsApart after
+      by_reply (reply.Opened tunnel routes) ok opened =
+          apart_open most table h tunnel (want_of s.conn) h.bound after held.apart held.bound
+          (fresh most table h actor seen seen_after s conn id names tunnel goal routes held known want ok) (subst S opened seats)
+      by_reply (reply.HistoryFull entries live) ok opened = same_apart h.ports.items after (subst S opened seats) held.apart
+      by_reply (reply.Assigned list at) ok opened = absurd ok.reply_is
+      by_reply (reply.Accepted accepts at) ok opened = absurd ok.reply_is
+      by_reply reply.Closed ok opened = absurd ok.reply_is
 
 -- the table stays where a tunnel opened
 pub opened_table : (opened : Option ℕ) (tunnel : ℕ) (A B : Type 0) → opened ≡ Some tunnel → MatchOption opened A (λ id. B) → B

@@ -1,5 +1,5 @@
--- What a connection's receive meets: it has one tunnel, whose port it asks.
-use Rattle.std.proofs.Common.{◌≡◌, ◌⊎◌, inl, inr, ℕ, ◌<◌, ◌≤◌, Bool, true, false, ◌&&◌, ◌==◌, List, [], ◌∷◌, length, slice_get, slice_index_or, Option, Some, None, MatchOption, Bor, refl, sym, ap, subst, ◌∙◌}
+-- What a receive of a connection meets: the port of a live tunnel.
+use Rattle.std.proofs.Common.{◌≡◌, ◌≢◌, ◌⊎◌, inl, inr, ℕ, ◌<◌, ◌≤◌, Bool, true, false, ◌&&◌, ◌==◌, List, [], ◌∷◌, length, slice_get, slice_index_or, Option, Some, None, MatchOption, Bor, refl, sym, ap, subst, ◌∙◌}
 use Rattle.std.specs.Prelude.{◌||◌, find, if◌then◌else◌}
 use Rattle.std.specs.Option.{is_some, option_copied, IfSome}
 use Rattle.std.specs.List.{HoldsAt}
@@ -23,16 +23,16 @@ use Rattle.mq_conn.specs.declared.conn.Conn.{Conn as Core}
 use Rattle.mq_held.specs.Ready.{may_give}
 use Rattle.mq_held.specs.declared.held.Held.{Held as HeldBy}
 use Rattle.mq_held.specs.declared.held.PortSeat.{PortSeat}
-use Rattle.mq_step.specs.Holds.{IsPort, ArePorts, AreServed, IsBound, IsHeld}
-use Rattle.mq_step.specs.Sights.{Found, SeesPorts, port_if, idle_link, LinkGrows}
+use Rattle.mq_step.specs.Holds.{IsPort, ArePorts, AreServed, IsApartFrom, IsBound, IsHeld}
+use Rattle.mq_step.specs.Sights.{Found, SeesPorts, port_if, filled_port, idle, idle_link, idle_port, LinkGrows}
 use Rattle.mq_step.specs.Whole.{SeesLink, link_if, filled, FaultsFit}
-use Rattle.mq_step.specs.Gives.{ReadsWait, first_of, receive_alone}
+use Rattle.mq_step.specs.Gives.{ReceivesWait, first_of, receive_alone}
 use Rattle.mq_step.proofs.Counting.{link_same}
-use Rattle.mq_step.proofs.Filling.{none_fails, served_none}
+use Rattle.mq_step.proofs.Filling.{FailsNot, none_fails, served_none, alive_served}
+use Rattle.mq_step.proofs.Places.{seat_port, live_of, mine_or, port_first}
 use Rattle.mq_step.proofs.Keeping.{NoOpens}
-use Rattle.mq_step.proofs.Alone.{one_tunnel, none_opens}
-use Rattle.mq_step.proofs.Asking.{OnePort, With, Without, port_at, no_seat}
-use Rattle.mq_step.proofs.Sending.{only_seat, one_seen, one_filled, first_port}
+use Rattle.mq_step.proofs.Cores.{none_opens}
+use Rattle.mq_step.proofs.Sending.{mine_seen, mine_filled, found_at, found_other}
 
 -- ---- the seat at a place
 
@@ -64,95 +64,117 @@ waits_bound most table seats (Push parcel) bound wait is = absurd cc
 waits_bound most table seats (Send tunnel n payload) bound wait is = is
 waits_bound most table seats (Over why) bound wait is = absurd cc
 
--- with a tunnel it isn't ending
-alive_by : (s : Conn) (t : Tunnel) (e : Option End) → s.ending ≡ e → s.tunnels ≡ t ∷ [] → waits (want_by s e) ≡ true → s.ending ≡ None
-alive_by s t None is ts wait = is
-alive_by s t (Some why) is ts wait =
-    let e : waits (ending_want s why s.tunnels) ≡ false = ap (λ (xs : List Tunnel). waits (ending_want s why xs)) ts in
-    let f : true ≡ false = sym wait ∙ e in absurd cc
+-- with a port it isn't ending
+ending_by : (s : Conn) (why : End) (ts : List Tunnel) → s.tunnels ≡ ts → waits (ending_want s why ts) ≡ true → s.tunnels ≡ []
+ending_by s why [] is wait = is
+ending_by s why (t ∷ ts) is wait = absurd cc
+
+pub alive_by : (s : Conn) (e : Option End) → s.ending ≡ e → waits (want_by s e) ≡ true → (s.ending ≡ None) ⊎ (s.tunnels ≡ [])
+alive_by s None is wait = inl is
+alive_by s (Some why) is wait = inr (ending_by s why s.tunnels refl wait)
+
+pub alive_with : (s : Held) (place : ℕ) (p : Port) → AreServed s.conn.ending s.conn.tunnels s.ports → slice_get s.ports place ≡ Some p → waits (want_of s.conn) ≡ true → s.conn.ending ≡ None
+alive_with s place p served at wait = by_case (alive_by s.conn s.conn.ending refl wait) where
+  by_case : (s.conn.ending ≡ None) ⊎ (s.conn.tunnels ≡ []) → s.conn.ending ≡ None
+  by_case (inl alive) = alive
+  by_case (inr none) =
+      let P : List Port → Type 0 = λ ps. slice_get ps place ≡ Some p in
+      let there : slice_get [] place ≡ Some p = subst P (served_none s.conn.ending s.conn.tunnels s.ports none served) at in absurd cc
 
 -- ---- the port of a seat
 
--- the seat is the only one, and its port that of the only tunnel
+-- the seat has a port, and that a live tunnel
 pub record Live {L Q : Type 0} (most : Q → ℕ) (holds : Q → Option PortHolds) (counts : Q → PortCounts) (table : Slab Q) (h : HeldBy L) (o : Outside) (s : Held) (seat : PortSeat) : Type 0 where
   pub held : IsHeld most table h s
   pub wait : waits (want_of s.conn) ≡ true
+  pub place : ℕ
+  pub here : slice_get h.ports.items place ≡ Some seat
   pub t : Tunnel
-  pub tunnels_are : s.conn.tunnels ≡ t ∷ []
+  pub found : tunnel_of s.conn seat.tunnel ≡ Some t
   pub id : t.id ≡ seat.tunnel
   pub alive : s.conn.ending ≡ None
   pub p : Port
-  pub seats_are : h.ports.items ≡ seat ∷ []
-  pub ports_are : s.ports ≡ p ∷ []
+  pub at_port : slice_get s.ports place ≡ Some p
   pub of_port : p.tunnel ≡ seat.tunnel
   pub is : IsPort most table seat p
   pub sees : (o.port seat.tunnel ≡ holds is.port) × (o.port_counts seat.tunnel ≡ counts is.port)
 
-none_at : (seats : List PortSeat) (place : ℕ) (seat : PortSeat) → seats ≡ [] → slice_get seats place ≡ Some seat → ⊥
-none_at seats place seat none at = let e : None ≡ Some seat = ap (λ (xs : List PortSeat). slice_get xs place) (sym none) ∙ at in cc
-
 pub live : {L Q : Type 0} (most : Q → ℕ) (holds : Q → Option PortHolds) (counts : Q → PortCounts) (table : Slab Q) (h : HeldBy L) (o : Outside) (s : Held) (seat : PortSeat) (place : ℕ)
     → IsHeld most table h s → waits (want_of s.conn) ≡ true → SeesPorts holds counts table o h.ports.items → slice_get h.ports.items place ≡ Some seat
     → Live most holds counts table h o s seat
-live {L} {Q} most holds counts table h o s seat place held wait so at = by_tunnels (one_tunnel h.conn s.conn held.conn) where
-  of_one : (t : Tunnel) (one : PortSeat) (p : Port) → s.conn.tunnels ≡ t ∷ [] → h.ports.items ≡ one ∷ [] → s.ports ≡ p ∷ [] → p.tunnel ≡ t.id → one.tunnel ≡ t.id → IsPort most table one p
-      → Live most holds counts table h o s one
-  of_one t one p ts ss ps pt st is = record {
-    held = held;
-    wait = wait;
-    t = t;
-    tunnels_are = ts;
-    id = sym st;
-    alive = alive_by s.conn t s.conn.ending refl ts wait;
-    p = p;
-    seats_are = ss;
-    ports_are = ps;
-    of_port = pt ∙ sym st;
-    is = is;
-    sees = one_seen holds counts table o h.ports.items one one.tunnel is.port ss refl is.at so;
-  }
-
-  by_port : (t : Tunnel) → s.conn.tunnels ≡ t ∷ [] → OnePort most table h.ports.items s.ports t.id → Live most holds counts table h o s seat
-  by_port t ts (Without ss ps) = absurd (none_at h.ports.items place seat ss at)
-  by_port t ts (With one p ss ps pt st are) =
-      let P : PortSeat → Type 0 = λ x. Live most holds counts table h o s x in
-      subst P (sym (only_seat h.ports.items one seat place ss at)) (of_one t one p ts ss ps pt st are.0)
-
-  by_tunnels : (s.conn.tunnels ≡ []) ⊎ ((t : Tunnel) × (s.conn.tunnels ≡ t ∷ [])) → Live most holds counts table h o s seat
-  by_tunnels (inl none) =
-      let A : List Port → Type 0 = λ ps. ArePorts most table h.ports.items ps in
-      let ports = served_none s.conn.ending s.conn.tunnels s.ports none held.served in
-      absurd (none_at h.ports.items place seat (no_seat most table h.ports.items (subst A ports held.ports)) at)
-  by_tunnels (inr (t, ts)) =
-      let P : List Tunnel → Type 0 = λ xs. AreServed s.conn.ending xs s.ports in
-      by_port t ts (port_at most table h.ports.items s.ports s.conn.ending t (subst P ts held.served) held.ports)
+live {L} {Q} most holds counts table h o s seat place held wait so at =
+    let p = seat_port most table h.ports.items s.ports held.ports place seat at in
+    let alive = alive_with s place p.0 held.served p.1 wait in
+    let t = live_of s.ports s.conn.tunnels place p.0 (alive_served s.conn.ending s.conn.tunnels s.ports alive held.served) p.1 in
+    let P : ℕ → Type 0 = λ i. tunnel_of s.conn i ≡ Some t.0 in
+    record {
+      held = held;
+      wait = wait;
+      place = place;
+      here = at;
+      t = t.0;
+      found = subst P p.2.tunnel t.1;
+      id = t.2 ∙ p.2.tunnel;
+      alive = alive;
+      p = p.0;
+      at_port = p.1;
+      of_port = p.2.tunnel;
+      is = p.2;
+      sees = mine_seen holds counts table o h.ports.items place seat seat.tunnel p.2.port at refl p.2.at so;
+    }
 
 -- ---- what was found
 
-abbrev pub found_by : PortHolds → Found
-found_by holds = record { link = idle_link; port = λ tunnel. holds }
+-- where nothing is told, nothing was sent, and nothing read or written, and no other port gives something
+pub receives_wait : (tunnel : ℕ) (holds : PortHolds) → holds.send_fails ≡ false → holds.send_waits ≡ true → ReceivesWait tunnel (found_at tunnel holds)
+receives_wait tunnel holds works full = record {
+  reads = record { writes = record { sends = sends; works = refl; room = refl }; works = refl; pieces = refl; not_ended = refl };
+  others = λ other ne. let e = found_other tunnel other holds ne in (ap (λ (x : PortHolds). x.receive_fails) e, ap (λ (x : PortHolds). x.arrived) e);
+} where
+  sends : (other : ℕ) → (((found_at tunnel holds).port other).send_fails ≡ false) × (((found_at tunnel holds).port other).send_waits ≡ true)
+  sends other = by_case (other == tunnel) where
+    by_case : (b : Bool) → ((if b then holds else idle_port).send_fails ≡ false) × ((if b then holds else idle_port).send_waits ≡ true)
+    by_case true = (works, full)
+    by_case false = (refl, refl)
 
--- where nothing is told, nothing was sent, and nothing read or written
-pub reads_wait : (holds : PortHolds) → holds.send_fails ≡ false → holds.send_waits ≡ true → ReadsWait (found_by holds)
-reads_wait holds works full =
-    record { writes = record { sends = λ tunnel. (works, full); works = refl; room = refl }; works = refl; pieces = refl; not_ended = refl }
+-- nothing of it fails
+pub found_works : (tunnel : ℕ) (holds : PortHolds) → holds.send_fails ≡ false → holds.receive_fails ≡ false → FailsNot (found_at tunnel holds)
+found_works tunnel holds sends receives = record { sends = sent; receives = received } where
+  sent : (other : ℕ) → ((found_at tunnel holds).port other).send_fails ≡ false
+  sent other = by_case (other == tunnel) where
+    by_case : (b : Bool) → (if b then holds else idle_port).send_fails ≡ false
+    by_case true = sends
+    by_case false = refl
+
+  received : (other : ℕ) → ((found_at tunnel holds).port other).receive_fails ≡ false
+  received other = by_case (other == tunnel) where
+    by_case : (b : Bool) → (if b then holds else idle_port).receive_fails ≡ false
+    by_case true = receives
+    by_case false = refl
 
 module _ {L Q : Type 0} (most : Q → ℕ) (holds : Q → Option PortHolds) (counts : Q → PortCounts) (table : Slab Q) (h : HeldBy L) (o : Outside) (s : Held) (seat : PortSeat) where
   -- what its port holds, with this where nothing is told
   abbrev pub held_then : Live most holds counts table h o s seat → PortHolds → PortHolds
   held_then x found = port_if (holds x.is.port) found
 
-  pub filled_one : (x : Live most holds counts table h o s seat) (f : Found) → (filled o f s).ports ≡ holding (held_then x (f.port seat.tunnel)) x.p ∷ []
-  filled_one x f = one_filled o f s.ports x.p seat.tunnel (holds x.is.port) (f.port seat.tunnel) x.ports_are x.of_port x.sees.0 refl
+  pub filled_one : (x : Live most holds counts table h o s seat) (f : Found) → filled_port o f x.p ≡ holding (held_then x (f.port seat.tunnel)) x.p
+  filled_one x f = mine_filled o f x.p seat.tunnel (holds x.is.port) (f.port seat.tunnel) x.of_port x.sees.0 refl
 
   pub port_is : (x : Live most holds counts table h o s seat) (f : Found) → port_of (filled o f s).ports seat.tunnel ≡ Some (holding (held_then x (f.port seat.tunnel)) x.p)
   port_is x f =
-      ap (λ (ps : List Port). port_of ps seat.tunnel) (filled_one x f) ∙ first_port (holding (held_then x (f.port seat.tunnel)) x.p) seat.tunnel x.of_port
+      ap (λ (i : ℕ). port_of (filled o f s).ports i) (sym x.of_port)
+      ∙ port_first most table (filled_port o f) h.ports.items s.ports x.place seat x.p (λ q. refl) x.held.apart x.held.ports x.here x.at_port
+      ∙ ap {B = Option Port} (λ (q : Port). Some q) (filled_one x f)
 
   pub tunnel_is : (x : Live most holds counts table h o s seat) → tunnel_of s.conn seat.tunnel ≡ Some x.t
-  tunnel_is x =
-      ap (λ (ts : List Tunnel). find (λ (t : Tunnel). t.id == seat.tunnel) ts) x.tunnels_are
-      ∙ ap {B = Option Tunnel} (λ (b : Bool). if b then Some x.t else None) (eq-eqb x.t.id seat.tunnel x.id)
+  tunnel_is x = x.found
+
+  -- each port of the connection is that of the seat, or another
+  pub which : (x : Live most holds counts table h o s seat) (i : ℕ) (y : PortSeat) (q : Port) → slice_get h.ports.items i ≡ Some y → slice_get s.ports i ≡ Some q → IsPort most table y q
+      → ((i ≡ x.place) × (y ≡ seat) × (q ≡ x.p)) ⊎ (IsApartFrom seat y × (q.tunnel ≢ seat.tunnel))
+  which x i y q at_y at_q is =
+      mine_or most table h.ports.items s.ports seat.tunnel
+      (record { place = x.place; seat = seat; p = x.p; at_seat = x.here; at_port = x.at_port; of_seat = refl; of_port = x.of_port; is = x.is }) x.held.apart i y q at_y at_q is
 
   -- it can be received on exactly where that gives a datagram, or fails
   pub can_is : (x : Live most holds counts table h o s seat) (f : Found) → can_try (filled o f s) (Receive seat.tunnel) ≡ may_give (held_then x (f.port seat.tunnel))
@@ -201,8 +223,14 @@ link_fits None F none fails = absurd cc
 link_fits (Some link) F none fails = absurd cc
 
 -- neither do ports that were found so
-pub none_faults : (o n : Outside) (s : Held) (holds : PortHolds) → holds.send_fails ≡ false → holds.receive_fails ≡ false → FaultsFit o n (filled o (found_by holds) s)
-none_faults o n s holds sends receives = record {
+pub none_faults : (o n : Outside) (s : Held) (tunnel : ℕ) (holds : PortHolds) → holds.send_fails ≡ false → holds.receive_fails ≡ false → FaultsFit o n (filled o (found_at tunnel holds) s)
+none_faults o n s tunnel holds sends receives = record {
   link = link_fits (o.link s.conn.number) (Rose (o.link_counts s.conn.number).faults (n.link_counts s.conn.number).faults);
-  ports = none_fails o n (found_by holds) s.ports (record { sends = λ tunnel. sends; receives = λ tunnel. receives });
+  ports = none_fails o n (found_at tunnel holds) s.ports (found_works tunnel holds sends receives);
+}
+
+pub idle_faults : (o n : Outside) (s : Held) → FaultsFit o n (filled o idle s)
+idle_faults o n s = record {
+  link = link_fits (o.link s.conn.number) (Rose (o.link_counts s.conn.number).faults (n.link_counts s.conn.number).faults);
+  ports = none_fails o n idle s.ports (record { sends = λ tunnel. refl; receives = λ tunnel. refl });
 }

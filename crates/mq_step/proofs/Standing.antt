@@ -14,7 +14,7 @@ use Rattle.mq_machine.specs.Want.{Want, Nothing, Say, Bind, Ask, Judge, Push, Se
 use Rattle.mq_conn.specs.Conns.{IsConn}
 use Rattle.mq_held.specs.declared.held.Held.{Held as HeldBy}
 use Rattle.mq_held.specs.declared.held.PortSeat.{PortSeat}
-use Rattle.mq_step.specs.Holds.{ArePorts, AreServed, IsBound, HasRoom, IsHeld, IsKnown}
+use Rattle.mq_step.specs.Holds.{ArePorts, AreServed, SeatsApart, IsBound, HasRoom, IsHeld, IsKnown}
 use Rattle.mq_step.proofs.Keeping.{NoOpens, no_open, no_opens_nil}
 
 -- a call that opens nothing
@@ -51,13 +51,18 @@ unbound most table seats c bound none is =
 none_room : {L : Type 0} (h : HeldBy L) → h.bound ≡ None → HasRoom h
 none_room h is = let P : Option ℕ → Type 0 = λ b. MatchOption b ⊤ (λ key. vec_len h.ports < vec_capacity h.ports) in subst P (sym is) tt
 
+-- the same seats are apart
+pub same_apart : (seats after : List PortSeat) → after ≡ seats → SeatsApart seats → SeatsApart after
+same_apart seats after is apart = subst SeatsApart (sym is) apart
+
 -- it stands for a state in which no opening is due
 pub stands : {L Q : Type 0} (most : Q → ℕ) (table : Slab Q) (h : HeldBy L) (t : Held) → IsConn h.conn t.conn → t.conn.number ≡ h.number → ArePorts most table h.ports.items t.ports
-    → AreServed t.conn.ending t.conn.tunnels t.ports → NoOpens t.conn.due → h.bound ≡ None → IsHeld most table h t
-stands most table h t conn number ports served opens bound = record {
+    → SeatsApart h.ports.items → AreServed t.conn.ending t.conn.tunnels t.ports → NoOpens t.conn.due → h.bound ≡ None → IsHeld most table h t
+stands most table h t conn number ports apart served opens bound = record {
   conn = conn;
   number = number;
   ports = ports;
+  apart = apart;
   served = served;
   bound = unbound most table h.ports.items t.conn h.bound opens bound;
   room = none_room h bound;
@@ -75,7 +80,7 @@ pub new_stands : {L Q : Type 0} (most : Q → ℕ) (table : Slab Q) (h : HeldBy 
     → IsHeld most table h (record { conn = new_conn number actor; link = new_link; ports = [] })
 new_stands most table h number actor conn same seats bound =
     let A : List PortSeat → Type 0 = λ xs. ArePorts most table xs [] in
-    stands most table h (record { conn = new_conn number actor; link = new_link; ports = [] }) conn (sym same) (subst A (sym seats) tt) refl no_opens_nil bound
+    stands most table h (record { conn = new_conn number actor; link = new_link; ports = [] }) conn (sym same) (subst A (sym seats) tt) (same_apart [] h.ports.items seats tt) refl no_opens_nil bound
 
 pub new_known : (seen : Seen) (actor number : ℕ) → actor < seen.config.workers → IsKnown seen actor (record { conn = new_conn number actor; link = new_link; ports = [] })
 new_known seen actor number worker = record {

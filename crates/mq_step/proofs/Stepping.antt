@@ -1,13 +1,13 @@
 -- A step of a connection: its want, or else a frame, or else what comes behind.
 use Rattle.std.proofs.Common.{◌≡◌, ℕ, ◌≤◌, true, false, List, [], ◌∷◌, length, All, Option, Some, None, Result, Ok, Err, refl, sym, ap, subst, ◌∙◌, arith}
-use Rattle.std.specs.Prelude.{is_some, option_map}
-use Rattle.std.specs.Option.{unwrap_or}
+use Rattle.std.specs.Prelude.{is_some}
 use Rattle.mq_talk.specs.Mails.{IsTold}
 use Rattle.mq_step.proofs.Counting.{rose_then}
-use Rattle.mq_step.proofs.Sending.{the_one}
+use Rattle.mq_step.proofs.Places.{at_all}
+use Rattle.mq_step.proofs.Sending.{the_mine}
 use Rattle.mq_step.proofs.Framing.{told_link}
 use Rattle.std.proofs.lemmas.List.Elements.{All-cons, All-head, All-tail, All-nil}
-use Rattle.slab.specs.Slab.{Slab, get}
+use Rattle.slab.specs.Slab.{Slab}
 use Rattle.mq_wire.specs.declared.NoMemory.{NoMemory}
 use Rattle.mq_outside.specs.Counts.{LinkCounts, PortCounts, no_link_counts, no_port_counts}
 use Rattle.mq_outside.specs.Links.{LinkPast}
@@ -84,36 +84,18 @@ frame_waits setup o n seen seen_after stands_for s r none gives =
 
 -- ---- the want
 
+pub vain_waits : (ports : List Port) (w : Want) → can_do ports w ≡ false → waits w ≡ true
+vain_waits ports Nothing is = refl
+vain_waits ports Say is = absurd cc
+vain_waits ports (Bind stream goal) is = absurd cc
+vain_waits ports (Ask asked) is = absurd cc
+vain_waits ports (Judge tunnel k flow) is = absurd cc
+vain_waits ports (Push parcel) is = absurd cc
+vain_waits ports (Send tunnel k payload) is = refl
+vain_waits ports (Over why) is = absurd cc
+
 pub want_waits : (o n : Outside) (s : Held) (seen seen_after : Seen) → WantWaits o n seen seen_after s → waits (want_of s.conn) ≡ true
-want_waits o n s seen seen_after w = by_want (want_of s.conn) (w.cannot idle (λ tunnel. (refl, refl))) where
-  by_want : (v : Want) → can_do (ported o idle s).ports v ≡ false → waits v ≡ true
-  by_want Nothing is = refl
-  by_want Say is = absurd cc
-  by_want (Bind stream goal) is = absurd cc
-  by_want (Ask asked) is = absurd cc
-  by_want (Judge tunnel k flow) is = absurd cc
-  by_want (Push parcel) is = absurd cc
-  by_want (Send tunnel k payload) is = refl
-  by_want (Over why) is = absurd cc
-
--- what an outside tells that tells of the only port of a connection
-abbrev pub there : {Q A : Type 0} → (Q → A) → A → Slab Q → List PortSeat → A
-there f none table [] = none
-there f none table (seat ∷ seats) = unwrap_or (option_map f (get table seat.key)) none
-
-abbrev pub sight_of : {Q : Type 0} → (Q → Option PortHolds) → (Q → PortCounts) → Binder → Slab Q → List PortSeat → Outside → Outside
-sight_of holds counts binds table seats o = record o { port = λ tunnel. there holds None table seats; port_counts = λ tunnel. there counts no_port_counts table seats; binds = binds }
-
-pub sight_sees : {Q : Type 0} (holds : Q → Option PortHolds) (counts : Q → PortCounts) (binds : Binder) (table : Slab Q) (seats : List PortSeat) (o : Outside) → length seats ≤ 1
-    → SeesTable holds counts binds table seats (sight_of holds counts binds table seats o)
-sight_sees holds counts binds table [] o few = record { ports = All-nil (SeesPort holds counts table (sight_of holds counts binds table [] o)); binds_are = refl }
-sight_sees {Q} holds counts binds table (seat ∷ []) o few = record {
-  ports = All-cons (SeesPort holds counts table (sight_of holds counts binds table (seat ∷ []) o)) seat []
-      (λ port at. (ap {B = Option PortHolds} (λ (x : Option Q). unwrap_or (option_map holds x) None) at, ap {B = PortCounts} (λ (x : Option Q). unwrap_or (option_map counts x) no_port_counts) at))
-      (All-nil (SeesPort holds counts table (sight_of holds counts binds table (seat ∷ []) o)));
-  binds_are = refl;
-}
-sight_sees holds counts binds table (seat ∷ other ∷ seats) o few = absurd (omega (arith, few))
+want_waits o n s seen seen_after w = vain_waits (ported o idle s).ports (want_of s.conn) (w.cannot idle (λ tunnel. (refl, refl)))
 
 -- ---- what the outside tells once a want was in vain
 
@@ -181,11 +163,10 @@ want_asked most table h o m n s (Judge tunnel k flow) held want asked grow = ask
 want_asked most table h o m n s (Push parcel) held want asked grow = asked
 want_asked most table h o m n s (Over why) held want asked grow = asked
 want_asked most table h o m n s (Send tunnel k payload) held want asked grow =
-    let one = the_one most table h s tunnel k payload held want in
+    let one = the_mine most table h s tunnel k payload held want in
     let G : Port → Type 0 = λ q. PortGrows (m.port_counts q.tunnel) (n.port_counts q.tunnel) in
-    let P : List Port → Type 0 = λ ps. All G ps in
     let I : ℕ → Type 0 = λ i. PortGrows (m.port_counts i) (n.port_counts i) in
-    let here = subst I one.of_port (All-head G one.p [] (subst P one.ports_are grow)) in
+    let here = subst I one.of_port (at_all G s.ports grow one.place one.p one.at_port) in
     rose_then (o.port_counts tunnel).send_waits (m.port_counts tunnel).send_waits (n.port_counts tunnel).send_waits asked here.send_waits
 
 pub quiet_gives : {L Q : Type 0} (most : Q → ℕ) (table : Slab Q) (h : HeldBy L) (setup : Setup) (o m n : Outside) (seen seen_mid seen_after : Seen) (stands_for : Held → Type 0) (s : Held) (r : Result Stepped NoMemory)
@@ -297,7 +278,7 @@ silent = record {
 
 -- with the link of a state that has what is told of it, it is the same connection
 pub linked_held : {L Q : Type 0} (most : Q → ℕ) (table : Slab Q) (h : HeldBy L) (o : Outside) (s : Held) → IsHeld most table h s → IsHeld most table h (linked o s)
-linked_held most table h o s held = record { conn = held.conn; number = held.number; ports = held.ports; served = held.served; bound = held.bound; room = held.room }
+linked_held most table h o s held = record { conn = held.conn; number = held.number; ports = held.ports; apart = held.apart; served = held.served; bound = held.bound; room = held.room }
 
 pub known_then : (seen after : Seen) (actor who : ℕ) (s : Held) → IsKnown seen actor s → after ≡ seen → who ≡ actor → IsKnown after who s
 known_then seen after actor who s known same mine =

@@ -18,8 +18,9 @@ use Rattle.mq_step.specs.Sights.{SeesTable, idle}
 use Rattle.mq_step.specs.Wanted.{ActGives, ported}
 use Rattle.mq_step.specs.Closing.{CloseGives}
 use Rattle.mq_step.proofs.Failing.{fallen, can_then}
-use Rattle.mq_step.proofs.Passing.{at_most_one}
-use Rattle.mq_step.proofs.Stepping.{silent, sight_of, sight_sees, want_waits}
+use Rattle.mq_step.proofs.Standing.{same_apart}
+use Rattle.mq_step.proofs.Seeing.{sight_of, sight_sees}
+use Rattle.mq_step.proofs.Stepping.{silent, want_waits}
 
 -- it stands for each state whose want waits and for which it stood
 abbrev pub Still : {L Q : Type 0} → (Q → ℕ) → Slab Q → Slab Q → HeldBy L → HeldBy L → Type 0
@@ -32,12 +33,12 @@ still_from most table after old mid new (Ok stepped) moves still = λ is s held 
 still_from most table after old mid new (Err refused) moves still = tt
 
 -- the close of a tunnel is never quiet
-pub closes_still : (seen seen_after : Seen) (stand : Held → Type 0) (s : Held) (r : Result Stepped NoMemory) (X : Type 0) → CloseGives seen seen_after stand s r
+pub closes_still : (seen seen_after : Seen) (stand : Held → Type 0) (tunnel : ℕ) (s : Held) (r : Result Stepped NoMemory) (X : Type 0) → CloseGives seen seen_after stand tunnel s r
     → IfOk r (λ stepped. stepped ≡ Quiet → X)
-closes_still seen seen_after stand s (Ok (Did said)) X gives = λ is. absurd cc
-closes_still seen seen_after stand s (Ok Quiet) X gives = absurd gives
-closes_still seen seen_after stand s (Ok (Ended said)) X gives = absurd gives
-closes_still seen seen_after stand s (Err refused) X gives = absurd gives
+closes_still seen seen_after stand tunnel s (Ok (Did said)) X gives = λ is. absurd cc
+closes_still seen seen_after stand tunnel s (Ok Quiet) X gives = absurd gives
+closes_still seen seen_after stand tunnel s (Ok (Ended said)) X gives = absurd gives
+closes_still seen seen_after stand tunnel s (Err refused) X gives = absurd gives
 
 -- what a want does whatever the outside tells
 abbrev pub Acts : {L Q : Type 0} → (Q → ℕ) → (Q → Option PortHolds) → (Q → PortCounts) → (binds binds_after : Binder) → (table after : Slab Q)
@@ -54,11 +55,9 @@ module _ {L Q : Type 0} (most : Q → ℕ) (holds : Q → Option PortHolds) (cou
       → ActGives (sight_of holds counts binds table old.ports.items silent) (sight_of holds counts binds_after after new.ports.items silent) seen
       seen_after (IsHeld most after new) s r
   seen_acts r held stays acts =
-      let few = at_most_one most table old s held in
-      let N : List PortSeat → Type 0 = λ xs. length xs ≤ 1 in
       acts (sight_of holds counts binds table old.ports.items silent) (sight_of holds counts binds_after after new.ports.items silent)
-      (sight_sees holds counts binds table old.ports.items silent few)
-      (sight_sees holds counts binds_after after new.ports.items silent (subst N (sym stays) few))
+      (sight_sees holds counts binds table old.ports.items silent held.apart)
+      (sight_sees holds counts binds_after after new.ports.items silent (same_apart old.ports.items new.ports.items stays held.apart))
 
   -- a want in vain waits, and changes nothing
   pub quiet_stands : IsHeld most table old s → new.ports.items ≡ old.ports.items

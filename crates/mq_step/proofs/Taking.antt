@@ -20,7 +20,7 @@ use Rattle.mq_conn.specs.declared.conn.Conn.{Conn as Core}
 use Rattle.mq_conn.specs.Conns.{IsConn, IsUdp}
 use Rattle.mq_conn.specs.Frames.{waits}
 use Rattle.mq_step.proofs.Keeping.{Kept, no_open, no_opens_cons, no_opens_nil, nothing_due, finished_keeps}
-use Rattle.mq_step.proofs.Alone.{IsUdpWant, udp_want, none_opens, open_alone, go_on_opens}
+use Rattle.mq_step.proofs.Cores.{IsUdpWant, udp_want, none_opens, open_alive, go_on_opens}
 
 -- ---- what a read asks for
 
@@ -135,7 +135,7 @@ bound_opens x (due.Fault code ∷ rest) conn id actor g bounds udp w = cc
 -- of a connection of HTTP/1.1, whose openings are for UDP
 wants_bound : (c : Core) (t : Conn) → IsConn c t → Bounds t.due → (conn id actor : ℕ) (g : Goal) → want_of t ≡ Ask (call.Open conn id actor g) → ⊥
 wants_bound c t is bounds conn id actor g w =
-    let alive : t.ending ≡ None = (open_alone c t conn id actor g is w).1 in
+    let alive : t.ending ≡ None = (open_alive c t conn id actor g is w).0 in
     let udp : IsUdp g = subst IsUdpWant w (udp_want c t is) in
     bound_opens t t.due conn id actor g bounds udp (ap (λ (e : Option End). want_by t e) (sym alive) ∙ w)
 

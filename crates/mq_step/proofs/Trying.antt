@@ -68,12 +68,12 @@ module _ (o n : Outside) (lc : ℕ → LinkCounts) (pc : ℕ → PortCounts) whe
       All-cons (PortFits o n) (filled_port o f p) rest (λ none is. failed_back p.tunnel here.faults (first none is))
       (ports_back f ports (All-tail (PortBetween o pc) p ports between) (All-tail (PortFits (mid o lc pc) n) (filled_port o f p) rest fit))
 
-  faults_back : (f : Found) (s : Held) → Between o lc pc s → FaultsFit (mid o lc pc) n (filled o f s) → FaultsFit o n (filled o f s)
+  pub faults_back : (f : Found) (s : Held) → Between o lc pc s → FaultsFit (mid o lc pc) n (filled o f s) → FaultsFit o n (filled o f s)
   faults_back f s between fit =
       let P : ℕ → Type 0 = λ c. Rose c (n.link_counts s.conn.number).faults in
       record { link = λ none is. subst P between.link_faults (fit.link none is); ports = ports_back f s.ports between.ports fit.ports }
 
-  binds_back : (a : Answer) → BindFits (mid o lc pc) n a → BindFits o n a
+  pub binds_back : (a : Answer) → BindFits (mid o lc pc) n a → BindFits o n a
   binds_back Said fit = fit
   binds_back (Bound true) fit = fit
   binds_back (Bound false) fit = fit

@@ -134,6 +134,11 @@ pub record ReadsWait (found : Found) : Type 0 where
   pub pieces : found.link.pieces ≡ []
   pub not_ended : found.link.is_ended ≡ false
 
+-- and no port but that of this tunnel gives a datagram, or fails a receive
+pub record ReceivesWait (tunnel : ℕ) (found : Found) : Type 0 where
+  pub reads : ReadsWait found
+  pub others : (other : ℕ) → other ≢ tunnel → ((found.port other).receive_fails ≡ false) × ((found.port other).arrived ≡ [])
+
 -- whatever was found
 abbrev pub Anything : InVain
 Anything found = ⊤

@@ -37,11 +37,19 @@ tunnels_of ports = map (λ (p : Port). p.tunnel) ports
 abbrev pub numbers_of : List Tunnel → List ℕ
 numbers_of tunnels = map (λ (t : Tunnel). t.id) tunnels
 
--- Each tunnel has its port, and each port its tunnel. On a connection of HTTP/1.1 that is ending a tunnel may stand for whose
--- opening there was no memory: it has no port.
+-- Each tunnel has its port, and each port its tunnel. On a connection that is ending, the last tunnel may be one for whose opening
+-- there was no memory: it has no port.
 abbrev pub AreServed : Option End → List Tunnel → List Port → Type 0
 AreServed None tunnels ports = tunnels_of ports ≡ numbers_of tunnels
-AreServed (Some why) tunnels ports = (ports ≡ []) ⊎ (tunnels_of ports ≡ numbers_of tunnels)
+AreServed (Some why) tunnels ports = (tunnels_of ports ≡ numbers_of tunnels) ⊎ ((last : ℕ) × (numbers_of tunnels ≡ tunnels_of ports ++ last ∷ []))
+
+-- no two seats have their tunnel or their key in common
+abbrev pub IsApartFrom : PortSeat → PortSeat → Type 0
+IsApartFrom a b = (b.tunnel ≢ a.tunnel) × (b.key ≢ a.key)
+
+abbrev pub SeatsApart : List PortSeat → Type 0
+SeatsApart [] = ⊤
+SeatsApart (seat ∷ seats) = All (IsApartFrom seat) seats × SeatsApart seats
 
 -- ---- the port of a tunnel that is to open
 
@@ -78,6 +86,7 @@ pub record IsHeld {L Q : Type 0} (most : Q → ℕ) (table : Slab Q) (h : HeldBy
   pub conn : IsConn h.conn s.conn
   pub number : s.conn.number ≡ h.number
   pub ports : ArePorts most table h.ports.items s.ports
+  pub apart : SeatsApart h.ports.items
   pub served : AreServed s.conn.ending s.conn.tunnels s.ports
   pub bound : IsBound most table h.ports.items (want_of s.conn) h.bound
   pub room : HasRoom h

@@ -5,3 +5,4 @@ pub mod Whole
 pub mod Gives
 pub mod Rooms
 pub mod Closing
+pub mod Vain

@@ -1,5 +1,5 @@
 //! A connection asks the book, and its ports follow what that replies.
-ghost use Rattle.std.specs.Prelude.{◌≡◌, ◌≢◌, ◌≤◌, ℕ, MatchOption, None, IfOk, length};
+ghost use Rattle.std.specs.Prelude.{◌≡◌, ◌≢◌, ℕ, MatchOption, None, IfOk};
 ghost use Rattle.slab.specs.Slab.{Updates};
 ghost use Rattle.mq_talk.specs.declared.book.Call.TheVariants.{Close};
 ghost use Rattle.mq_talk.specs.declared.note.Note.{Note as Said};
@@ -7,10 +7,10 @@ ghost use Rattle.mq_machine.specs.Acting.{Outside, binder};
 ghost use Rattle.mq_machine.specs.State as machine;
 ghost use Rattle.mq_machine.specs.Want.{want_of, Ask};
 ghost use Rattle.mq_ports.specs.Tables.{IsBalanced};
-ghost use Rattle.mq_step.specs.Holds.{IsHeld, IsKnown, KeepsOthers, HasRoom, Seats};
+ghost use Rattle.mq_step.specs.Holds.{IsHeld, IsKnown, KeepsOthers, HasRoom, Seats, SeatsApart};
 ghost use Rattle.mq_step.specs.Sights.{SeesTable};
 ghost use Rattle.mq_step.specs.Wanted.{ActGives};
-ghost use Rattle.mq_step.specs.Closing.{CloseGives, HandsBack};
+ghost use Rattle.mq_step.specs.Closing.{CloseGives, HandsBack, Retires};
 
 use crate::stepped::Stepped;
 use mq_held::Held;
@@ -49,7 +49,7 @@ fn open<L, P: Ports, O: Office>(
         → ActGives o n (O.seen office.old) (O.seen office.new) (IsHeld P.P.most table.new.table held.new) s result }
     ensures rest { held.new ≡ record held.old { conn = held.new.conn; ports = held.new.ports; bound = held.new.bound } }
     ensures stays { IfOk result (λ stepped. stepped ≡ Stepped.Quiet → held.new.ports.items ≡ held.old.ports.items) }
-    ensures few { length held.new.ports.items ≤ 1 }
+    ensures apart { SeatsApart held.new.ports.items }
     ensures ends { IfOk result (λ stepped. (said : Said) → stepped ≡ Stepped.Ended said → held.new.ports.items ≡ held.old.ports.items) }
     ensures calm { IfOk result (λ stepped. stepped ≡ Stepped.Quiet → (O.seen office.new ≡ O.seen office.old) × (binder P.holds P.faults table.new.ports ≡ binder P.holds P.faults table.old.ports)) }
     ensures actor { (O.seen office.new).actor ≡ (O.seen office.old).actor }
@@ -81,11 +81,12 @@ fn close<L, P: Ports, O: Office>(
         → (s : machine.Held) → IsHeld P.P.most table.old.table held.old s → want_of s.conn ≡ Ask (Close tunnel)
         → ActGives o n (O.seen office.old) (O.seen office.new) (IsHeld P.P.most table.new.table held.new) s result }
     ensures closes { (s : machine.Held) → IsHeld P.P.most table.old.table held.old s → want_of s.conn ≡ Ask (Close tunnel)
-        → CloseGives (O.seen office.old) (O.seen office.new) (IsHeld P.P.most table.new.table held.new) s result
-        × HandsBack P.P.counts table.old.table held.old.ports.items (binder P.holds P.faults table.old.ports) (binder P.holds P.faults table.new.ports) }
+        → CloseGives (O.seen office.old) (O.seen office.new) (IsHeld P.P.most table.new.table held.new) tunnel s result
+        × HandsBack P.P.counts table.old.table held.old.ports.items tunnel (binder P.holds P.faults table.old.ports) (binder P.holds P.faults table.new.ports)
+        × Retires table.old.table table.new.table held.old.ports.items held.new.ports.items tunnel }
     ensures rest { held.new ≡ record held.old { conn = held.new.conn; ports = held.new.ports } }
     ensures stays { IfOk result (λ stepped. stepped ≡ Stepped.Quiet → held.new.ports.items ≡ held.old.ports.items) }
-    ensures few { length held.new.ports.items ≤ 1 }
+    ensures apart { SeatsApart held.new.ports.items }
     ensures ends { IfOk result (λ stepped. (said : Said) → stepped ≡ Stepped.Ended said → held.new.ports.items ≡ held.old.ports.items) }
     ensures calm { IfOk result (λ stepped. stepped ≡ Stepped.Quiet → (O.seen office.new ≡ O.seen office.old) × (binder P.holds P.faults table.new.ports ≡ binder P.holds P.faults table.old.ports)) }
     ensures actor { (O.seen office.new).actor ≡ (O.seen office.old).actor }
@@ -110,11 +111,12 @@ pub fn ask<L, P: Ports, O: Office>(
         → (s : machine.Held) → IsHeld P.P.most table.old.table held.old s → want_of s.conn ≡ Ask call
         → ActGives o n (O.seen office.old) (O.seen office.new) (IsHeld P.P.most table.new.table held.new) s result }
     ensures closes { (s : machine.Held) → IsHeld P.P.most table.old.table held.old s → want_of s.conn ≡ Ask call → (tunnel : ℕ) → call ≡ Close tunnel
-        → CloseGives (O.seen office.old) (O.seen office.new) (IsHeld P.P.most table.new.table held.new) s result
-        × HandsBack P.P.counts table.old.table held.old.ports.items (binder P.holds P.faults table.old.ports) (binder P.holds P.faults table.new.ports) }
+        → CloseGives (O.seen office.old) (O.seen office.new) (IsHeld P.P.most table.new.table held.new) tunnel s result
+        × HandsBack P.P.counts table.old.table held.old.ports.items tunnel (binder P.holds P.faults table.old.ports) (binder P.holds P.faults table.new.ports)
+        × Retires table.old.table table.new.table held.old.ports.items held.new.ports.items tunnel }
     ensures rest { held.new ≡ record held.old { conn = held.new.conn; ports = held.new.ports; bound = held.new.bound } }
     ensures stays { IfOk result (λ stepped. stepped ≡ Stepped.Quiet → held.new.ports.items ≡ held.old.ports.items) }
-    ensures few { length held.new.ports.items ≤ 1 }
+    ensures apart { SeatsApart held.new.ports.items }
     ensures ends { IfOk result (λ stepped. (said : Said) → stepped ≡ Stepped.Ended said → held.new.ports.items ≡ held.old.ports.items) }
     ensures calm { IfOk result (λ stepped. stepped ≡ Stepped.Quiet → (O.seen office.new ≡ O.seen office.old) × (binder P.holds P.faults table.new.ports ≡ binder P.holds P.faults table.old.ports)) }
     ensures actor { (O.seen office.new).actor ≡ (O.seen office.old).actor }

@@ -1,5 +1,5 @@
 //! A connection receives on the ports of its tunnels.
-ghost use Rattle.std.specs.Prelude.{◌≡◌, ◌≤◌, ◌∷◌, ℕ, true, slice_get, [], Some, IfOk, length};
+ghost use Rattle.std.specs.Prelude.{◌≡◌, ◌∷◌, ℕ, true, slice_get, [], Some, IfOk};
 ghost use Rattle.mq_machine.specs.declared.setup.Setup.{Setup};
 ghost use Rattle.mq_talk.specs.declared.note.Note.{Note as Said};
 ghost use Rattle.mq_machine.specs.Acting.{Outside, binder};
@@ -10,9 +10,10 @@ ghost use Rattle.mq_conn.specs.Frames.{waits};
 ghost use Rattle.mq_ports.specs.Tables.{IsBalanced};
 ghost use Rattle.mq_held.specs.declared.held.PortSeat.{PortSeat};
 ghost use Rattle.mq_step.specs.Rooms.{HasRooms};
-ghost use Rattle.mq_step.specs.Holds.{IsHeld, IsKnown, KeepsOthers};
+ghost use Rattle.mq_step.specs.Holds.{IsHeld, IsKnown, KeepsOthers, SeatsApart};
 ghost use Rattle.mq_step.specs.Whole.{Sees};
-ghost use Rattle.mq_step.specs.Gives.{Gives, ReadsWait, receives_of, receive_alone};
+ghost use Rattle.mq_step.specs.Gives.{Gives, ReadsWait, ReceivesWait, receives_of, receive_alone};
+ghost use Rattle.mq_step.specs.Vain.{AskedInVain};
 
 use crate::rooms::Rooms;
 use crate::stepped::Stepped;
@@ -41,12 +42,14 @@ where
         → Sees L.holds L.counts P.P.holds P.P.counts (binder P.holds P.faults table.new.ports) table.new.table held.new n
         → (s : machine.Held) → IsHeld P.P.most table.old.table held.old s → waits (want_of s.conn) ≡ true
         → (setup : Setup) (seat : PortSeat) → slice_get held.old.ports.items place ≡ Some seat
-        → Gives setup (receive_alone seat.tunnel) ReadsWait o n (O.seen office.old) (O.seen office.new) (IsHeld P.P.most table.new.table held.new) s result }
+        → Gives setup (receive_alone seat.tunnel) (ReceivesWait seat.tunnel) o n (O.seen office.old) (O.seen office.new) (IsHeld P.P.most table.new.table held.new) s result }
+    ensures passed { IfOk result (λ stepped. stepped ≡ Stepped.Quiet → (seat : PortSeat) → slice_get held.old.ports.items place ≡ Some seat
+        → AskedInVain P.P.holds P.P.past P.P.counts table.old.table table.new.table seat) }
     ensures rest { held.new ≡ record held.old { conn = held.new.conn; ports = held.new.ports; bound = held.new.bound } }
     ensures rooms { HasRooms rooms.new }
     ensures stays { IfOk result (λ stepped. stepped ≡ Stepped.Quiet → held.new.ports.items ≡ held.old.ports.items) }
     ensures still { IfOk result (λ stepped. stepped ≡ Stepped.Quiet → (s : machine.Held) → IsHeld P.P.most table.old.table held.old s → waits (want_of s.conn) ≡ true → IsHeld P.P.most table.new.table held.new s) }
-    ensures few { length held.new.ports.items ≤ 1 }
+    ensures apart { SeatsApart held.new.ports.items }
     ensures ends { IfOk result (λ stepped. (said : Said) → stepped ≡ Stepped.Ended said → held.new.ports.items ≡ held.old.ports.items) }
     ensures calm { IfOk result (λ stepped. stepped ≡ Stepped.Quiet → (O.seen office.new ≡ O.seen office.old) × (binder P.holds P.faults table.new.ports ≡ binder P.holds P.faults table.old.ports)) }
     ensures actor { (O.seen office.new).actor ≡ (O.seen office.old).actor }
@@ -86,7 +89,7 @@ where
     ensures rooms { HasRooms rooms.new }
     ensures stays { IfOk result (λ stepped. stepped ≡ Stepped.Quiet → held.new.ports.items ≡ held.old.ports.items) }
     ensures still { IfOk result (λ stepped. stepped ≡ Stepped.Quiet → (s : machine.Held) → IsHeld P.P.most table.old.table held.old s → waits (want_of s.conn) ≡ true → IsHeld P.P.most table.new.table held.new s) }
-    ensures few { length held.new.ports.items ≤ 1 }
+    ensures apart { SeatsApart held.new.ports.items }
     ensures ends { IfOk result (λ stepped. (said : Said) → stepped ≡ Stepped.Ended said → held.new.ports.items ≡ held.old.ports.items) }
     ensures calm { IfOk result (λ stepped. stepped ≡ Stepped.Quiet → (O.seen office.new ≡ O.seen office.old) × (binder P.holds P.faults table.new.ports ≡ binder P.holds P.faults table.old.ports)) }
     ensures actor { (O.seen office.new).actor ≡ (O.seen office.old).actor }

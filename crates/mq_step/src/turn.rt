@@ -1,5 +1,5 @@
 //! One step of a connection.
-ghost use Rattle.std.specs.Prelude.{◌≡◌, ◌≤◌, true, IfOk, length};
+ghost use Rattle.std.specs.Prelude.{◌≡◌, true, IfOk};
 ghost use Rattle.mq_addr.specs.declared.kind.Kind.TheVariants as kind;
 ghost use Rattle.mq_talk.specs.declared.note.Note.{Note as Said};
 ghost use Rattle.mq_machine.specs.Acting.{Outside, binder};
@@ -9,7 +9,7 @@ ghost use Rattle.mq_machine.specs.Want.{want_of};
 ghost use Rattle.mq_conn.specs.Frames.{waits};
 ghost use Rattle.mq_ports.specs.Tables.{IsBalanced};
 ghost use Rattle.mq_step.specs.Rooms.{HasRooms};
-ghost use Rattle.mq_step.specs.Holds.{IsHeld, IsKnown, KeepsOthers};
+ghost use Rattle.mq_step.specs.Holds.{IsHeld, IsKnown, KeepsOthers, SeatsApart};
 ghost use Rattle.mq_step.specs.Whole.{Sees};
 ghost use Rattle.mq_step.specs.Gives.{Gives, Anything, WritesWait, from_read, from_write, from_frame};
 ghost use Rattle.mq_step.specs.Wanted.{SendsWait};
@@ -48,7 +48,7 @@ where
     ensures rooms { HasRooms rooms.new }
     ensures stays { IfOk result (λ stepped. stepped ≡ Stepped.Quiet → held.new.ports.items ≡ held.old.ports.items) }
     ensures still { IfOk result (λ stepped. stepped ≡ Stepped.Quiet → (s : machine.Held) → IsHeld P.P.most table.old.table held.old s → waits (want_of s.conn) ≡ true → IsHeld P.P.most table.new.table held.new s) }
-    ensures few { length held.new.ports.items ≤ 1 }
+    ensures apart { SeatsApart held.new.ports.items }
     ensures ends { IfOk result (λ stepped. (said : Said) → stepped ≡ Stepped.Ended said → held.new.ports.items ≡ held.old.ports.items) }
     ensures calm { IfOk result (λ stepped. stepped ≡ Stepped.Quiet → (O.seen office.new ≡ O.seen office.old) × (binder P.holds P.faults table.new.ports ≡ binder P.holds P.faults table.old.ports)) }
     ensures actor { (O.seen office.new).actor ≡ (O.seen office.old).actor }
@@ -84,7 +84,7 @@ where
     ensures rooms { HasRooms rooms.new }
     ensures stays { IfOk result (λ stepped. stepped ≡ Stepped.Quiet → held.new.ports.items ≡ held.old.ports.items) }
     ensures still { IfOk result (λ stepped. stepped ≡ Stepped.Quiet → (s : machine.Held) → IsHeld P.P.most table.old.table held.old s → waits (want_of s.conn) ≡ true → IsHeld P.P.most table.new.table held.new s) }
-    ensures few { length held.new.ports.items ≤ 1 }
+    ensures apart { SeatsApart held.new.ports.items }
     ensures ends { IfOk result (λ stepped. (said : Said) → stepped ≡ Stepped.Ended said → held.new.ports.items ≡ held.old.ports.items) }
     ensures calm { IfOk result (λ stepped. stepped ≡ Stepped.Quiet → (O.seen office.new ≡ O.seen office.old) × (binder P.holds P.faults table.new.ports ≡ binder P.holds P.faults table.old.ports)) }
     ensures actor { (O.seen office.new).actor ≡ (O.seen office.old).actor }
@@ -120,7 +120,7 @@ where
     ensures rooms { HasRooms rooms.new }
     ensures stays { IfOk result (λ stepped. stepped ≡ Stepped.Quiet → held.new.ports.items ≡ held.old.ports.items) }
     ensures still { IfOk result (λ stepped. stepped ≡ Stepped.Quiet → (s : machine.Held) → IsHeld P.P.most table.old.table held.old s → waits (want_of s.conn) ≡ true → IsHeld P.P.most table.new.table held.new s) }
-    ensures few { length held.new.ports.items ≤ 1 }
+    ensures apart { SeatsApart held.new.ports.items }
     ensures ends { IfOk result (λ stepped. (said : Said) → stepped ≡ Stepped.Ended said → held.new.ports.items ≡ held.old.ports.items) }
     ensures calm { IfOk result (λ stepped. stepped ≡ Stepped.Quiet → (O.seen office.new ≡ O.seen office.old) × (binder P.holds P.faults table.new.ports ≡ binder P.holds P.faults table.old.ports)) }
     ensures actor { (O.seen office.new).actor ≡ (O.seen office.old).actor }
@@ -157,7 +157,7 @@ where
     ensures rooms { HasRooms rooms.new }
     ensures stays { IfOk result (λ stepped. stepped ≡ Stepped.Quiet → held.new.ports.items ≡ held.old.ports.items) }
     ensures still { IfOk result (λ stepped. stepped ≡ Stepped.Quiet → (s : machine.Held) → IsHeld P.P.most table.old.table held.old s → IsHeld P.P.most table.new.table held.new s) }
-    ensures few { length held.new.ports.items ≤ 1 }
+    ensures apart { SeatsApart held.new.ports.items }
     ensures ends { IfOk result (λ stepped. (said : Said) → stepped ≡ Stepped.Ended said → held.new.ports.items ≡ held.old.ports.items) }
     ensures calm { IfOk result (λ stepped. stepped ≡ Stepped.Quiet → (O.seen office.new ≡ O.seen office.old) × (binder P.holds P.faults table.new.ports ≡ binder P.holds P.faults table.old.ports)) }
     ensures actor { (O.seen office.new).actor ≡ (O.seen office.old).actor }

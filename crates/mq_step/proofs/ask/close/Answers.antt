@@ -7,12 +7,14 @@ use Rattle.mq_conn.specs.declared.conn.Conn.{Conn as Core}
 use Rattle.mq_conn.specs.Conns.{IsConn}
 use Rattle.mq_held.specs.declared.held.PortSeat.{PortSeat}
 use Rattle.mq_held.specs.Seats.{IsSeatOf, HasNoSeat}
+use Rattle.mq_step.specs.Sights.{idle}
+use Rattle.mq_step.specs.Closing.{Retires}
 use Rattle.mq_step.proofs.Standing.{bound_none}
-use Rattle.mq_step.proofs.Alone.{close_alone}
-use Rattle.mq_step.proofs.Asking.{Closes, may_call, same_actor, port_at_alone, closed_seats, close_done, close_stands, closed_left}
+use Rattle.mq_step.proofs.Cores.{same_actor}
+use Rattle.mq_step.proofs.Retiring.{retired_apart, retired_stands, retired_told}
+use Rattle.mq_step.proofs.Asking.{Closes, may_call, close_done, closed_left}
 use Rattle.mq_step.proofs.Others.{retire_others}
-use Rattle.mq_step.proofs.Closing.{closed_is, only_seat_of, at_some}
-use Rattle.mq_step.proofs.Few.{few_stay, few_retired}
+use Rattle.mq_step.proofs.Closing.{closed_is, closed_does, at_some}
 use Rattle.mq_step.proofs.ask.close.Goals as goal
 
 pub ask-requires : goal.ask-requires
@@ -25,6 +27,9 @@ returns-clause-gives g c = λ o n so sn s held want boxes orders.
     let k = c.requires.known in
     let old = c.args.held.now in
     let new = c.retire.new.self in
+    let most = g.P.P.Port.most in
+    let table = c.args.table.now.table in
+    let after = c.retire.new.table.table in
     let seen = g.O.Office.seen c.args.office.now in
     let seen_after = g.O.Office.seen c.ask.new.office in
     let actor = (g.O.Office.seen c.args.office.now).actor in
@@ -32,23 +37,21 @@ returns-clause-gives g c = λ o n so sn s held want boxes orders.
     let closes : Closes actor seen seen_after s c.args.tunnel c.in_ok-heard.heard.note e.0 = record { reply_is = e.1.said; replied = e.1.replied; does = e.1.does } in
     let mine : s.conn.actor ≡ actor = same_actor old.conn s.conn k.0.conn held.conn k.1.conn ∙ k.2.actor_is in
     let items : c.ask.new.self.ports.items ≡ old.ports.items = ap (λ h. h.ports.items) c.ask.ensures.rest in
-    let P : List PortSeat → Type 0 = λ xs. (place : ℕ) (seat : PortSeat) → IsSeatOf xs c.args.tunnel place seat → new.ports.items ≡ remove xs place in
-    let gone = subst P items (λ place seat is. (c.retire.ensures.seat place seat is).0) in
-    let N : List PortSeat → Type 0 = λ xs. HasNoSeat xs c.args.tunnel → new.ports.items ≡ xs in
-    let none = subst N items (λ without. ap (λ h. h.ports.items) (c.retire.ensures.none without).0) in
-    let alone = close_alone old.conn s.conn c.args.tunnel held.conn want in
-    let port = port_at_alone g.P.P.Port.most c.args.table.now.table old.conn old.ports.items s c.args.tunnel held.conn want held.ports held.served in
-    let seats = closed_seats g.P.P.Port.most c.args.table.now.table old.ports.items new.ports.items s.ports alone.0.id c.args.tunnel alone.2 port gone none in
+    let R : List PortSeat → Type 0 = λ xs. Retires c.args.table.now.table c.retire.new.table.table xs c.retire.new.self.ports.items c.args.tunnel in
+    let retires = subst R items (record {
+      gone = λ place seat is. let x = c.retire.ensures.seat place seat is in (x.0, x.1.others);
+      none = λ without. let x = c.retire.ensures.none without in (ap (λ h. h.ports.items) x.0, ap (λ t. t.table) x.1);
+    }) in
     let bound : new.bound ≡ None =
-    ap (λ h. h.bound) c.retire.ensures.rest ∙ ap (λ h. h.bound) c.ask.ensures.rest ∙ bound_none g.P.P.Port.most c.args.table.now.table old.ports.items (want_of s.conn) (Ask (Close c.args.tunnel)) old.bound held.bound want in
-    let number : s.conn.number ≡ new.number = held.number ∙ sym (ap (λ h. h.number) c.retire.ensures.rest ∙ ap (λ h. h.number) c.ask.ensures.rest) in
+    ap (λ h. h.bound) c.retire.ensures.rest ∙ ap (λ h. h.bound) c.ask.ensures.rest ∙ bound_none most table old.ports.items (want_of s.conn) (Ask (Close c.args.tunnel)) old.bound held.bound want in
+    let number : new.number ≡ old.number = ap (λ h. h.number) c.retire.ensures.rest ∙ ap (λ h. h.number) c.ask.ensures.rest in
     let C : Core → Type 0 = λ x. IsConn x e.0 in
     let conn = subst C (sym (ap (λ h. h.conn) c.retire.ensures.rest)) e.2 in (
-      closed_left o s e.0,
-      close_done g.P.P.Port.most c.args.table.now.table old.conn old.ports.items o n actor seen seen_after boxes orders s c.args.tunnel c.in_ok-heard.heard.note e.0 held.conn held.ports held.served mine want closes
+      closed_left o s c.args.tunnel e.0,
+      close_done o n actor seen seen_after boxes orders s c.args.tunnel c.in_ok-heard.heard.note e.0 mine want closes
           (ap (λ (b : Binder). b.holds) sn.binds_are ∙ c.retire.ensures.holds ∙ sym (ap (λ (b : Binder). b.holds) so.binds_are)),
-      close_stands g.P.P.Port.most c.retire.new.table.table old.conn new o s actor seen seen_after c.args.tunnel c.in_ok-heard.heard.note e.0 held.conn want number seats bound closes conn,
-      tt,
+      retired_stands most table after old new s c.args.tunnel c.in_ok-heard.heard.note e.0 s.link o idle held want number retires bound (closed_does actor seen seen_after s c.args.tunnel c.in_ok-heard.heard.note e.0 closes) conn,
+      retired_told table after old.ports.items new.ports.items c.args.tunnel most g.P.P.Port.holds g.P.P.Port.counts o n idle s.ports retires held.apart held.ports so.ports sn.ports,
     )
 
 pub returns-clause-others : goal.returns-clause-others
@@ -70,6 +73,7 @@ returns-clause-closes g c = λ s held want.
     let new = c.retire.new.self in
     let most = g.P.P.Port.most in
     let table = c.args.table.now.table in
+    let after = c.retire.new.table.table in
     let seen = g.O.Office.seen c.args.office.now in
     let seen_after = g.O.Office.seen c.ask.new.office in
     let actor = (g.O.Office.seen c.args.office.now).actor in
@@ -77,33 +81,36 @@ returns-clause-closes g c = λ s held want.
     let closes : Closes actor seen seen_after s c.args.tunnel c.in_ok-heard.heard.note e.0 = record { reply_is = e.1.said; replied = e.1.replied; does = e.1.does } in
     let mine : s.conn.actor ≡ actor = same_actor old.conn s.conn k.0.conn held.conn k.1.conn ∙ k.2.actor_is in
     let items : c.ask.new.self.ports.items ≡ old.ports.items = ap (λ h. h.ports.items) c.ask.ensures.rest in
-    let P : List PortSeat → Type 0 = λ xs. (place : ℕ) (seat : PortSeat) → IsSeatOf xs c.args.tunnel place seat → new.ports.items ≡ remove xs place in
-    let gone = subst P items (λ place seat is. (c.retire.ensures.seat place seat is).0) in
-    let N : List PortSeat → Type 0 = λ xs. HasNoSeat xs c.args.tunnel → new.ports.items ≡ xs in
-    let none = subst N items (λ without. ap (λ h. h.ports.items) (c.retire.ensures.none without).0) in
-    let alone = close_alone old.conn s.conn c.args.tunnel held.conn want in
-    let port = port_at_alone most table old.conn old.ports.items s c.args.tunnel held.conn want held.ports held.served in
-    let seats = closed_seats most table old.ports.items new.ports.items s.ports alone.0.id c.args.tunnel alone.2 port gone none in
+    let R : List PortSeat → Type 0 = λ xs. Retires c.args.table.now.table c.retire.new.table.table xs c.retire.new.self.ports.items c.args.tunnel in
+    let retires = subst R items (record {
+      gone = λ place seat is. let x = c.retire.ensures.seat place seat is in (x.0, x.1.others);
+      none = λ without. let x = c.retire.ensures.none without in (ap (λ h. h.ports.items) x.0, ap (λ t. t.table) x.1);
+    }) in
     let bound : new.bound ≡ None =
     ap (λ h. h.bound) c.retire.ensures.rest ∙ ap (λ h. h.bound) c.ask.ensures.rest ∙ bound_none most table old.ports.items (want_of s.conn) (Ask (Close c.args.tunnel)) old.bound held.bound want in
-    let number : s.conn.number ≡ new.number = held.number ∙ sym (ap (λ h. h.number) c.retire.ensures.rest ∙ ap (λ h. h.number) c.ask.ensures.rest) in
+    let number : new.number ≡ old.number = ap (λ h. h.number) c.retire.ensures.rest ∙ ap (λ h. h.number) c.ask.ensures.rest in
     let C : Core → Type 0 = λ x. IsConn x e.0 in
     let conn = subst C (sym (ap (λ h. h.conn) c.retire.ensures.rest)) e.2 in
-    let S : List PortSeat → Type 0 = λ xs. (seat : PortSeat) → IsSeatOf xs c.args.tunnel 0 seat → MatchOption (get table seat.key)
+    let S : List PortSeat → Type 0 = λ xs. (place : ℕ) (seat : PortSeat) → IsSeatOf xs c.args.tunnel place seat → MatchOption (get table seat.key)
     (binder g.P.Ports.holds g.P.Ports.faults c.retire.new.table.ports ≡ binder g.P.Ports.holds g.P.Ports.faults c.args.table.now.ports)
     (λ port. binder g.P.Ports.holds g.P.Ports.faults c.retire.new.table.ports ≡ handed_back (g.P.P.Port.counts port).faults (binder g.P.Ports.holds g.P.Ports.faults c.args.table.now.ports)) in
-    let handed = subst S items (λ seat is. (c.retire.ensures.seat 0 seat is).2) in (
-      λ boxes orders. closed_is most c.retire.new.table.table old.conn new actor seen seen_after boxes orders s c.args.tunnel c.in_ok-heard.heard.note e.0 held.conn mine want number seats bound closes conn,
-      λ seat port_is are at. at_some (get table seat.key) port_is
+    let handed = subst S items (λ place seat is. (c.retire.ensures.seat place seat is).2) in (
+      λ boxes orders. closed_is most table after old new actor seen seen_after boxes orders s c.args.tunnel c.in_ok-heard.heard.note e.0 held mine want number retires bound closes conn,
+      λ place seat port_is is at. at_some (get table seat.key) port_is
           (binder g.P.Ports.holds g.P.Ports.faults c.retire.new.table.ports ≡ binder g.P.Ports.holds g.P.Ports.faults c.args.table.now.ports)
           (λ port. binder g.P.Ports.holds g.P.Ports.faults c.retire.new.table.ports ≡ handed_back (g.P.P.Port.counts port).faults (binder g.P.Ports.holds g.P.Ports.faults c.args.table.now.ports)) at
-          (handed seat (only_seat_of most table old.ports.items s.ports alone.0.id c.args.tunnel seat port alone.2 are)),
+          (handed place seat is),
+      retires,
     )
 
-pub returns-clause-few : goal.returns-clause-few
-returns-clause-few g c =
+pub returns-clause-apart : goal.returns-clause-apart
+returns-clause-apart g c =
     let k = c.requires.known in
-    let asked = c.ask.new.self.ports.items in
-    few_retired asked c.retire.new.self.ports.items c.args.tunnel (λ place seat is. (c.retire.ensures.seat place seat is).0)
-    (λ without. ap (λ h. h.ports.items) (c.retire.ensures.none without).0)
-    (few_stay g.P.P.Port.most c.args.table.now.table c.args.held.now k.0 asked k.1 (ap (λ h. h.ports.items) c.ask.ensures.rest))
+    let old = c.args.held.now in
+    let items : c.ask.new.self.ports.items ≡ old.ports.items = ap (λ h. h.ports.items) c.ask.ensures.rest in
+    let R : List PortSeat → Type 0 = λ xs. Retires c.args.table.now.table c.retire.new.table.table xs c.retire.new.self.ports.items c.args.tunnel in
+    let retires = subst R items (record {
+      gone = λ place seat is. let x = c.retire.ensures.seat place seat is in (x.0, x.1.others);
+      none = λ without. let x = c.retire.ensures.none without in (ap (λ h. h.ports.items) x.0, ap (λ t. t.table) x.1);
+    }) in
+    retired_apart c.args.table.now.table c.retire.new.table.table old.ports.items c.retire.new.self.ports.items c.args.tunnel retires k.1.apart

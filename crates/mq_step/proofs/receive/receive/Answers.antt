@@ -1,52 +1,42 @@
-use Rattle.std.proofs.Common.{rules, ◌≡◌, ◌⊎◌, inl, inr, ◌<◌, ◌≤◌, true, length, slice_get, Some, Ok, Err, refl, sym, subst, ◌∙◌, arith}
+use Rattle.std.proofs.Common.{rules, ◌≡◌, ℕ, ◌+◌, ◌<◌, ◌≤◌, suc, List, length, slice_get, Result, Ok, Err, refl, sym, ap, subst, ◌∙◌, arith}
 use Rattle.std.specs.Vec.{vec_len}
-use Rattle.std.proofs.lemmas.Bool.{cases_lt}
-use Rattle.mq_talk.specs.declared.note.Note.{Note}
-use Rattle.mq_machine.specs.declared.setup.Setup.{Setup}
-use Rattle.mq_machine.specs.Acting.{Outside, binder}
-use Rattle.mq_machine.specs.State as machine
-use Rattle.mq_machine.specs.Want.{want_of}
-use Rattle.mq_conn.specs.Frames.{waits}
-use Rattle.mq_ports.specs.Tables.{IsBalanced}
+use Rattle.mq_wire.specs.declared.NoMemory.{NoMemory}
+use Rattle.mq_talk.specs.Offices.{Seen}
+use Rattle.mq_machine.specs.Acting.{binder}
+use Rattle.mq_held.specs.declared.held.Held.{Held as HeldBy}
 use Rattle.mq_held.specs.declared.held.PortSeat.{PortSeat}
 use Rattle.mq_step.specs.declared.stepped.Stepped.{Stepped}
-use Rattle.mq_step.specs.declared.stepped.Stepped.TheVariants.{Ended}
-use Rattle.mq_step.specs.Holds.{IsHeld, IsKnown, KeepsOthers}
-use Rattle.mq_step.specs.Whole.{Sees}
-use Rattle.mq_step.specs.Gives.{Gives, Waited, ReadsWait, receives_of, receive_alone}
-use Rattle.mq_step.proofs.Passing.{subst_three, at_most_one, none_there, seat_gives, err_gives, none_waited}
-use Rattle.mq_step.proofs.Still.{Still}
+use Rattle.mq_step.specs.declared.stepped.Stepped.TheVariants.{Quiet}
+use Rattle.mq_step.specs.Holds.{IsHeld}
+use Rattle.mq_step.specs.Sights.{SeesPorts}
+use Rattle.mq_step.specs.Gives.{Gives, Waited, ReceivesWait, receives_of, receive_alone}
+use Rattle.mq_step.proofs.Others.{keeps_both}
+use Rattle.mq_step.proofs.Trying.{mid}
+use Rattle.mq_step.proofs.Stepping.{known_then}
+use Rattle.mq_step.proofs.Passing.{PassedTo, passed_none, passed_next, there_at, counts_now, sees_mid, seat_gives, all_waited, err_gives}
 use Rattle.mq_step.proofs.receive.receive.Goals as goal
 
 pub loop-place-init : goal.loop-place-init
 loop-place-init g c = record {
   rooms = c.requires.rooms;
-  start = λ is. (refl, refl, refl);
   rest = refl;
   stays = refl;
   still = λ s held wait. held;
-  few = at_most_one g.P.P.Port.most c.args.table.now.table c.args.held.now c.requires.known.0 c.requires.known.1;
+  apart = c.requires.known.1.apart;
   calm = (refl, refl);
   actor = refl;
   others = λ key port at other. (at, other);
   balanced = λ is. is;
-  waited = λ lt. absurd (omega (arith, lt));
+  passed = passed_none g.P.P.Port.holds g.P.P.Port.past g.P.P.Port.counts c.args.table.now.table c.args.held.now.ports.items;
 }
 
 pub receive_at-requires-clause-known : goal.receive_at-requires-clause-known
 receive_at-requires-clause-known g c =
-    let old = c.args.held.now in
-    let table = c.args.table.now.table in
-    let most = g.P.P.Port.most in
-    let known = c.requires.known in
-    let few_are : length old.ports.items ≤ 1 = at_most_one most table old known.0 known.1 in
-    let len : vec_len old.ports ≡ length old.ports.items = search rules in
-    let end = c.len-place-end.ensures in
-    let lt = c.loop-place-test.true in
-    let zero : c.loop-place.place ≡ 0 = omega (arith, few_are, len, end, lt) in
-    let start = c.loop-place.invariant.start zero in
-    subst_three old c.loop-place.held c.args.table.now c.loop-place.table c.args.office.now c.loop-place.office (sym start.0) (sym start.1) (sym start.2)
-    (λ h t f. (x : machine.Held) × IsHeld most t.table h x × IsKnown (g.O.Office.seen f) (g.O.Office.seen f).actor x × (waits (want_of x.conn) ≡ true)) known
+    let k = c.requires.known in
+    let i = c.loop-place.invariant in
+    let seen = g.O.Office.seen c.args.office.now in
+    let now = g.O.Office.seen c.loop-place.office in
+    (k.0, i.still k.0 k.1 k.3, known_then seen now seen.actor now.actor k.0 k.2 i.calm.0 i.actor, k.3)
 
 pub receive_at-requires-clause-rooms : goal.receive_at-requires-clause-rooms
 receive_at-requires-clause-rooms g c = c.loop-place.invariant.rooms
@@ -54,214 +44,132 @@ receive_at-requires-clause-rooms g c = c.loop-place.invariant.rooms
 pub returns-in_err-stepped-clause-gives : goal.returns-in_err-stepped-clause-gives
 returns-in_err-stepped-clause-gives g c = λ o n so sn s held wait setup.
     let old = c.args.held.now in
+    let mid_held = c.loop-place.held in
     let table = c.args.table.now.table in
     let most = g.P.P.Port.most in
-    let known = c.requires.known in
-    let few_are : length old.ports.items ≤ 1 = at_most_one most table old known.0 known.1 in
+    let holds = g.P.P.Port.holds in
+    let counts = g.P.P.Port.counts in
+    let i = c.loop-place.invariant in
     let len : vec_len old.ports ≡ length old.ports.items = search rules in
     let end = c.len-place-end.ensures in
     let lt = c.loop-place-test.true in
-    let zero : c.loop-place.place ≡ 0 = omega (arith, few_are, len, end, lt) in
-    let some : 0 < length old.ports.items = omega (arith, len, end, lt) in
-    let start = c.loop-place.invariant.start zero in
+    let seat = there_at old.ports.items c.loop-place.place (omega (arith, len, end, lt)) in
+    let there = ap (λ (xs : List PortSeat). slice_get xs c.loop-place.place) i.stays ∙ seat.1 in
     let new = c.receive_at.new.held in
     let after = c.receive_at.new.table in
     let office = c.receive_at.new.office in
-    let gives = subst_three c.loop-place.held old c.loop-place.table c.args.table.now c.loop-place.office c.args.office.now start.0 start.1 start.2
-    (λ h t f. (o n : Outside) → Sees g.L.Link.holds g.L.Link.counts g.P.P.Port.holds g.P.P.Port.counts (binder g.P.Ports.holds g.P.Ports.faults t.ports) t.table h o
-    → Sees g.L.Link.holds g.L.Link.counts g.P.P.Port.holds g.P.P.Port.counts (binder g.P.Ports.holds g.P.Ports.faults after.ports) after.table new n
-    → (s : machine.Held) → IsHeld most t.table h s → waits (want_of s.conn) ≡ true → (setup : Setup) (seat : PortSeat) → slice_get h.ports.items c.loop-place.place ≡ Some seat
-    → Gives setup (receive_alone seat.tunnel) ReadsWait o n (g.O.Office.seen f) (g.O.Office.seen office) (IsHeld most after.table new) s (Err c.in_err-stepped.field-0.0)) c.in_err-stepped.ensures.gives in
+    let pc = counts_now most holds g.P.P.Port.past counts table c.loop-place.table.table old o s c.loop-place.place held so.of_table.ports i.passed in
+    let sees = sees_mid most holds g.P.P.Port.past counts table c.loop-place.table.table old o s c.loop-place.place held so.of_table.ports i.passed g.L.Link.holds g.L.Link.counts
+    (binder g.P.Ports.holds g.P.Ports.faults c.loop-place.table.ports) mid_held (ap (λ h. h.number) i.rest) (ap (λ h. h.link) i.rest) i.stays so.of_link (so.of_table.binds_are ∙ sym i.calm.1) in
+    let E : Seen → Type 0 = λ x. Gives setup (receive_alone seat.0.tunnel) (ReceivesWait seat.0.tunnel) (mid o o.link_counts pc) n x (g.O.Office.seen office) (IsHeld most after.table new) s (Err c.in_err-stepped.field-0.0) in
+    let gives = subst E i.calm.0 (c.in_err-stepped.ensures.gives (mid o o.link_counts pc) n sees sn s (i.still s held wait) wait setup seat.0 there) in
     err_gives setup o n (g.O.Office.seen c.args.office.now) (g.O.Office.seen office) (IsHeld most after.table new) s c.in_err-stepped.field-0.0 c.from_residual.result c.from_residual.ensures.0
-    (seat_gives most g.P.P.Port.holds g.P.P.Port.counts table old o n s setup (g.O.Office.seen c.args.office.now) (g.O.Office.seen office) (IsHeld most after.table new) (Err c.in_err-stepped.field-0.0) c.loop-place.place held wait so.of_table.ports some zero
-    (λ seat at. gives o n so sn s held wait setup seat at))
+    (seat_gives most holds g.P.P.Port.past counts table c.loop-place.table.table old o s c.loop-place.place held so.of_table.ports i.passed seat.0 seat.1 setup n (g.O.Office.seen c.args.office.now) (g.O.Office.seen office)
+    (IsHeld most after.table new) (Err c.in_err-stepped.field-0.0) (λ is. absurd cc) gives)
 
 pub returns-in_err-stepped-clause-rest : goal.returns-in_err-stepped-clause-rest
-returns-in_err-stepped-clause-rest g c =
-    let old = c.args.held.now in
-    let table = c.args.table.now.table in
-    let most = g.P.P.Port.most in
-    let known = c.requires.known in
-    let few_are : length old.ports.items ≤ 1 = at_most_one most table old known.0 known.1 in
-    let len : vec_len old.ports ≡ length old.ports.items = search rules in
-    let end = c.len-place-end.ensures in
-    let lt = c.loop-place-test.true in
-    let zero : c.loop-place.place ≡ 0 = omega (arith, few_are, len, end, lt) in
-    let some : 0 < length old.ports.items = omega (arith, len, end, lt) in
-    let start = c.loop-place.invariant.start zero in
-    let new = c.receive_at.new.held in
-    let after = c.receive_at.new.table in
-    let office = c.receive_at.new.office in
-    subst_three c.loop-place.held old c.loop-place.table c.args.table.now c.loop-place.office c.args.office.now start.0 start.1 start.2
-    (λ h t f. new ≡ record h { conn = new.conn; ports = new.ports; bound = new.bound }) c.in_err-stepped.ensures.rest
+returns-in_err-stepped-clause-rest g c = c.in_err-stepped.ensures.rest ∙ ap (λ (h : HeldBy g.row.L.Denot). record h { conn = c.receive_at.new.held.conn; ports = c.receive_at.new.held.ports; bound = c.receive_at.new.held.bound }) c.loop-place.invariant.rest
 
 pub returns-in_err-stepped-clause-actor : goal.returns-in_err-stepped-clause-actor
-returns-in_err-stepped-clause-actor g c =
-    let old = c.args.held.now in
-    let table = c.args.table.now.table in
-    let most = g.P.P.Port.most in
-    let known = c.requires.known in
-    let few_are : length old.ports.items ≤ 1 = at_most_one most table old known.0 known.1 in
-    let len : vec_len old.ports ≡ length old.ports.items = search rules in
-    let end = c.len-place-end.ensures in
-    let lt = c.loop-place-test.true in
-    let zero : c.loop-place.place ≡ 0 = omega (arith, few_are, len, end, lt) in
-    let some : 0 < length old.ports.items = omega (arith, len, end, lt) in
-    let start = c.loop-place.invariant.start zero in
-    let new = c.receive_at.new.held in
-    let after = c.receive_at.new.table in
-    let office = c.receive_at.new.office in
-    subst_three c.loop-place.held old c.loop-place.table c.args.table.now c.loop-place.office c.args.office.now start.0 start.1 start.2
-    (λ h t f. (g.O.Office.seen office).actor ≡ (g.O.Office.seen f).actor) c.in_err-stepped.ensures.actor
+returns-in_err-stepped-clause-actor g c = c.in_err-stepped.ensures.actor ∙ c.loop-place.invariant.actor
 
 pub returns-in_err-stepped-clause-others : goal.returns-in_err-stepped-clause-others
-returns-in_err-stepped-clause-others g c =
-    let old = c.args.held.now in
-    let table = c.args.table.now.table in
-    let most = g.P.P.Port.most in
-    let known = c.requires.known in
-    let few_are : length old.ports.items ≤ 1 = at_most_one most table old known.0 known.1 in
-    let len : vec_len old.ports ≡ length old.ports.items = search rules in
-    let end = c.len-place-end.ensures in
-    let lt = c.loop-place-test.true in
-    let zero : c.loop-place.place ≡ 0 = omega (arith, few_are, len, end, lt) in
-    let some : 0 < length old.ports.items = omega (arith, len, end, lt) in
-    let start = c.loop-place.invariant.start zero in
-    let new = c.receive_at.new.held in
-    let after = c.receive_at.new.table in
-    let office = c.receive_at.new.office in
-    subst_three c.loop-place.held old c.loop-place.table c.args.table.now c.loop-place.office c.args.office.now start.0 start.1 start.2
-    (λ h t f. KeepsOthers h new t.table after.table) c.in_err-stepped.ensures.others
+returns-in_err-stepped-clause-others g c = keeps_both c.args.held.now c.loop-place.held c.receive_at.new.held c.args.table.now.table c.loop-place.table.table c.receive_at.new.table.table c.loop-place.invariant.others c.in_err-stepped.ensures.others
 
 pub returns-in_err-stepped-clause-balanced : goal.returns-in_err-stepped-clause-balanced
-returns-in_err-stepped-clause-balanced g c =
-    let old = c.args.held.now in
-    let table = c.args.table.now.table in
-    let most = g.P.P.Port.most in
-    let known = c.requires.known in
-    let few_are : length old.ports.items ≤ 1 = at_most_one most table old known.0 known.1 in
-    let len : vec_len old.ports ≡ length old.ports.items = search rules in
-    let end = c.len-place-end.ensures in
-    let lt = c.loop-place-test.true in
-    let zero : c.loop-place.place ≡ 0 = omega (arith, few_are, len, end, lt) in
-    let some : 0 < length old.ports.items = omega (arith, len, end, lt) in
-    let start = c.loop-place.invariant.start zero in
-    let new = c.receive_at.new.held in
-    let after = c.receive_at.new.table in
-    let office = c.receive_at.new.office in
-    subst_three c.loop-place.held old c.loop-place.table c.args.table.now c.loop-place.office c.args.office.now start.0 start.1 start.2
-    (λ h t f. IsBalanced g.P.P.Port.place (g.P.Ports.past t.ports) t.table.slots → IsBalanced g.P.P.Port.place (g.P.Ports.past after.ports) after.table.slots) c.in_err-stepped.ensures.balanced
+returns-in_err-stepped-clause-balanced g c = λ is. c.in_err-stepped.ensures.balanced (c.loop-place.invariant.balanced is)
 
 pub returns-in_default : goal.returns-in_default
-returns-in_default g c =
-    let old = c.args.held.now in
-    let table = c.args.table.now.table in
-    let most = g.P.P.Port.most in
-    let known = c.requires.known in
-    let few_are : length old.ports.items ≤ 1 = at_most_one most table old known.0 known.1 in
-    let len : vec_len old.ports ≡ length old.ports.items = search rules in
-    let end = c.len-place-end.ensures in
-    let lt = c.loop-place-test.true in
-    let zero : c.loop-place.place ≡ 0 = omega (arith, few_are, len, end, lt) in
-    let some : 0 < length old.ports.items = omega (arith, len, end, lt) in
-    let start = c.loop-place.invariant.start zero in
-    let new = c.receive_at.new.held in
-    let after = c.receive_at.new.table in
-    let office = c.receive_at.new.office in
-    let gives = subst_three c.loop-place.held old c.loop-place.table c.args.table.now c.loop-place.office c.args.office.now start.0 start.1 start.2
-    (λ h t f. (o n : Outside) → Sees g.L.Link.holds g.L.Link.counts g.P.P.Port.holds g.P.P.Port.counts (binder g.P.Ports.holds g.P.Ports.faults t.ports) t.table h o
-    → Sees g.L.Link.holds g.L.Link.counts g.P.P.Port.holds g.P.P.Port.counts (binder g.P.Ports.holds g.P.Ports.faults after.ports) after.table new n
-    → (s : machine.Held) → IsHeld most t.table h s → waits (want_of s.conn) ≡ true → (setup : Setup) (seat : PortSeat) → slice_get h.ports.items c.loop-place.place ≡ Some seat
-    → Gives setup (receive_alone seat.tunnel) ReadsWait o n (g.O.Office.seen f) (g.O.Office.seen office) (IsHeld most after.table new) s (Ok c.in_ok-stepped.stepped)) c.in_ok-stepped.ensures.gives in
-    record {
-      gives = λ o n so sn s held wait setup.
-          seat_gives most g.P.P.Port.holds g.P.P.Port.counts table old o n s setup (g.O.Office.seen c.args.office.now) (g.O.Office.seen office) (IsHeld most after.table new) (Ok c.in_ok-stepped.stepped) c.loop-place.place held wait so.of_table.ports some zero
-          (λ seat at. gives o n so sn s held wait setup seat at);
-      rest = subst_three c.loop-place.held old c.loop-place.table c.args.table.now c.loop-place.office c.args.office.now start.0 start.1 start.2
-          (λ h t f. new ≡ record h { conn = new.conn; ports = new.ports; bound = new.bound }) c.in_ok-stepped.ensures.rest;
-      ends = subst_three c.loop-place.held old c.loop-place.table c.args.table.now c.loop-place.office c.args.office.now start.0 start.1 start.2
-          (λ h t f. (said : Note) → c.in_ok-stepped.stepped ≡ Ended said → new.ports.items ≡ h.ports.items) c.in_ok-stepped.ensures.ends;
-      rooms = c.in_ok-stepped.ensures.rooms;
-      stays = λ is. absurd (c.in_default.not-Quiet is);
-      still = λ is. absurd (c.in_default.not-Quiet is);
-      few = c.in_ok-stepped.ensures.few;
-      calm = λ is. absurd (c.in_default.not-Quiet is);
-      actor = subst_three c.loop-place.held old c.loop-place.table c.args.table.now c.loop-place.office c.args.office.now start.0 start.1 start.2
-          (λ h t f. (g.O.Office.seen office).actor ≡ (g.O.Office.seen f).actor) c.in_ok-stepped.ensures.actor;
-      others = subst_three c.loop-place.held old c.loop-place.table c.args.table.now c.loop-place.office c.args.office.now start.0 start.1 start.2
-          (λ h t f. KeepsOthers h new t.table after.table) c.in_ok-stepped.ensures.others;
-      balanced = subst_three c.loop-place.held old c.loop-place.table c.args.table.now c.loop-place.office c.args.office.now start.0 start.1 start.2
-          (λ h t f. IsBalanced g.P.P.Port.place (g.P.Ports.past t.ports) t.table.slots → IsBalanced g.P.P.Port.place (g.P.Ports.past after.ports) after.table.slots) c.in_ok-stepped.ensures.balanced;
-    }
+returns-in_default g c = record {
+  gives = λ o n so sn s held wait setup.
+      let old = c.args.held.now in
+      let mid_held = c.loop-place.held in
+      let table = c.args.table.now.table in
+      let most = g.P.P.Port.most in
+      let holds = g.P.P.Port.holds in
+      let counts = g.P.P.Port.counts in
+      let i = c.loop-place.invariant in
+      let len : vec_len old.ports ≡ length old.ports.items = search rules in
+      let end = c.len-place-end.ensures in
+      let lt = c.loop-place-test.true in
+      let seat = there_at old.ports.items c.loop-place.place (omega (arith, len, end, lt)) in
+      let there = ap (λ (xs : List PortSeat). slice_get xs c.loop-place.place) i.stays ∙ seat.1 in
+      let new = c.receive_at.new.held in
+      let after = c.receive_at.new.table in
+      let office = c.receive_at.new.office in
+      let pc = counts_now most holds g.P.P.Port.past counts table c.loop-place.table.table old o s c.loop-place.place held so.of_table.ports i.passed in
+      let sees = sees_mid most holds g.P.P.Port.past counts table c.loop-place.table.table old o s c.loop-place.place held so.of_table.ports i.passed g.L.Link.holds g.L.Link.counts
+      (binder g.P.Ports.holds g.P.Ports.faults c.loop-place.table.ports) mid_held (ap (λ h. h.number) i.rest) (ap (λ h. h.link) i.rest) i.stays so.of_link (so.of_table.binds_are ∙ sym i.calm.1) in
+      let E : Seen → Type 0 = λ x. Gives setup (receive_alone seat.0.tunnel) (ReceivesWait seat.0.tunnel) (mid o o.link_counts pc) n x (g.O.Office.seen office) (IsHeld most after.table new) s (Ok c.in_ok-stepped.stepped) in
+      let gives = subst E i.calm.0 (c.in_ok-stepped.ensures.gives (mid o o.link_counts pc) n sees sn s (i.still s held wait) wait setup seat.0 there) in
+      seat_gives most holds g.P.P.Port.past counts table c.loop-place.table.table old o s c.loop-place.place held so.of_table.ports i.passed seat.0 seat.1 setup n (g.O.Office.seen c.args.office.now) (g.O.Office.seen office)
+      (IsHeld most after.table new) (Ok c.in_ok-stepped.stepped) (λ is. c.in_default.not-Quiet (same_ok c.in_ok-stepped.stepped Quiet is)) gives;
+  rest = c.in_ok-stepped.ensures.rest ∙ ap (λ (h : HeldBy g.row.L.Denot). record h { conn = c.receive_at.new.held.conn; ports = c.receive_at.new.held.ports; bound = c.receive_at.new.held.bound }) c.loop-place.invariant.rest;
+  ends = λ said is. c.in_ok-stepped.ensures.ends said is ∙ c.loop-place.invariant.stays;
+  rooms = c.in_ok-stepped.ensures.rooms;
+  stays = λ is. absurd (c.in_default.not-Quiet is);
+  still = λ is. absurd (c.in_default.not-Quiet is);
+  apart = c.in_ok-stepped.ensures.apart;
+  calm = λ is. absurd (c.in_default.not-Quiet is);
+  actor = c.in_ok-stepped.ensures.actor ∙ c.loop-place.invariant.actor;
+  others = keeps_both c.args.held.now c.loop-place.held c.receive_at.new.held c.args.table.now.table c.loop-place.table.table c.receive_at.new.table.table c.loop-place.invariant.others c.in_ok-stepped.ensures.others;
+  balanced = λ is. c.in_ok-stepped.ensures.balanced (c.loop-place.invariant.balanced is);
+} where
+  same_ok : (a b : Stepped) → ◌≡◌ {A = Result Stepped NoMemory} (Ok a) (Ok b) → a ≡ b
+  same_ok a b is = cc
 
 pub loop-place-preserved : goal.loop-place-preserved
 loop-place-preserved g c =
     let old = c.args.held.now in
+    let holds = g.P.P.Port.holds in
+    let past = g.P.P.Port.past in
+    let counts = g.P.P.Port.counts in
     let table = c.args.table.now.table in
-    let most = g.P.P.Port.most in
-    let known = c.requires.known in
-    let few_are : length old.ports.items ≤ 1 = at_most_one most table old known.0 known.1 in
+    let e = c.in_ok-stepped.ensures in
+    let i = c.loop-place.invariant in
+    let quiet = c.in-Quiet.is in
     let len : vec_len old.ports ≡ length old.ports.items = search rules in
     let end = c.len-place-end.ensures in
     let lt = c.loop-place-test.true in
-    let zero : c.loop-place.place ≡ 0 = omega (arith, few_are, len, end, lt) in
-    let some : 0 < length old.ports.items = omega (arith, len, end, lt) in
-    let start = c.loop-place.invariant.start zero in
-    let new = c.receive_at.new.held in
-    let after = c.receive_at.new.table in
-    let office = c.receive_at.new.office in
-    let gives = subst_three c.loop-place.held old c.loop-place.table c.args.table.now c.loop-place.office c.args.office.now start.0 start.1 start.2
-    (λ h t f. (o n : Outside) → Sees g.L.Link.holds g.L.Link.counts g.P.P.Port.holds g.P.P.Port.counts (binder g.P.Ports.holds g.P.Ports.faults t.ports) t.table h o
-    → Sees g.L.Link.holds g.L.Link.counts g.P.P.Port.holds g.P.P.Port.counts (binder g.P.Ports.holds g.P.Ports.faults after.ports) after.table new n
-    → (s : machine.Held) → IsHeld most t.table h s → waits (want_of s.conn) ≡ true → (setup : Setup) (seat : PortSeat) → slice_get h.ports.items c.loop-place.place ≡ Some seat
-    → Gives setup (receive_alone seat.tunnel) ReadsWait o n (g.O.Office.seen f) (g.O.Office.seen office) (IsHeld most after.table new) s (Ok c.in_ok-stepped.stepped)) c.in_ok-stepped.ensures.gives in
+    let seat = there_at old.ports.items c.loop-place.place (omega (arith, len, end, lt)) in
+    let there = ap (λ (xs : List PortSeat). slice_get xs c.loop-place.place) i.stays ∙ seat.1 in
+    let P : ℕ → Type 0 = λ k. PassedTo holds past counts table c.receive_at.new.table.table k old.ports.items in
+    let next : suc c.loop-place.place ≡ c.loop-place.place + 1 = omega arith in
+    let calm = e.calm quiet in
     record {
-      rooms = c.in_ok-stepped.ensures.rooms;
-      start = λ is. absurd (omega (arith, is));
-      rest = subst_three c.loop-place.held old c.loop-place.table c.args.table.now c.loop-place.office c.args.office.now start.0 start.1 start.2
-          (λ h t f. new ≡ record h { conn = new.conn; ports = new.ports; bound = new.bound }) c.in_ok-stepped.ensures.rest;
-      stays = subst_three c.loop-place.held old c.loop-place.table c.args.table.now c.loop-place.office c.args.office.now start.0 start.1 start.2
-          (λ h t f. new.ports.items ≡ h.ports.items) (c.in_ok-stepped.ensures.stays c.in-Quiet.is);
-      still = subst_three c.loop-place.held old c.loop-place.table c.args.table.now c.loop-place.office c.args.office.now start.0 start.1 start.2
-          (λ h t f. Still most t.table after.table h new) (c.in_ok-stepped.ensures.still c.in-Quiet.is);
-      few = c.in_ok-stepped.ensures.few;
-      calm = subst_three c.loop-place.held old c.loop-place.table c.args.table.now c.loop-place.office c.args.office.now start.0 start.1 start.2
-          (λ h t f. (g.O.Office.seen office ≡ g.O.Office.seen f) × (binder g.P.Ports.holds g.P.Ports.faults after.ports ≡ binder g.P.Ports.holds g.P.Ports.faults t.ports))
-          (c.in_ok-stepped.ensures.calm c.in-Quiet.is);
-      actor = subst_three c.loop-place.held old c.loop-place.table c.args.table.now c.loop-place.office c.args.office.now start.0 start.1 start.2
-          (λ h t f. (g.O.Office.seen office).actor ≡ (g.O.Office.seen f).actor) c.in_ok-stepped.ensures.actor;
-      others = subst_three c.loop-place.held old c.loop-place.table c.args.table.now c.loop-place.office c.args.office.now start.0 start.1 start.2
-          (λ h t f. KeepsOthers h new t.table after.table) c.in_ok-stepped.ensures.others;
-      balanced = subst_three c.loop-place.held old c.loop-place.table c.args.table.now c.loop-place.office c.args.office.now start.0 start.1 start.2
-          (λ h t f. IsBalanced g.P.P.Port.place (g.P.Ports.past t.ports) t.table.slots → IsBalanced g.P.P.Port.place (g.P.Ports.past after.ports) after.table.slots) c.in_ok-stepped.ensures.balanced;
-      waited = λ later o n so sn s held wait setup.
-          let G : Stepped → Type 0 = λ r. Gives setup receives_of ReadsWait o n (g.O.Office.seen c.args.office.now) (g.O.Office.seen office) (IsHeld most after.table new) s (Ok r) in
-          subst G c.in-Quiet.is (seat_gives most g.P.P.Port.holds g.P.P.Port.counts table old o n s setup (g.O.Office.seen c.args.office.now) (g.O.Office.seen office) (IsHeld most after.table new) (Ok c.in_ok-stepped.stepped) c.loop-place.place held wait so.of_table.ports some zero
-          (λ seat at. gives o n so sn s held wait setup seat at));
+      rooms = e.rooms;
+      rest = e.rest ∙ ap (λ (h : HeldBy g.row.L.Denot). record h { conn = c.receive_at.new.held.conn; ports = c.receive_at.new.held.ports; bound = c.receive_at.new.held.bound }) c.loop-place.invariant.rest;
+      stays = e.stays quiet ∙ i.stays;
+      still = λ s held wait. e.still quiet s (i.still s held wait) wait;
+      apart = e.apart;
+      calm = (calm.0 ∙ i.calm.0, calm.1 ∙ i.calm.1);
+      actor = e.actor ∙ i.actor;
+      others = keeps_both c.args.held.now c.loop-place.held c.receive_at.new.held c.args.table.now.table c.loop-place.table.table c.receive_at.new.table.table c.loop-place.invariant.others e.others;
+      balanced = λ is. e.balanced (i.balanced is);
+      passed = subst P next (passed_next holds past counts table c.loop-place.table.table c.receive_at.new.table.table c.loop-place.place old.ports.items seat.0 c.requires.known.1.apart seat.1
+          (e.passed quiet seat.0 there) i.passed);
     }
 
 pub returns-clause-gives : goal.returns-clause-gives
-returns-clause-gives g c = λ o n so sn s held wait setup. by_case o n so sn s held wait setup (cases_lt 0 c.loop-place.place) where
-  by_case : (o n : Outside)
-      → Sees g.L.Link.holds g.L.Link.counts g.P.P.Port.holds g.P.P.Port.counts (binder g.P.Ports.holds g.P.Ports.faults c.args.table.now.ports) c.args.table.now.table c.args.held.now o
-      → Sees g.L.Link.holds g.L.Link.counts g.P.P.Port.holds g.P.P.Port.counts (binder g.P.Ports.holds g.P.Ports.faults c.loop-place.table.ports) c.loop-place.table.table c.loop-place.held n
-      → (s : machine.Held) → IsHeld g.P.P.Port.most c.args.table.now.table c.args.held.now s → waits (want_of s.conn) ≡ true → Setup
-      → (0 < c.loop-place.place) ⊎ (c.loop-place.place ≤ 0)
-      → Waited receives_of o n (g.O.Office.seen c.args.office.now) (g.O.Office.seen c.loop-place.office) s × IsHeld g.P.P.Port.most c.loop-place.table.table c.loop-place.held s
-  by_case o n so sn s held wait setup (inl lt) = c.loop-place.invariant.waited lt o n so sn s held wait setup
-  by_case o n so sn s held wait setup (inr le) =
-      let old = c.args.held.now in
-      let table = c.args.table.now.table in
-      let most = g.P.P.Port.most in
-      let len : vec_len old.ports ≡ length old.ports.items = search rules in
-      let end = c.len-place-end.ensures in
-      let out = c.loop-place-test.false in
-      let none = none_there old.ports.items (omega (arith, len, end, out, le)) in
-      let start = c.loop-place.invariant.start (omega (arith, le)) in
-      subst_three old c.loop-place.held c.args.table.now c.loop-place.table c.args.office.now c.loop-place.office (sym start.0) (sym start.1) (sym start.2)
-      (λ h t f. Sees g.L.Link.holds g.L.Link.counts g.P.P.Port.holds g.P.P.Port.counts (binder g.P.Ports.holds g.P.Ports.faults t.ports) t.table h n
-      → Waited receives_of o n (g.O.Office.seen c.args.office.now) (g.O.Office.seen f) s × IsHeld most t.table h s)
-      (λ still. (none_waited most g.L.Link.holds g.L.Link.counts table old o n s (g.O.Office.seen c.args.office.now) held none so.of_link still.of_link (still.of_table.binds_are ∙ sym so.of_table.binds_are), held)) sn
+returns-clause-gives g c = λ o n so sn s held wait setup.
+    let old = c.args.held.now in
+    let i = c.loop-place.invariant in
+    let most = g.P.P.Port.most in
+    let holds = g.P.P.Port.holds in
+    let counts = g.P.P.Port.counts in
+    let table = c.args.table.now.table in
+    let after = c.loop-place.table.table in
+    let seen = g.O.Office.seen c.args.office.now in
+    let len : vec_len old.ports ≡ length old.ports.items = search rules in
+    let end = c.len-place-end.ensures in
+    let out = c.loop-place-test.false in
+    let P : List PortSeat → Type 0 = λ xs. SeesPorts holds counts after n xs in
+    let W : Seen → Type 0 = λ x. Waited receives_of o n seen x s in (
+      subst W (sym i.calm.0) (all_waited most holds g.P.P.Port.past counts table after old o s c.loop-place.place held so.of_table.ports i.passed g.L.Link.holds g.L.Link.counts c.loop-place.held n seen
+          (omega (arith, len, end, out)) (ap (λ h. h.number) i.rest) (ap (λ h. h.link) i.rest) so.of_link sn.of_link (subst P i.stays sn.of_table.ports)
+          (sn.of_table.binds_are ∙ i.calm.1 ∙ sym so.of_table.binds_are)),
+      i.still s held wait,
+    )
 
 pub returns-clause-rest : goal.returns-clause-rest
 returns-clause-rest g c = c.loop-place.invariant.rest
@@ -275,8 +183,8 @@ returns-clause-stays g c = λ is. c.loop-place.invariant.stays
 pub returns-clause-still : goal.returns-clause-still
 returns-clause-still g c = λ is. c.loop-place.invariant.still
 
-pub returns-clause-few : goal.returns-clause-few
-returns-clause-few g c = c.loop-place.invariant.few
+pub returns-clause-apart : goal.returns-clause-apart
+returns-clause-apart g c = c.loop-place.invariant.apart
 
 pub returns-clause-calm : goal.returns-clause-calm
 returns-clause-calm g c = λ is. c.loop-place.invariant.calm

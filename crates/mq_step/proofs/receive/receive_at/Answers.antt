@@ -12,15 +12,18 @@ use Rattle.mq_held.specs.Ports.{receive_calls, ReceiveGives}
 use Rattle.mq_held.specs.Seats.{counted}
 use Rattle.mq_machine.specs.Acting.{Binder, binder, handed_back}
 use Rattle.mq_step.specs.Holds.{IsHeld}
-use Rattle.mq_step.specs.Gives.{Gives, Waited, Turned, Starved, StandsAsTold, ReadsWait, receive_alone}
+use Rattle.mq_held.specs.Seats.{IsSeatOf}
+use Rattle.mq_step.specs.Sights.{SeesPorts}
+use Rattle.mq_step.specs.Vain.{AskedInVain}
+use Rattle.mq_step.specs.Gives.{Gives, Waited, Turned, Starved, StandsAsTold, ReceivesWait, receive_alone}
 use Rattle.mq_step.proofs.Others.{HasKey, key_at, keys_set, call_others}
-use Rattle.mq_step.proofs.Sending.{same_port}
+use Rattle.mq_step.proofs.Places.{apart_set, first_is_mine}
+use Rattle.mq_step.proofs.Standing.{same_apart}
+use Rattle.mq_step.proofs.Sending.{same_port, found_at}
 use Rattle.mq_step.proofs.Receiving.{Live, live, link_stays, copied_at, same_seat, tunnel_is}
-use Rattle.mq_step.proofs.Received.{Behind, behind_of, behind_call, only_set, came, received_waits, waits_stand, received_starves, starved_stands, starved_told, sunk_then, received_left, received_done, received_stands, received_told}
-use Rattle.mq_step.proofs.PortFailing.{failing, failed_left, failing_known, blind, blind_sees, wants_close, failing_stands, failed_done, failed_told, closes_give, starved_gives}
+use Rattle.mq_step.proofs.Received.{Behind, behind_of, behind_call, sees_counted, came, received_waits, waits_stand, received_starves, starved_stands, starved_told, sunk_then, received_left, received_done, received_stands, received_told, place_is}
+use Rattle.mq_step.proofs.PortFailing.{failing, failing_port, failed_left, failing_known, blind, blind_sees, wants_close, failing_stands, failed_done, failed_told, closes_give, starved_gives}
 use Rattle.mq_step.proofs.Still.{Still, closes_still}
-use Rattle.mq_step.proofs.Passing.{at_most_one}
-use Rattle.mq_step.proofs.Few.{few_stay, few_counted}
 use Rattle.mq_step.proofs.receive.receive_at.Goals as goal
 
 pub returns-in-Waits-clause-gives : goal.returns-in-Waits-clause-gives
@@ -45,9 +48,10 @@ returns-in-Waits-clause-gives g c = λ o n so sn s held wait setup seat at.
     let kept = e.kept x.is.port x.is.at in
     let same : kept.0 ≡ r.0 = same_port after mine.key kept.0 r.0 kept.1 r.1 in
     let limit : most r.0 ≡ most x.is.port = ap most (sym same) ∙ kept.2 in
-    let b : Behind most holds counts after old mid o n mine x.is.port =
-    behind_of most holds counts g.L.Link.holds g.L.Link.counts after old mid o n mine mine x.is.port r.0 r.1 limit refl refl (ap (λ h. h.ports.items) rest ∙ x.seats_are)
-    (ap (λ h. h.number) rest) (ap (λ h. h.link) rest) (ap (λ h. h.bound) rest) so.of_link sn.of_link sn.of_table.ports in
+    let V : List PortSeat → Type 0 = λ xs. SeesPorts holds counts after n xs in
+    let b : Behind most holds counts table after old mid o n mine x.is.port =
+    behind_of most holds counts g.L.Link.holds g.L.Link.counts table after old mid o n c.args.place mine x.is.port r.0 here r.1 limit e.others so.of_table.ports
+    (subst V (ap (λ h. h.ports.items) rest) sn.of_table.ports) (ap (λ h. h.number) rest) (ap (λ h. h.link) rest) (ap (λ h. h.bound) rest) so.of_link sn.of_link in
     let seen = g.O.Office.seen c.args.office.now in
     let P : PortSeat → Type 0 = λ y. Waited (receive_alone y.tunnel) o n seen seen s × IsHeld most after mid s in
     subst P (same_seat old.ports.items c.args.place mine seat here at) (
@@ -79,7 +83,7 @@ returns-in-Waits-clause-still g c = λ quiet s held wait.
     let kept = e.kept x.is.port x.is.at in
     let same : kept.0 ≡ r.0 = same_port after mine.key kept.0 r.0 kept.1 r.1 in
     let limit : most r.0 ≡ most x.is.port = ap most (sym same) ∙ kept.2 in
-    let b = behind_call most holds counts after old mid blind mine x.is.port r.0 r.1 limit (ap (λ h. h.number) rest) (ap (λ h. h.bound) rest) in
+    let b = behind_call most holds counts table after old mid blind mine x.is.port r.0 r.1 limit e.others (ap (λ h. h.number) rest) (ap (λ h. h.bound) rest) in
     waits_stand most holds past counts table after old mid blind _ s mine x b (ap (λ h. h.ports.items) rest) r.2.1
 
 pub returns-in_err-receive-clause-gives : goal.returns-in_err-receive-clause-gives
@@ -103,14 +107,15 @@ returns-in_err-receive-clause-gives g c = λ o n so sn s held wait setup seat at
     let kept = e.kept x.is.port x.is.at in
     let same : kept.0 ≡ r.0 = same_port after mine.key kept.0 r.0 kept.1 r.1 in
     let limit : most r.0 ≡ most x.is.port = ap most (sym same) ∙ kept.2 in
-    let b : Behind most holds counts after old mid o n mine x.is.port =
-    behind_of most holds counts g.L.Link.holds g.L.Link.counts after old mid o n mine mine x.is.port r.0 r.1 limit refl refl (ap (λ h. h.ports.items) rest ∙ x.seats_are)
-    (ap (λ h. h.number) rest) (ap (λ h. h.link) rest) (ap (λ h. h.bound) rest) so.of_link sn.of_link sn.of_table.ports in
+    let V : List PortSeat → Type 0 = λ xs. SeesPorts holds counts after n xs in
+    let b : Behind most holds counts table after old mid o n mine x.is.port =
+    behind_of most holds counts g.L.Link.holds g.L.Link.counts table after old mid o n c.args.place mine x.is.port r.0 here r.1 limit e.others so.of_table.ports
+    (subst V (ap (λ h. h.ports.items) rest) sn.of_table.ports) (ap (λ h. h.number) rest) (ap (λ h. h.link) rest) (ap (λ h. h.bound) rest) so.of_link sn.of_link in
     let seen = g.O.Office.seen c.args.office.now in
-    let P : PortSeat → Type 0 = λ y. Gives setup (receive_alone y.tunnel) ReadsWait o n seen seen (IsHeld most after mid) s c.from_residual.result in
-    let starves : (boxes : List (List Parcel)) (orders : machine.Orders) → (t : machine.Held) × Starved (receive_alone mine.tunnel) ReadsWait o n seen seen boxes orders s t × StandsAsTold n (IsHeld most after mid) t =
+    let P : PortSeat → Type 0 = λ y. Gives setup (receive_alone y.tunnel) (ReceivesWait y.tunnel) o n seen seen (IsHeld most after mid) s c.from_residual.result in
+    let starves : (boxes : List (List Parcel)) (orders : machine.Orders) → (t : machine.Held) × Starved (receive_alone mine.tunnel) (ReceivesWait mine.tunnel) o n seen seen boxes orders s t × StandsAsTold n (IsHeld most after mid) t =
     λ boxes orders. (
-      sunk_then o s,
+      sunk_then o s mine.tunnel,
       received_starves most holds past counts table after old mid o n s mine x seen boxes orders r.2.1
           (ap (λ (b : Binder). b.holds) (sn.of_table.binds_are ∙ ap (binder g.P.Ports.holds g.P.Ports.faults) e.ports ∙ sym so.of_table.binds_are)),
       (
@@ -149,22 +154,26 @@ returns-in-Did-clause-gives g c = λ o n so sn s held wait setup seat at boxes o
     let items : mid.ports.items ≡ old.ports.items = ap (λ h. h.ports.items) rest in
     let still : slice_get mid.ports.items c.args.place ≡ Some mine = ap (λ (xs : List PortSeat). slice_get xs c.args.place) items ∙ here in
     let M : Option PortSeat → Type 0 = λ m. MatchOption m (new.ports.items ≡ mid.ports.items) (λ y. new.ports.items ≡ slice_set mid.ports.items c.args.place (record y { received = counted y.received })) in
-    let seats : new.ports.items ≡ one ∷ [] = subst M still c.count.ensures.seats ∙ only_set mid.ports.items mine mine one c.args.place (items ∙ x.seats_are) still in
-    let b : Behind most holds counts after old new o n mine x.is.port =
-    behind_of most holds counts g.L.Link.holds g.L.Link.counts after old new o n mine one x.is.port r.0 r.1 limit refl refl seats
-    (ap (λ h. h.number) done ∙ ap (λ h. h.number) rest) (ap (λ h. h.link) done ∙ ap (λ h. h.link) rest) (ap (λ h. h.bound) done ∙ ap (λ h. h.bound) rest) so.of_link sn.of_link sn.of_table.ports in
+    let set : new.ports.items ≡ slice_set mid.ports.items c.args.place one = subst M still c.count.ensures.seats in
+    let seats : new.ports.items ≡ slice_set old.ports.items c.args.place one = set ∙ ap (λ (xs : List PortSeat). slice_set xs c.args.place one) items in
+    let V : List PortSeat → Type 0 = λ xs. SeesPorts holds counts after n xs in
+    let b : Behind most holds counts table after old new o n mine x.is.port =
+    behind_of most holds counts g.L.Link.holds g.L.Link.counts table after old new o n c.args.place mine x.is.port r.0 here r.1 limit e.others so.of_table.ports
+    (sees_counted holds counts after n old.ports.items c.args.place mine one here refl refl (subst V seats sn.of_table.ports))
+    (ap (λ h. h.number) done ∙ ap (λ h. h.number) rest) (ap (λ h. h.link) done ∙ ap (λ h. h.link) rest) (ap (λ h. h.bound) done ∙ ap (λ h. h.bound) rest) so.of_link sn.of_link in
     let seen = g.O.Office.seen c.args.office.now in
+    let at_place = seats ∙ ap (λ (i : ℕ). slice_set old.ports.items i one) (place_is most holds past counts table after old new o n s mine x c.args.place here) in
     let datagram = r.2.0 in
     let takes = r.2.1 in
     let C : Core → Type 0 = λ y. IsConn y (came s x.t mine.received datagram).1 in
     let conn = subst C (sym (ap (λ h. h.conn) done)) r.2.3 in
-    let P : PortSeat → Type 0 = λ y. (t : machine.Held) × Turned setup (receive_alone y.tunnel) ReadsWait o n seen seen boxes orders s c.in-Did.note (Some t) × StandsAsTold n (IsHeld most after new) t in
+    let P : PortSeat → Type 0 = λ y. (t : machine.Held) × Turned setup (receive_alone y.tunnel) (ReceivesWait y.tunnel) o n seen seen boxes orders s c.in-Did.note (Some t) × StandsAsTold n (IsHeld most after new) t in
     subst P (same_seat old.ports.items c.args.place mine seat here at) (
       received_left o s mine x.t datagram,
       received_done most holds past counts table after old new o n s mine x b setup seen boxes orders datagram c.in-Did.note takes r.2.2
           (ap (λ (b : Binder). b.holds) (sn.of_table.binds_are ∙ ap (binder g.P.Ports.holds g.P.Ports.faults) e.ports ∙ sym so.of_table.binds_are)),
       (
-        received_stands most holds past counts table after old new o n s mine x b datagram seats conn,
+        received_stands most holds past counts table after old new o n s mine x b datagram at_place conn,
         received_told most holds past counts table after old new o n s mine x b datagram takes,
       ),
     )
@@ -227,7 +236,7 @@ act-requires g c =
     let kept = e.kept x.is.port x.is.at in
     let same : kept.0 ≡ r.0 = same_port after mine.key kept.0 r.0 kept.1 r.1 in
     let limit : most r.0 ≡ most x.is.port = ap most (sym same) ∙ kept.2 in
-    let b = behind_call most holds counts after old mid blind mine x.is.port r.0 r.1 limit (ap (λ h. h.number) rest) (ap (λ h. h.bound) rest) in
+    let b = behind_call most holds counts table after old mid blind mine x.is.port r.0 r.1 limit e.others (ap (λ h. h.number) rest) (ap (λ h. h.bound) rest) in
     record {
       known = (
         failing s x.t,
@@ -279,13 +288,14 @@ returns-in-Failed-clause-gives g c = λ o n so sn s held wait setup seat at.
     let last = c.act.new.table.table in
     let done = c.act.ensures.rest in
     let binds = binder g.P.Ports.holds g.P.Ports.faults in
-    let b = behind_call most holds counts after old mid o mine x.is.port r.0 r.1 limit (ap (λ h. h.number) rest) (ap (λ h. h.bound) rest) in
+    let b = behind_call most holds counts table after old mid o mine x.is.port r.0 r.1 limit e.others (ap (λ h. h.number) rest) (ap (λ h. h.bound) rest) in
     let closing = failing s x.t in
     let items : mid.ports.items ≡ old.ports.items = ap (λ h. h.ports.items) rest in
     let stand = failing_stands most holds past counts table after old mid o s mine x _ b items (r.2.1 wait) in
     let want = wants_close most holds past counts table after old mid o s mine x in
     let closes = c.act.ensures.closes closing stand mine.tunnel want in
-    let back : binds c.act.new.table.ports ≡ handed_back (counts r.0).faults (binds c.receive.new.table.ports) = closes.1 mine r.0 (items ∙ x.seats_are) r.1 in
+    let W : List PortSeat → Type 0 = λ xs. IsSeatOf xs mine.tunnel c.args.place mine in
+    let back : binds c.act.new.table.ports ≡ handed_back (counts r.0).faults (binds c.receive.new.table.ports) = closes.1 c.args.place mine r.0 (subst W (sym items) (first_is_mine old.ports.items mine.tunnel c.args.place mine held.apart here refl)) r.1 in
     let rose : (counts r.0).faults ≡ risen (o.port_counts mine.tunnel).faults =
     ap (λ (k : PortCounts). k.faults) r.2.0.counts ∙ ap (λ (k : PortCounts). risen k.faults) (sym x.sees.1) in
     let fits : n.binds ≡ handed_back (risen (o.port_counts mine.tunnel).faults) o.binds =
@@ -299,15 +309,16 @@ returns-in-Failed-clause-gives g c = λ o n so sn s held wait setup seat at.
     let seen = g.O.Office.seen c.args.office.now in
     let seen_after = g.O.Office.seen c.act.new.office in
     let stand_for = IsHeld most last new in
-    let P : PortSeat → Type 0 = λ y. Gives setup (receive_alone y.tunnel) ReadsWait o n seen seen_after stand_for s c.act.result in
+    let P : PortSeat → Type 0 = λ y. Gives setup (receive_alone y.tunnel) (ReceivesWait y.tunnel) o n seen seen_after stand_for s c.act.result in
     subst P (same_seat old.ports.items c.args.place mine seat here at)
     (closes_give setup mine.tunnel o n seen seen_after stand_for s closing c.act.result closes.0
     (λ said boxes orders closed. (
-      failed_left o s closed.conn,
+      failed_left o s mine.tunnel closed.conn,
       failed_done most holds past counts table after old mid o s mine x n setup seen seen_after boxes orders said stand_for r.2.0.fails closed fits,
       (
-        closed.stands_for (failed_left o s closed.conn).link,
-        failed_told most holds past counts table after old mid o s mine x n closed.conn stays ((closed.stands_for (failed_left o s closed.conn).link).number ∙ number),
+        closed.stands_for (failed_left o s mine.tunnel closed.conn).link o (found_at mine.tunnel failing_port),
+        failed_told most holds past counts table after old mid o s mine x n last new closed.conn stays
+            ((closed.stands_for (failed_left o s mine.tunnel closed.conn).link o (found_at mine.tunnel failing_port)).number ∙ number) e.others items closes.2 so.of_table.ports sn.of_table.ports,
       ),
     )))
 
@@ -338,31 +349,95 @@ returns-in-Failed-clause-still g c =
     let kept = e.kept x.is.port x.is.at in
     let same : kept.0 ≡ r.0 = same_port after mine.key kept.0 r.0 kept.1 r.1 in
     let limit : most r.0 ≡ most x.is.port = ap most (sym same) ∙ kept.2 in
-    let b = behind_call most holds counts after old mid blind mine x.is.port r.0 r.1 limit (ap (λ h. h.number) rest) (ap (λ h. h.bound) rest) in
+    let b = behind_call most holds counts table after old mid blind mine x.is.port r.0 r.1 limit e.others (ap (λ h. h.number) rest) (ap (λ h. h.bound) rest) in
     let closing = failing s x.t in
     let stand = failing_stands most holds past counts table after old mid blind s mine x _ b (ap (λ h. h.ports.items) rest) (r.2.1 k.3) in
     let closes = c.act.ensures.closes closing stand mine.tunnel (wants_close most holds past counts table after old mid blind s mine x) in
-    closes_still (g.O.Office.seen c.args.office.now) (g.O.Office.seen c.act.new.office) (IsHeld most c.act.new.table.table c.act.new.held) closing c.act.result
+    closes_still (g.O.Office.seen c.args.office.now) (g.O.Office.seen c.act.new.office) (IsHeld most c.act.new.table.table c.act.new.held) mine.tunnel closing c.act.result
     (Still most table c.act.new.table.table old c.act.new.held) closes.0
 
-pub returns-in_default-clause-few : goal.returns-in_default-clause-few
-returns-in_default-clause-few g c = let k = c.requires.known in at_most_one g.P.P.Port.most c.args.table.now.table c.args.held.now k.0 k.1
+pub returns-in_default-clause-apart : goal.returns-in_default-clause-apart
+returns-in_default-clause-apart g c = c.requires.known.1.apart
 
-pub returns-in_err-receive-clause-few : goal.returns-in_err-receive-clause-few
-returns-in_err-receive-clause-few g c =
-    let k = c.requires.known in
-    few_stay g.P.P.Port.most c.args.table.now.table c.args.held.now k.0 c.receive.new.self.ports.items k.1
-    (ap (λ h. h.ports.items) c.in_err-receive.ensures.rest)
+pub returns-in_err-receive-clause-apart : goal.returns-in_err-receive-clause-apart
+returns-in_err-receive-clause-apart g c = same_apart c.args.held.now.ports.items c.receive.new.self.ports.items (ap (λ h. h.ports.items) c.in_err-receive.ensures.rest) c.requires.known.1.apart
 
-pub returns-in-Waits-clause-few : goal.returns-in-Waits-clause-few
-returns-in-Waits-clause-few g c =
-    let k = c.requires.known in
-    few_stay g.P.P.Port.most c.args.table.now.table c.args.held.now k.0 c.receive.new.self.ports.items k.1
-    (ap (λ h. h.ports.items) c.in_ok-receive.ensures.rest)
+pub returns-in-Waits-clause-apart : goal.returns-in-Waits-clause-apart
+returns-in-Waits-clause-apart g c = same_apart c.args.held.now.ports.items c.receive.new.self.ports.items (ap (λ h. h.ports.items) c.in_ok-receive.ensures.rest) c.requires.known.1.apart
 
-pub returns-in-Did-clause-few : goal.returns-in-Did-clause-few
-returns-in-Did-clause-few g c =
+pub returns-in-Did-clause-apart : goal.returns-in-Did-clause-apart
+returns-in-Did-clause-apart g c =
+    let old = c.args.held.now in
+    let mid = c.receive.new.self in
+    let new = c.count.new.self in
+    let mine = c.in-Some.seat in
+    let here : slice_get old.ports.items c.args.place ≡ Some mine =
+    ap (λ (xs : List PortSeat). slice_get xs c.args.place) (sym c.deref.ensures.value)
+    ∙ copied_at c.get.result mine c.deref.result.now c.args.place c.in-Some.ensures c.get.ensures.lookup.1 c.get.ensures.lookup.3 in
+    let one : PortSeat = record mine { received = counted mine.received } in
+    let items : mid.ports.items ≡ old.ports.items = ap (λ h. h.ports.items) c.in_ok-receive.ensures.rest in
+    let still : slice_get mid.ports.items c.args.place ≡ Some mine = ap (λ (xs : List PortSeat). slice_get xs c.args.place) items ∙ here in
+    let M : Option PortSeat → Type 0 = λ m. MatchOption m (new.ports.items ≡ mid.ports.items) (λ y. new.ports.items ≡ slice_set mid.ports.items c.args.place (record y { received = counted y.received })) in
+    let seats : new.ports.items ≡ slice_set old.ports.items c.args.place one =
+    subst M still c.count.ensures.seats ∙ ap (λ (xs : List PortSeat). slice_set xs c.args.place one) items in
+    same_apart (slice_set old.ports.items c.args.place one) new.ports.items seats (apart_set old.ports.items c.args.place mine one here refl refl c.requires.known.1.apart)
+
+pub returns-in-Waits-clause-passed : goal.returns-in-Waits-clause-passed
+returns-in-Waits-clause-passed g c = λ quiet seat at.
     let k = c.requires.known in
-    let came = c.receive.new.self.ports.items in
-    few_counted (slice_get came c.args.place) came c.count.new.self.ports.items c.args.place c.count.ensures.seats
-    (few_stay g.P.P.Port.most c.args.table.now.table c.args.held.now k.0 came k.1 (ap (λ h. h.ports.items) c.in_ok-receive.ensures.rest))
+    let s = k.0 in
+    let held = k.1 in
+    let old = c.args.held.now in
+    let table = c.args.table.now.table in
+    let mid = c.receive.new.self in
+    let after = c.receive.new.table.table in
+    let most = g.P.P.Port.most in
+    let holds : g.row.P-P.Denot → Option PortHolds = λ port. None in
+    let counts : g.row.P-P.Denot → PortCounts = λ port. no_port_counts in
+    let mine = c.in-Some.seat in
+    let here : slice_get old.ports.items c.args.place ≡ Some mine =
+    ap (λ (xs : List PortSeat). slice_get xs c.args.place) (sym c.deref.ensures.value)
+    ∙ copied_at c.get.result mine c.deref.result.now c.args.place c.in-Some.ensures c.get.ensures.lookup.1 c.get.ensures.lookup.3 in
+    let e = c.in_ok-receive.ensures in
+    let x : Live most holds counts table old blind s mine = live most holds counts table old blind s mine c.args.place held k.3 (blind_sees table old.ports.items) here in
+    let G : Went → Type 0 = λ w. (now : g.row.P-P.Denot) × (get after mine.key ≡ Some now)
+    × ReceiveGives (receive_calls g.P.P.Port.holds g.P.P.Port.past g.P.P.Port.counts x.is.port now) (IsConn mid.conn) s.conn x.t mine.received (Ok w) in
+    let r = subst G c.in-Waits.is (e.gives s.conn held.conn x.t (tunnel_is most holds counts table old blind s mine x) x.id x.is.port x.is.at) in
+    let P : PortSeat → Type 0 = λ y. AskedInVain g.P.P.Port.holds g.P.P.Port.past g.P.P.Port.counts table after y in
+    subst P (same_seat old.ports.items c.args.place mine seat here at)
+    (record { was = x.is.port; at = x.is.at; now = r.0; at_now = r.1; waits = r.2.0; others = e.others })
+
+pub returns-in-Failed-clause-passed : goal.returns-in-Failed-clause-passed
+returns-in-Failed-clause-passed g c =
+    let k = c.requires.known in
+    let s = k.0 in
+    let held = k.1 in
+    let old = c.args.held.now in
+    let table = c.args.table.now.table in
+    let mid = c.receive.new.self in
+    let after = c.receive.new.table.table in
+    let most = g.P.P.Port.most in
+    let holds : g.row.P-P.Denot → Option PortHolds = λ port. None in
+    let past = g.P.P.Port.past in
+    let counts : g.row.P-P.Denot → PortCounts = λ port. no_port_counts in
+    let mine = c.in-Some.seat in
+    let here : slice_get old.ports.items c.args.place ≡ Some mine =
+    ap (λ (xs : List PortSeat). slice_get xs c.args.place) (sym c.deref.ensures.value)
+    ∙ copied_at c.get.result mine c.deref.result.now c.args.place c.in-Some.ensures c.get.ensures.lookup.1 c.get.ensures.lookup.3 in
+    let e = c.in_ok-receive.ensures in
+    let rest = e.rest in
+    let x : Live most holds counts table old blind s mine =
+    live most holds counts table old blind s mine c.args.place held k.3 (blind_sees table old.ports.items) here in
+    let G : Went → Type 0 = λ w. (now : g.row.P-P.Denot) × (get after mine.key ≡ Some now)
+    × ReceiveGives (receive_calls g.P.P.Port.holds past g.P.P.Port.counts x.is.port now) (IsConn mid.conn) s.conn x.t mine.received (Ok w) in
+    let r = subst G c.in-Failed.is (e.gives s.conn held.conn x.t (tunnel_is most holds counts table old blind s mine x) x.id x.is.port x.is.at) in
+    let kept = e.kept x.is.port x.is.at in
+    let same : kept.0 ≡ r.0 = same_port after mine.key kept.0 r.0 kept.1 r.1 in
+    let limit : most r.0 ≡ most x.is.port = ap most (sym same) ∙ kept.2 in
+    let b = behind_call most holds counts table after old mid blind mine x.is.port r.0 r.1 limit e.others (ap (λ h. h.number) rest) (ap (λ h. h.bound) rest) in
+    let closing = failing s x.t in
+    let stand = failing_stands most holds past counts table after old mid blind s mine x _ b (ap (λ h. h.ports.items) rest) (r.2.1 k.3) in
+    let closes = c.act.ensures.closes closing stand mine.tunnel (wants_close most holds past counts table after old mid blind s mine x) in
+    closes_still (g.O.Office.seen c.args.office.now) (g.O.Office.seen c.act.new.office) (IsHeld most c.act.new.table.table c.act.new.held) mine.tunnel closing c.act.result
+    ((seat : PortSeat) → slice_get old.ports.items c.args.place ≡ Some seat
+    → AskedInVain g.P.P.Port.holds g.P.P.Port.past g.P.P.Port.counts table c.act.new.table.table seat) closes.0

@@ -4,14 +4,15 @@ use Rattle.mq_held.specs.declared.held.PortSeat.{PortSeat}
 use Rattle.mq_held.proofs.Seating.{at_place}
 use Rattle.mq_machine.specs.Acting.{binder, Binder}
 use Rattle.mq_step.proofs.Others.{at_within, call_others}
-use Rattle.mq_step.proofs.Sending.{the_one, only_seat, first_at, same_port, Sends, sent_left, sent_done, sent_stands, sent_told, sent_waits, waits_stands}
+use Rattle.mq_step.proofs.Places.{mine_seat}
+use Rattle.mq_step.proofs.Sending.{the_mine, same_port, Sends, sent_left, sent_done, sent_stands, sent_told, sent_waits, waits_stands}
 use Rattle.mq_step.proofs.send.send.Goals as goal
 
 pub returns-in_default-clause-gives : goal.returns-in_default-clause-gives
 returns-in_default-clause-gives g c = λ o n so sn seen s held k payload want.
     let old = c.args.held.now in
-    let one = the_one g.P.P.Port.most c.args.table.now.table old s c.args.tunnel k payload held want in
-    absurd (c.in_default.ensures 0 one.seat (first_at old.ports.items one.seat one.seats_are) one.of_seat)
+    let one = the_mine g.P.P.Port.most c.args.table.now.table old s c.args.tunnel k payload held want in
+    absurd (c.in_default.ensures one.place one.seat one.at_seat one.of_seat)
 
 pub index-seat-requires : goal.index-seat-requires
 index-seat-requires g c = let x = c.in-Some.ensures in let lt = at_within c.args.held.now.ports.items c.in-Some.place x.0 x.1.at in search (rules, lt)
@@ -23,10 +24,10 @@ returns-in-Some-send-clause-gives g c = λ o n so sn seen s held k payload want 
     let table = c.args.table.now.table in
     let after = c.send.new.table.table in
     let most = g.P.P.Port.most in
-    let one = the_one most table old s c.args.tunnel k payload held want in
+    let one = the_mine most table old s c.args.tunnel k payload held want in
     let x = c.in-Some.ensures in
     let seat : c.index-seat.result.now ≡ one.seat =
-    c.index-seat.ensures ∙ at_place old.ports.items c.in-Some.place x.0 c.index-seat.result.now x.1.at ∙ only_seat old.ports.items one.seat x.0 c.in-Some.place one.seats_are x.1.at in
+    c.index-seat.ensures ∙ at_place old.ports.items c.in-Some.place x.0 c.index-seat.result.now x.1.at ∙ mine_seat most table old.ports.items s.ports c.args.tunnel one held.apart c.in-Some.place x.0 x.1.at x.1.tunnel_is in
     let key : c.index-seat.result.now.key ≡ one.seat.key = ap (λ (y : PortSeat). y.key) seat in
     let at = ap (λ (i : ℕ). get table i) key ∙ one.is.at in
     let le : most one.is.port ≤ 65535 = let e = one.is.limit in let small = one.is.small in omega (arith, e, small) in
@@ -41,6 +42,7 @@ returns-in-Some-send-clause-gives g c = λ o n so sn seen s held k payload want 
       now = r.0;
       at = ap (λ (i : ℕ). get after i) (sym key) ∙ r.1;
       limit = ap most (sym same) ∙ kept.2;
+      others = λ other ne. c.in-Some-send.ensures.others other (λ e. ne (e ∙ key));
       sees = so.ports;
       sees_after = sn.ports;
       seats = ap (λ h. h.ports.items) rest;
@@ -72,10 +74,10 @@ returns-in-None-clause-gives g c = λ o n so sn seen s held k payload want.
     let table = c.args.table.now.table in
     let after = c.send.new.table.table in
     let most = g.P.P.Port.most in
-    let one = the_one most table old s c.args.tunnel k payload held want in
+    let one = the_mine most table old s c.args.tunnel k payload held want in
     let x = c.in-Some.ensures in
     let seat : c.index-seat.result.now ≡ one.seat =
-    c.index-seat.ensures ∙ at_place old.ports.items c.in-Some.place x.0 c.index-seat.result.now x.1.at ∙ only_seat old.ports.items one.seat x.0 c.in-Some.place one.seats_are x.1.at in
+    c.index-seat.ensures ∙ at_place old.ports.items c.in-Some.place x.0 c.index-seat.result.now x.1.at ∙ mine_seat most table old.ports.items s.ports c.args.tunnel one held.apart c.in-Some.place x.0 x.1.at x.1.tunnel_is in
     let key : c.index-seat.result.now.key ≡ one.seat.key = ap (λ (y : PortSeat). y.key) seat in
     let at = ap (λ (i : ℕ). get table i) key ∙ one.is.at in
     let le : most one.is.port ≤ 65535 = let e = one.is.limit in let small = one.is.small in omega (arith, e, small) in
@@ -90,6 +92,7 @@ returns-in-None-clause-gives g c = λ o n so sn seen s held k payload want.
       now = r.0;
       at = ap (λ (i : ℕ). get after i) (sym key) ∙ r.1;
       limit = ap most (sym same) ∙ kept.2;
+      others = λ other ne. c.in-None.ensures.others other (λ e. ne (e ∙ key));
       sees = so.ports;
       sees_after = sn.ports;
       seats = ap (λ h. h.ports.items) rest;

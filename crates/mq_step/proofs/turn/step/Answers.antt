@@ -11,8 +11,9 @@ use Rattle.mq_step.specs.Gives.{Anything}
 use Rattle.mq_step.proofs.Others.{keeps_both}
 use Rattle.mq_step.proofs.Trying.{mid}
 use Rattle.mq_step.proofs.Moving.{gives_err}
-use Rattle.mq_step.proofs.Passing.{at_most_one}
-use Rattle.mq_step.proofs.Stepping.{silent, sight_of, sight_sees, want_waits, want_sight, quiet_gives, act_gives, linked, linked_held, known_then}
+use Rattle.mq_step.proofs.Standing.{same_apart}
+use Rattle.mq_step.proofs.Seeing.{sight_of, sight_sees}
+use Rattle.mq_step.proofs.Stepping.{silent, want_waits, want_sight, quiet_gives, act_gives, linked, linked_held, known_then}
 use Rattle.mq_step.proofs.Still.{Acts, quiet_stands, still_then}
 use Rattle.mq_step.proofs.turn.step.Goals as goal
 
@@ -21,15 +22,14 @@ try_frame-requires-clause-known g c =
     let k = c.requires.known in
     let old = c.args.held.now in
     let new = c.act.new.held in
-    let few = at_most_one g.P.P.Port.most c.args.table.now.table old k.0 k.1 in
-    let N : List PortSeat → Type 0 = λ xs. length xs ≤ 1 in
+    let apart = k.1.apart in
     let stays = c.in_ok-stepped.ensures.stays c.in-Quiet.is in
     let o = sight_of g.P.P.Port.holds g.P.P.Port.counts (binder g.P.Ports.holds g.P.Ports.faults c.args.table.now.ports) c.args.table.now.table old.ports.items silent in
     let m = sight_of g.P.P.Port.holds g.P.P.Port.counts (binder g.P.Ports.holds g.P.Ports.faults c.act.new.table.ports) c.act.new.table.table new.ports.items silent in
     let A : Stepped → Type 0 = λ r. ActGives o m (g.O.Office.seen c.args.office.now) (g.O.Office.seen c.act.new.office) (IsHeld g.P.P.Port.most c.act.new.table.table new) k.0 (Ok r) in
     let gives = subst A c.in-Quiet.is (c.in_ok-stepped.ensures.gives o m
-    (sight_sees g.P.P.Port.holds g.P.P.Port.counts (binder g.P.Ports.holds g.P.Ports.faults c.args.table.now.ports) c.args.table.now.table old.ports.items silent few)
-    (sight_sees g.P.P.Port.holds g.P.P.Port.counts (binder g.P.Ports.holds g.P.Ports.faults c.act.new.table.ports) c.act.new.table.table new.ports.items silent (subst N (sym stays) few)) k.0 k.1) in (
+    (sight_sees g.P.P.Port.holds g.P.P.Port.counts (binder g.P.Ports.holds g.P.Ports.faults c.args.table.now.ports) c.args.table.now.table old.ports.items silent apart)
+    (sight_sees g.P.P.Port.holds g.P.P.Port.counts (binder g.P.Ports.holds g.P.Ports.faults c.act.new.table.ports) c.act.new.table.table new.ports.items silent (same_apart old.ports.items new.ports.items stays apart)) k.0 k.1) in (
       k.0,
       gives.1,
       known_then (g.O.Office.seen c.args.office.now) (g.O.Office.seen c.act.new.office) (g.O.Office.seen c.args.office.now).actor (g.O.Office.seen c.act.new.office).actor k.0 k.2 gives.0.seen_is c.act.ensures.actor,
@@ -42,12 +42,11 @@ returns-in-Quiet-clause-gives g c = λ o n so sn s held.
     let new = c.act.new.held in
     let seen = g.O.Office.seen c.args.office.now in
     let seen_mid = g.O.Office.seen c.act.new.office in
-    let few = at_most_one g.P.P.Port.most c.args.table.now.table old s held in
-    let N : List PortSeat → Type 0 = λ xs. length xs ≤ 1 in
+    let apart = held.apart in
     let e = c.in_ok-stepped.ensures in
     let rest = e.rest in
     let m = sight_of g.P.P.Port.holds g.P.P.Port.counts (binder g.P.Ports.holds g.P.Ports.faults c.act.new.table.ports) c.act.new.table.table new.ports.items silent in
-    let sm = sight_sees g.P.P.Port.holds g.P.P.Port.counts (binder g.P.Ports.holds g.P.Ports.faults c.act.new.table.ports) c.act.new.table.table new.ports.items silent (subst N (sym (e.stays c.in-Quiet.is)) few) in
+    let sm = sight_sees g.P.P.Port.holds g.P.P.Port.counts (binder g.P.Ports.holds g.P.Ports.faults c.act.new.table.ports) c.act.new.table.table new.ports.items silent (same_apart old.ports.items new.ports.items (e.stays c.in-Quiet.is) apart) in
     let A : Stepped → Type 0 = λ r. ActGives o m seen seen_mid (IsHeld g.P.P.Port.most c.act.new.table.table new) s (Ok r) in
     let gives = subst A c.in-Quiet.is (e.gives o m so.of_table sm s held) in
     let sees = want_sight g.L.Link.holds g.L.Link.counts g.P.P.Port.most g.P.P.Port.holds g.P.P.Port.counts (binder g.P.Ports.holds g.P.Ports.faults c.args.table.now.ports) (binder g.P.Ports.holds g.P.Ports.faults c.act.new.table.ports) c.args.table.now.table c.act.new.table.table
@@ -106,7 +105,7 @@ returns-in_default g c = record {
   rooms = search rules;
   stays = λ is. absurd (c.in_default.not-Quiet is);
   still = λ is. absurd (c.in_default.not-Quiet is);
-  few = c.in_ok-stepped.ensures.few;
+  apart = c.in_ok-stepped.ensures.apart;
   calm = λ is. absurd (c.in_default.not-Quiet is);
   actor = search rules;
   others = search rules;

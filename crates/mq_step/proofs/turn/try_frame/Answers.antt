@@ -11,7 +11,7 @@ use Rattle.mq_step.proofs.Others.{keeps_from}
 use Rattle.mq_step.proofs.Moving.{Moves, moved_held, gives_err}
 use Rattle.mq_step.proofs.Stepping.{link_rest, same_sight, frame_starves, framed_gives, frame_waits}
 use Rattle.mq_step.proofs.Still.{Still, still_from}
-use Rattle.mq_step.proofs.Few.{few_stay}
+use Rattle.mq_step.proofs.Standing.{same_apart}
 use Rattle.mq_step.proofs.turn.try_frame.Goals as goal
 
 pub returns-in_err-note-clause-gives : goal.returns-in_err-note-clause-gives
@@ -66,14 +66,10 @@ returns-in-None-clause-still g c =
     moved_held most table old new s held wait (link_rest old new e.rest) none.1 in
     still_from most table c.try_write.new.table.table old new c.try_write.new.held c.try_write.result moves c.try_write.ensures.still
 
-pub returns-in_err-note-clause-few : goal.returns-in_err-note-clause-few
-returns-in_err-note-clause-few g c =
-    let k = c.requires.known in
-    few_stay g.P.P.Port.most c.args.table.now.table c.args.held.now k.0 c.frame.new.self.ports.items k.1
-    (ap (λ h. h.ports.items) c.in_err-note.ensures.rest)
+pub returns-in_err-note-clause-apart : goal.returns-in_err-note-clause-apart
+returns-in_err-note-clause-apart g c =
+    same_apart c.args.held.now.ports.items c.frame.new.self.ports.items (ap (λ h. h.ports.items) c.in_err-note.ensures.rest) c.requires.known.1.apart
 
-pub returns-in-Some-clause-few : goal.returns-in-Some-clause-few
-returns-in-Some-clause-few g c =
-    let k = c.requires.known in
-    few_stay g.P.P.Port.most c.args.table.now.table c.args.held.now k.0 c.frame.new.self.ports.items k.1
-    (ap (λ h. h.ports.items) c.in_ok-note.ensures.rest)
+pub returns-in-Some-clause-apart : goal.returns-in-Some-clause-apart
+returns-in-Some-clause-apart g c =
+    same_apart c.args.held.now.ports.items c.frame.new.self.ports.items (ap (λ h. h.ports.items) c.in_ok-note.ensures.rest) c.requires.known.1.apart

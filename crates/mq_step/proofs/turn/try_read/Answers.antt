@@ -12,7 +12,7 @@ use Rattle.mq_step.proofs.Pieces.{read_holds}
 use Rattle.mq_step.proofs.Moving.{Moves, fallen_held, moved_held, moved_known, moved_sight, moved_table, gives_err}
 use Rattle.mq_step.proofs.Incoming.{read_starves, read_gives, read_fails_gives, read_waits_gives}
 use Rattle.mq_step.proofs.Still.{Still, still_from, fallen_still}
-use Rattle.mq_step.proofs.Few.{few_stay}
+use Rattle.mq_step.proofs.Standing.{same_apart}
 use Rattle.mq_step.proofs.turn.try_read.Goals as goal
 
 pub returns-in_err-note-clause-gives : goal.returns-in_err-note-clause-gives
@@ -124,14 +124,10 @@ returns-in-Waits-clause-still g c =
     moved_held most table old new s held wait e.rest gives.1 in
     still_from most table c.receive.new.table.table old new c.receive.new.held c.receive.result moves c.receive.ensures.still
 
-pub returns-in_err-note-clause-few : goal.returns-in_err-note-clause-few
-returns-in_err-note-clause-few g c =
-    let k = c.requires.known in
-    few_stay g.P.P.Port.most c.args.table.now.table c.args.held.now k.0 c.read.new.self.ports.items k.1
-    (ap (λ h. h.ports.items) c.in_err-note.ensures.rest)
+pub returns-in_err-note-clause-apart : goal.returns-in_err-note-clause-apart
+returns-in_err-note-clause-apart g c =
+    same_apart c.args.held.now.ports.items c.read.new.self.ports.items (ap (λ h. h.ports.items) c.in_err-note.ensures.rest) c.requires.known.1.apart
 
-pub returns-in-Did-clause-few : goal.returns-in-Did-clause-few
-returns-in-Did-clause-few g c =
-    let k = c.requires.known in
-    few_stay g.P.P.Port.most c.args.table.now.table c.args.held.now k.0 c.read.new.self.ports.items k.1
-    (ap (λ h. h.ports.items) c.in_ok-note.ensures.rest)
+pub returns-in-Did-clause-apart : goal.returns-in-Did-clause-apart
+returns-in-Did-clause-apart g c =
+    same_apart c.args.held.now.ports.items c.read.new.self.ports.items (ap (λ h. h.ports.items) c.in_ok-note.ensures.rest) c.requires.known.1.apart

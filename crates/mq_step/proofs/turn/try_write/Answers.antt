@@ -13,7 +13,7 @@ use Rattle.mq_step.proofs.Failing.{fallen}
 use Rattle.mq_step.proofs.Moving.{Moves, fallen_held, moved_held, moved_known, moved_sight, moved_table}
 use Rattle.mq_step.proofs.Moving.{gives_err, write_starves, wrote_gives, write_fails_gives, write_waits_gives}
 use Rattle.mq_step.proofs.Still.{Still, still_from, fallen_still}
-use Rattle.mq_step.proofs.Few.{few_stay}
+use Rattle.mq_step.proofs.Standing.{same_apart}
 use Rattle.mq_step.proofs.turn.try_write.Goals as goal
 
 pub returns-in_err-note-clause-gives : goal.returns-in_err-note-clause-gives
@@ -111,14 +111,10 @@ returns-in-Waits-clause-still g c =
     moved_held most table old new s held wait e.rest gives.1 in
     still_from most table c.try_read.new.table.table old new c.try_read.new.held c.try_read.result moves c.try_read.ensures.still
 
-pub returns-in_err-note-clause-few : goal.returns-in_err-note-clause-few
-returns-in_err-note-clause-few g c =
-    let k = c.requires.known in
-    few_stay g.P.P.Port.most c.args.table.now.table c.args.held.now k.0 c.write.new.self.ports.items k.1
-    (ap (λ h. h.ports.items) c.in_err-note.ensures.rest)
+pub returns-in_err-note-clause-apart : goal.returns-in_err-note-clause-apart
+returns-in_err-note-clause-apart g c =
+    same_apart c.args.held.now.ports.items c.write.new.self.ports.items (ap (λ h. h.ports.items) c.in_err-note.ensures.rest) c.requires.known.1.apart
 
-pub returns-in-Did-clause-few : goal.returns-in-Did-clause-few
-returns-in-Did-clause-few g c =
-    let k = c.requires.known in
-    few_stay g.P.P.Port.most c.args.table.now.table c.args.held.now k.0 c.write.new.self.ports.items k.1
-    (ap (λ h. h.ports.items) c.in_ok-note.ensures.rest)
+pub returns-in-Did-clause-apart : goal.returns-in-Did-clause-apart
+returns-in-Did-clause-apart g c =
+    same_apart c.args.held.now.ports.items c.write.new.self.ports.items (ap (λ h. h.ports.items) c.in_ok-note.ensures.rest) c.requires.known.1.apart

@@ -4,7 +4,6 @@ use Rattle.mq_machine.specs.Want.{Want, Nothing, Say, Bind, Ask, Judge, Push, Se
 use Rattle.mq_machine.specs.Steps.{is_nothing}
 use Rattle.mq_step.proofs.Filling.{none_changed}
 use Rattle.mq_step.proofs.Binding.{Stays, quiet}
-use Rattle.mq_step.proofs.Passing.{at_most_one}
 use Rattle.mq_step.proofs.want.act.Goals as goal
 
 -- where it wants something is false, it wants nothing
@@ -33,5 +32,5 @@ returns-then-not-wants-clause-closes g c = λ s held tunnel closes.
     let wanted = nothing_left (want_of s.conn) (sym c.if-not-wants.true ∙ c.wants.ensures s.conn held.conn) in
     absurd (let e = sym wanted ∙ closes in cc)
 
-pub returns-then-not-wants-clause-few : goal.returns-then-not-wants-clause-few
-returns-then-not-wants-clause-few g c = let k = c.requires.known in at_most_one g.P.P.Port.most c.args.table.now.table c.args.held.now k.0 k.1
+pub returns-then-not-wants-clause-apart : goal.returns-then-not-wants-clause-apart
+returns-then-not-wants-clause-apart g c = c.requires.known.1.apart

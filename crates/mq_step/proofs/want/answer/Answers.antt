@@ -7,12 +7,10 @@ use Rattle.mq_conn.specs.declared.want.Want.{Want}
 use Rattle.mq_conn.specs.Wants.{IsWant}
 use Rattle.mq_step.specs.Holds.{IsHeld}
 use Rattle.mq_step.proofs.Filling.{none_changed}
-use Rattle.mq_step.proofs.Alone.{said_alive}
+use Rattle.mq_step.proofs.Cores.{said_alive}
 use Rattle.mq_step.proofs.Saying.{say_some}
-use Rattle.mq_step.proofs.Standing.{bound_none}
+use Rattle.mq_step.proofs.Standing.{same_apart, bound_none}
 use Rattle.mq_step.proofs.Binding.{Stays, held_back, sinks_alone, bind_sinks, says, quiet, ends, err_gives, bind_comes}
-use Rattle.mq_step.proofs.Passing.{at_most_one}
-use Rattle.mq_step.proofs.Few.{few_stay}
 use Rattle.mq_step.proofs.want.answer.Goals as goal
 
 pub returns-in-Nothing-clause-gives : goal.returns-in-Nothing-clause-gives
@@ -126,32 +124,23 @@ returns-in-Ask-clause-closes g c = λ s held want tunnel closes.
     let same : Ask c.in-Ask.call ≡ Ask (Close tunnel) = sym wanted ∙ closes in
     c.ask.ensures.closes s held wanted tunnel cc
 
-pub returns-in-Nothing-clause-few : goal.returns-in-Nothing-clause-few
-returns-in-Nothing-clause-few g c = let k = c.requires.known in at_most_one g.P.P.Port.most c.args.table.now.table c.args.held.now k.0 k.1
+pub returns-in-Nothing-clause-apart : goal.returns-in-Nothing-clause-apart
+returns-in-Nothing-clause-apart g c = c.requires.known.1.apart
 
-pub returns-in_err-note-in-Say-clause-few : goal.returns-in_err-note-in-Say-clause-few
-returns-in_err-note-in-Say-clause-few g c = let k = c.requires.known in at_most_one g.P.P.Port.most c.args.table.now.table c.args.held.now k.0 k.1
+pub returns-in_err-note-in-Say-clause-apart : goal.returns-in_err-note-in-Say-clause-apart
+returns-in_err-note-in-Say-clause-apart g c = c.requires.known.1.apart
 
-pub returns-in_ok-note-in-Say-clause-few : goal.returns-in_ok-note-in-Say-clause-few
-returns-in_ok-note-in-Say-clause-few g c = let k = c.requires.known in at_most_one g.P.P.Port.most c.args.table.now.table c.args.held.now k.0 k.1
+pub returns-in_ok-note-in-Say-clause-apart : goal.returns-in_ok-note-in-Say-clause-apart
+returns-in_ok-note-in-Say-clause-apart g c = c.requires.known.1.apart
 
-pub returns-in_err-note-in-Bind-clause-few : goal.returns-in_err-note-in-Bind-clause-few
-returns-in_err-note-in-Bind-clause-few g c =
-    let k = c.requires.known in
-    few_stay g.P.P.Port.most c.args.table.now.table c.args.held.now k.0 c.bind.new.held.ports.items k.1
-    c.in_err-note-in-Bind.ensures.seats
+pub returns-in_err-note-in-Bind-clause-apart : goal.returns-in_err-note-in-Bind-clause-apart
+returns-in_err-note-in-Bind-clause-apart g c = same_apart c.args.held.now.ports.items c.bind.new.held.ports.items c.in_err-note-in-Bind.ensures.seats c.requires.known.1.apart
 
-pub returns-in_ok-note-in-Bind-clause-few : goal.returns-in_ok-note-in-Bind-clause-few
-returns-in_ok-note-in-Bind-clause-few g c =
-    let k = c.requires.known in
-    few_stay g.P.P.Port.most c.args.table.now.table c.args.held.now k.0 c.bind.new.held.ports.items k.1
-    c.in_ok-note-in-Bind.ensures.seats
+pub returns-in_ok-note-in-Bind-clause-apart : goal.returns-in_ok-note-in-Bind-clause-apart
+returns-in_ok-note-in-Bind-clause-apart g c = same_apart c.args.held.now.ports.items c.bind.new.held.ports.items c.in_ok-note-in-Bind.ensures.seats c.requires.known.1.apart
 
-pub returns-in-SendUdp-clause-few : goal.returns-in-SendUdp-clause-few
-returns-in-SendUdp-clause-few g c =
-    let k = c.requires.known in
-    few_stay g.P.P.Port.most c.args.table.now.table c.args.held.now k.0 c.send.new.held.ports.items k.1
-    (ap (λ h. h.ports.items) c.send.ensures.rest)
+pub returns-in-SendUdp-clause-apart : goal.returns-in-SendUdp-clause-apart
+returns-in-SendUdp-clause-apart g c = same_apart c.args.held.now.ports.items c.send.new.held.ports.items (ap (λ h. h.ports.items) c.send.ensures.rest) c.requires.known.1.apart
 
-pub returns-in-Ended-clause-few : goal.returns-in-Ended-clause-few
-returns-in-Ended-clause-few g c = let k = c.requires.known in at_most_one g.P.P.Port.most c.args.table.now.table c.args.held.now k.0 k.1
+pub returns-in-Ended-clause-apart : goal.returns-in-Ended-clause-apart
+returns-in-Ended-clause-apart g c = c.requires.known.1.apart

@@ -1,10 +1,15 @@
--- What a connection of HTTP/1.1 wants, whose tunnel is for UDP and its only one.
-use Rattle.std.proofs.Common.{◌≡◌, ◌⊎◌, ℕ, ◌==◌, ◌+◌, cond, Bool, true, false, inl, inr, List, [], ◌∷◌, drop, Option, Some, None, refl, sym, ap, ◌∙◌, subst}
+-- What is known of a connection whose core stands for it. Nothing else above the core looks at how it stands: these facts hold
+-- of a connection with any number of tunnels, too.
+use Rattle.std.proofs.Common.{◌≡◌, ◌⊎◌, ℕ, ◌==◌, ◌+◌, cond, Bool, true, false, inl, inr, List, [], ◌∷◌, drop, All, Option, Some, None, refl, sym, ap, ◌∙◌, subst}
 use Rattle.std.specs.Prelude.{find}
 use Rattle.std.specs.Option.{is_some}
+use Rattle.std.proofs.lemmas.Bool.{eq-eqb}
+use Rattle.std.proofs.lemmas.List.Elements.{All-cons, All-nil}
+use Rattle.mq_addr.specs.declared.kind.Kind.TheVariants as kind
 use Rattle.mq_talk.specs.declared.book.Call.{Call}
 use Rattle.mq_talk.specs.declared.book.Call.TheVariants as call
 use Rattle.mq_talk.specs.declared.goal.Goal.{Goal}
+use Rattle.mq_talk.specs.declared.goal.Goal.TheVariants as goal
 use Rattle.mq_talk.specs.declared.note.End.{End}
 use Rattle.mq_machine.specs.declared.act.Act.TheVariants as act
 use Rattle.mq_machine.specs.declared.act.StreamAct.{StreamAct}
@@ -15,14 +20,14 @@ use Rattle.mq_machine.specs.Settle.{gives_up, passing, settled}
 use Rattle.mq_machine.specs.Laws.{IsPlain}
 use Rattle.mq_machine.proofs.Settling.{as_it_is}
 use Rattle.mq_conn.proofs.Fronts.{plain_front}
-use Rattle.mq_machine.specs.State.{Conn, Tunnel, Front, Head, OverHttp1, OverHttp2, owed, tunnel_on}
+use Rattle.mq_machine.specs.State.{Conn, Tunnel, Front, Head, OverHttp1, OverHttp2, owed, kind_of, tunnel_of, tunnel_on}
 use Rattle.mq_machine.specs.Want.{Want, Nothing, Say, Bind, Ask, Judge, Push, Send, Over, want_of, want_by, ending_want, over_want, due_want, tunnel_want}
 use Rattle.mq_machine.specs.Steps.{is_nothing, can_go_on, wrote}
 use Rattle.mq_conn.specs.declared.conn.Conn.{Conn as Core}
 use Rattle.mq_conn.specs.declared.conn.First.{First}
 use Rattle.mq_conn.specs.declared.conn.First.TheVariants as first
 use Rattle.mq_conn.specs.declared.conn.Tunnel.{Tunnel as Live}
-use Rattle.mq_conn.specs.Conns.{IsConn, IsDue, IsAsked, IsUdp, Follows, FollowsFirst, behind, tunnels_of, tunnel_is}
+use Rattle.mq_conn.specs.Conns.{IsConn, IsDue, IsAsked, IsUdp, IsUdpTunnel, Follows, FollowsFirst, behind, tunnels_of, tunnel_is}
 use Rattle.mq_step.proofs.Keeping.{NoOpens, nothing_due, no_opens_nil, no_opens_cons}
 
 -- ---- what is due
@@ -199,8 +204,8 @@ one_of : (o : Option Live) (s : Conn) → s.tunnels ≡ tunnels_of o → (s.tunn
 one_of None s is = inl is
 one_of (Some t) s is = inr (tunnel_is t, is)
 
--- it has one at most
-pub one_tunnel : (c : Core) (s : Conn) → IsConn c s → (s.tunnels ≡ []) ⊎ ((t : Tunnel) × (s.tunnels ≡ t ∷ []))
+-- over HTTP/1.1 it has one at most
+one_tunnel : (c : Core) (s : Conn) → IsConn c s → (s.tunnels ≡ []) ⊎ ((t : Tunnel) × (s.tunnels ≡ t ∷ []))
 one_tunnel c s is = one_of c.tunnel s (stands_so c s is).tunnels
 
 none_live : (o : Option Live) (s : Conn) → s.tunnels ≡ tunnels_of o → is_some o ≡ false → s.tunnels ≡ []
@@ -261,14 +266,25 @@ shape_opens : (o : Option Live) (s : Conn) (e : Option End) (conn id actor : ℕ
 shape_opens o s None conn id actor goal ts ending h w = first_opens o s s.due conn id actor goal ts ending h w
 shape_opens o s (Some why) conn id actor goal ts ending h w = absurd (ending_opens s why s.tunnels conn id actor goal w)
 
-pub open_alone : (c : Core) (s : Conn) (conn id actor : ℕ) (goal : Goal) → IsConn c s → want_of s ≡ Ask (call.Open conn id actor goal)
-    → (s.tunnels ≡ []) × (s.ending ≡ None) × (conn ≡ s.number) × (actor ≡ s.actor)
-open_alone c s conn id actor goal is w = let h = stands_so c s is in shape_opens c.tunnel s s.ending conn id actor goal h.tunnels refl h.shape w
+-- a connection that opens a tunnel isn't ending, and names itself and its actor
+pub open_alive : (c : Core) (s : Conn) (conn id actor : ℕ) (goal : Goal) → IsConn c s → want_of s ≡ Ask (call.Open conn id actor goal)
+    → (s.ending ≡ None) × (conn ≡ s.number) × (actor ≡ s.actor)
+open_alive c s conn id actor goal is w =
+    let h = stands_so c s is in
+    let a = shape_opens c.tunnel s s.ending conn id actor goal h.tunnels refl h.shape w in
+    (a.1, a.2, a.3)
 
 -- ---- a close
 
 abbrev HasTunnel : Conn → ℕ → Type 0
 HasTunnel s tunnel = (t : Tunnel) × (s.tunnels ≡ t ∷ []) × (t.id ≡ tunnel)
+
+-- the look-up of its number finds it
+looked_up : (s : Conn) (tunnel : ℕ) → HasTunnel s tunnel → (t : Tunnel) × (tunnel_of s tunnel ≡ Some t)
+looked_up s tunnel (t, only, same) = (
+  t,
+  ap (λ (ts : List Tunnel). find (λ (x : Tunnel). x.id == tunnel) ts) only ∙ ap {B = Option Tunnel} (λ (b : Bool). cond b (Some t) None) (eq-eqb t.id tunnel same),
+)
 
 -- the tunnel that was found is its only one
 found : (o : Option Live) (s : Conn) (on : ℕ) (u : Tunnel) (tunnel : ℕ) → s.tunnels ≡ tunnels_of o → is_some o ≡ true → tunnel_on s on ≡ Some u → u.id ≡ tunnel → HasTunnel s tunnel
@@ -304,8 +320,9 @@ shape_closes : (o : Option Live) (s : Conn) (e : Option End) (tunnel : ℕ) → 
 shape_closes o s None tunnel ts h w = first_closes o s s.due tunnel ts h w
 shape_closes o s (Some why) tunnel ts h w = ending_closes o s why tunnel ts (ap (λ (x : List Tunnel). ending_want s why x) (sym ts) ∙ w)
 
-pub close_alone : (c : Core) (s : Conn) (tunnel : ℕ) → IsConn c s → want_of s ≡ Ask (call.Close tunnel) → (t : Tunnel) × (s.tunnels ≡ t ∷ []) × (t.id ≡ tunnel)
-close_alone c s tunnel is w = let h = stands_so c s is in shape_closes c.tunnel s s.ending tunnel h.tunnels h.shape w
+-- a tunnel that it closes is one of its own
+pub close_live : (c : Core) (s : Conn) (tunnel : ℕ) → IsConn c s → want_of s ≡ Ask (call.Close tunnel) → (t : Tunnel) × (tunnel_of s tunnel ≡ Some t)
+close_live c s tunnel is w = let h = stands_so c s is in looked_up s tunnel (shape_closes c.tunnel s s.ending tunnel h.tunnels h.shape w)
 
 -- ---- a send
 
@@ -360,9 +377,14 @@ shape_sends : (o : Option Live) (s : Conn) (e : Option End) (tunnel n : ℕ) (pa
 shape_sends o s None tunnel n payload ts ending h w = let r = first_sends o s s.due tunnel n payload ts h w in (r.0, r.1, r.2, ending)
 shape_sends o s (Some why) tunnel n payload ts ending h w = absurd (ends_not s why (Send tunnel n payload) w)
 
-pub send_alone : (c : Core) (s : Conn) (tunnel n : ℕ) (payload : List ℕ) → IsConn c s → want_of s ≡ Send tunnel n payload
-    → (t : Tunnel) × (s.tunnels ≡ t ∷ []) × (t.id ≡ tunnel) × (s.ending ≡ None)
-send_alone c s tunnel n payload is w = let h = stands_so c s is in shape_sends c.tunnel s s.ending tunnel n payload h.tunnels refl h.shape w
+-- and so is one to whose port it sends, which it does only while it isn't ending
+pub send_live : (c : Core) (s : Conn) (tunnel n : ℕ) (payload : List ℕ) → IsConn c s → want_of s ≡ Send tunnel n payload
+    → (t : Tunnel) × (tunnel_of s tunnel ≡ Some t) × (s.ending ≡ None)
+send_live c s tunnel n payload is w =
+    let h = stands_so c s is in
+    let a = shape_sends c.tunnel s s.ending tunnel n payload h.tunnels refl h.shape w in
+    let at = looked_up s tunnel (a.0, a.1, a.2) in
+    (at.0, at.1, a.3)
 
 -- ---- what it does while it isn't ending
 
@@ -373,33 +395,12 @@ say_by s (Some why) ending w = absurd (ends_not s why Say w)
 pub said_alive : (c : Core) (s : Conn) → IsConn c s → want_of s ≡ Say → s.ending ≡ None
 said_alive c s is w = say_by s s.ending refl w
 
-tunnel_binds : (o : Option Tunnel) (a : StreamAct) (id : ℕ) (goal : Goal) → IsAsked a → tunnel_want o a ≡ Bind id goal → ⊥
-tunnel_binds None a id goal h w = cc
-tunnel_binds (Some t) (stream.Payload n payload) id goal h w = cc
-tunnel_binds (Some t) (stream.Packet n packet flow) id goal h w = h
-tunnel_binds (Some t) (stream.Push n to packet) id goal h w = h
-tunnel_binds (Some t) (stream.Drop n cause) id goal h w = cc
-tunnel_binds (Some t) (stream.Assign asked) id goal h w = h
-tunnel_binds (Some t) (stream.Advertise ranges) id goal h w = h
-tunnel_binds (Some t) (stream.Close why) id goal h w = cc
+bind_by : (s : Conn) (e : Option End) (id : ℕ) (goal : Goal) → s.ending ≡ e → want_by s e ≡ Bind id goal → s.ending ≡ None
+bind_by s None id goal ending w = ending
+bind_by s (Some why) id goal ending w = absurd (ends_not s why (Bind id goal) w)
 
-first_binds : (o : Option Live) (s : Conn) (ds : List Due) (id : ℕ) (goal : Goal) → s.tunnels ≡ tunnels_of o → IsFirst (is_some o) ds → due_want s ds ≡ Bind id goal → s.tunnels ≡ []
-first_binds o s [] id goal ts h w = absurd cc
-first_binds o s (due.Do (act.Bind on g) ∷ rest) id goal ts h w = none_live o s ts h.0
-first_binds o s (due.Do (act.Open on g) ∷ rest) id goal ts h w = absurd cc
-first_binds o s (due.Do (act.Refuse on status rule) ∷ rest) id goal ts h w = absurd cc
-first_binds o s (due.Do (act.Reset on code) ∷ rest) id goal ts h w = absurd h
-first_binds o s (due.Do (act.OfStream on a) ∷ rest) id goal ts h w = absurd (tunnel_binds (tunnel_on s on) a id goal h.1 w)
-first_binds o s (due.Spend on size ∷ rest) id goal ts h w = absurd h
-first_binds o s (due.Fault code ∷ rest) id goal ts h w = absurd h
-
-shape_binds : (o : Option Live) (s : Conn) (e : Option End) (id : ℕ) (goal : Goal) → s.tunnels ≡ tunnels_of o → s.ending ≡ e → IsShape e (is_some o) s.due → want_by s e ≡ Bind id goal
-    → (s.ending ≡ None) × (s.tunnels ≡ [])
-shape_binds o s None id goal ts ending h w = (ending, first_binds o s s.due id goal ts h w)
-shape_binds o s (Some why) id goal ts ending h w = absurd (ends_not s why (Bind id goal) w)
-
-pub bind_alive : (c : Core) (s : Conn) (id : ℕ) (goal : Goal) → IsConn c s → want_of s ≡ Bind id goal → (s.ending ≡ None) × (s.tunnels ≡ [])
-bind_alive c s id goal is w = let h = stands_so c s is in shape_binds c.tunnel s s.ending id goal h.tunnels refl h.shape w
+pub bind_alive : (c : Core) (s : Conn) (id : ℕ) (goal : Goal) → IsConn c s → want_of s ≡ Bind id goal → s.ending ≡ None
+bind_alive c s id goal is w = bind_by s s.ending id goal refl w
 
 -- ---- a failure
 
@@ -488,8 +489,68 @@ shape_settles None live ds x h = first_settles live ds x h
 shape_settles (Some why) live ds x h = ap (λ (y : List Due). passing y x) h ∙ ap (λ (y : List Due). record x { due = y }) (sym h)
 
 -- a write gives bytes to the link, and changes nothing else
-pub wrote_is : (c : Core) (s : Conn) (count : ℕ) → IsConn c s → (wrote s count).1 ≡ record s { given = s.given + count }
+wrote_is : (c : Core) (s : Conn) (count : ℕ) → IsConn c s → (wrote s count).1 ≡ record s { given = s.given + count }
 wrote_is c s count is =
     let x : Conn = record s { given = s.given + count } in
     let P : Conn → Type 0 = λ y. IsPlain y.front in
     ap settled (shape_settles s.ending (is_some c.tunnel) s.due x (stands_so c s is).shape) ∙ as_it_is s.front x (subst P (sym is.is) (plain_front c s is))
+
+-- What a write leaves. In HTTP/2 it may put a WINDOW_UPDATE.
+pub record Wrote (s t : Conn) : Type 0 where
+  pub number : t.number ≡ s.number
+  pub actor : t.actor ≡ s.actor
+  pub streams : t.streams ≡ s.streams
+  pub dues : t.due ≡ s.due
+  pub is_finished : t.is_finished ≡ s.is_finished
+  pub ending : t.ending ≡ s.ending
+  pub tunnels : t.tunnels ≡ s.tunnels
+  pub next_tunnel : t.next_tunnel ≡ s.next_tunnel
+
+pub wrote_leaves : (c : Core) (s : Conn) (count : ℕ) → IsConn c s → Wrote s (wrote s count).1
+wrote_leaves c s count is =
+    let P : Conn → Type 0 = λ t. Wrote s t in
+    subst P (sym (wrote_is c s count is)) (record {
+      number = refl;
+      actor = refl;
+      streams = refl;
+      dues = refl;
+      is_finished = refl;
+      ending = refl;
+      tunnels = refl;
+      next_tunnel = refl;
+    })
+
+-- ---- its tunnels
+
+-- each has its stream for itself
+pub own_stream : (c : Core) (s : Conn) (id : ℕ) (t : Tunnel) → IsConn c s → tunnel_of s id ≡ Some t → tunnel_on s t.stream ≡ Some t
+own_stream c s id t is at = by_one (one_tunnel c s is) where
+  test : Tunnel → Bool
+  test x = x.id == id
+
+  by_one : (s.tunnels ≡ []) ⊎ ((u : Tunnel) × (s.tunnels ≡ u ∷ [])) → tunnel_on s t.stream ≡ Some t
+  by_one (inl none) = let e : find test [] ≡ Some t = ap (λ (ts : List Tunnel). find test ts) (sym none) ∙ at in absurd cc
+  by_one (inr (u, only)) =
+      let same : t ≡ u = find_one test u t (ap (λ (ts : List Tunnel). find test ts) (sym only) ∙ at) in
+      ap (λ (ts : List Tunnel). find (λ (x : Tunnel). x.stream == t.stream) ts) (only ∙ ap (λ (x : Tunnel). x ∷ []) (sym same))
+      ∙ ap {B = Option Tunnel} (λ (b : Bool). cond b (Some t) None) (eq-eqb t.stream t.stream refl)
+
+live_udp : (o : Option Live) → IsUdpTunnel o → All (λ (t : Tunnel). kind_of t.goal ≡ kind.Udp) (tunnels_of o)
+live_udp None udp = All-nil (λ (t : Tunnel). kind_of t.goal ≡ kind.Udp)
+live_udp (Some t) udp =
+    All-cons (λ (u : Tunnel). kind_of u.goal ≡ kind.Udp) (tunnel_is t) [] (by_goal t.goal udp) (All-nil (λ (u : Tunnel). kind_of u.goal ≡ kind.Udp)) where
+      by_goal : (g : Goal) → IsUdp g → kind_of g ≡ kind.Udp
+      by_goal (goal.Udp addr port) is = refl
+      by_goal (goal.Ip area protocol) is = absurd is
+
+-- they are for UDP
+pub udp_tunnels : (c : Core) (s : Conn) → IsConn c s → All (λ (t : Tunnel). kind_of t.goal ≡ kind.Udp) s.tunnels
+udp_tunnels c s is =
+    let P : Conn → Type 0 = λ x. All (λ (t : Tunnel). kind_of t.goal ≡ kind.Udp) x.tunnels in
+    subst P (sym is.is) (live_udp c.tunnel is.udp)
+
+-- ---- whose it is
+
+-- a core stands for connections of one actor alone
+pub same_actor : (c : Core) (s t : Conn) → IsConn c s → IsConn c t → s.actor ≡ t.actor
+same_actor c s t x y = ap (λ (z : Conn). z.actor) x.is ∙ sym (ap (λ (z : Conn). z.actor) y.is)
