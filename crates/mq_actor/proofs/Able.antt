@@ -3,7 +3,8 @@ use Rattle.std.proofs.Common.{◌≡◌, inl, inr, ◌⊎◌, ℕ, zero, suc, �
 use Rattle.std.proofs.Common.{List, [], ◌∷◌, map, drop, length, filter, find, nat_lt, nat_le, slice_get, Option, Some, None, is_some, refl, sym, ap, subst, ◌∙◌, arith}
 use Rattle.std.specs.Option.{option_and_then, option_or}
 use Rattle.std.proofs.lemmas.List.Folds.{find-append}
-use Rattle.std.proofs.lemmas.Bool.{cases_lt, le-leb, lt-ltb, ltb-false, eq-eqb}
+use Rattle.std.proofs.lemmas.Bool.{cases_lt, le-leb, lt-ltb, ltb-false}
+use Rattle.std.proofs.lemmas.List.{map-id}
 use Rattle.slab.specs.Slab.{Slab, get}
 use Rattle.mq_outside.specs.Ports.{PortHolds}
 use Rattle.mq_talk.specs.declared.place.Parcel.{Parcel}
@@ -15,11 +16,10 @@ use Rattle.mq_machine.specs.Want.{want_of, Send}
 use Rattle.mq_held.specs.declared.held.Held.{Held as HeldBy}
 use Rattle.mq_held.specs.declared.held.PortSeat.{PortSeat}
 use Rattle.mq_held.specs.Ready.{may_give, WouldReceive}
-use Rattle.mq_step.specs.Holds.{ArePorts, AreServed, IsHeld}
-use Rattle.mq_step.proofs.Alone.{one_tunnel}
-use Rattle.mq_step.proofs.Asking.{OnePort, With, Without, port_at}
-use Rattle.mq_step.proofs.Filling.{served_none}
-use Rattle.mq_step.proofs.Sending.{the_one, first_port}
+use Rattle.mq_step.specs.Holds.{ArePorts, IsHeld}
+use Rattle.mq_step.proofs.Passing.{port_seat}
+use Rattle.mq_step.proofs.Places.{served_live, mine_seat, port_first}
+use Rattle.mq_step.proofs.Sending.{the_mine}
 use Rattle.mq_actor.specs.declared.offer.Offer.{Offer as OfferBy}
 use Rattle.mq_actor.specs.declared.ring.Ring.{Ring}
 use Rattle.mq_actor.specs.Holds.{AreHeld, AreOffered, IsWorker}
@@ -132,34 +132,25 @@ gives_is (Some holds) p would tells is = let e : holds ≡ holds_of p = cc in is
 -- a connection could receive exactly where a port of it gives something
 pub receives_is : {L Q : Type 0} (most : Q → ℕ) (table : Slab Q) (h : HeldBy L) (s : Held) → IsHeld most table h s
     → is_some (find (can_try s) (map (λ (p : Port). Receive p.tunnel) s.ports)) ≡ is_some (find gives s.ports)
-receives_is {L} {Q} most table h s held = by_tunnels (one_tunnel h.conn s.conn held.conn) where
-  R : List Port → Type 0
-  R ps = is_some (find (can_try s) (map (λ (p : Port). Receive p.tunnel) ps)) ≡ is_some (find gives ps)
+receives_is {L} {Q} most table h s held = same_tries s.ports each where
+  -- the port is found by its tunnel, which is live
+  each : (i : ℕ) (p : Port) → slice_get s.ports i ≡ Some p → can_try s (Receive p.tunnel) ≡ gives p
+  each i p at =
+      let x = port_seat most table h.ports.items s.ports held.ports i p at in
+      let P : List Port → Type 0 = λ ps. port_of ps p.tunnel ≡ Some p in
+      let port_is : port_of s.ports p.tunnel ≡ Some p = subst P (map-id s.ports) (port_first most table (λ q. q) h.ports.items s.ports i x.0 p (λ q. refl) held.apart held.ports x.1 at) in
+      let tunnel_is = (served_live s.conn.ending s.conn.tunnels s.ports i p held.served at).1 in
+      rw (port_is, tunnel_is) refl
 
-  no_ports : s.ports ≡ [] → R s.ports
-  no_ports none = subst R (sym none) refl
-
-  one : (t : Tunnel) (p : Port) → s.conn.tunnels ≡ t ∷ [] → s.ports ≡ p ∷ [] → p.tunnel ≡ t.id → R s.ports
-  one t p ts ps same =
-      let port_is : port_of s.ports p.tunnel ≡ Some p =
-      ap {B = Option Port} (λ (xs : List Port). port_of xs p.tunnel) ps
-      ∙ ap {B = Option Port} (λ (b : Bool). cond b (Some p) None) (eq-eqb p.tunnel p.tunnel refl) in
-      let tunnel_is : tunnel_of s.conn p.tunnel ≡ Some t =
-      ap {B = Option Tunnel} (λ (xs : List Tunnel). find (λ (u : Tunnel). u.id == p.tunnel) xs) ts
-      ∙ ap {B = Option Tunnel} (λ (b : Bool). cond b (Some t) None) (eq-eqb t.id p.tunnel (sym same)) in
-      let can : can_try s (Receive p.tunnel) ≡ gives p = rw (port_is, tunnel_is) refl in
-      subst R (sym ps)
-      (some_cons (can_try s) (Receive p.tunnel) [] ∙ ap {B = Bool} (λ (b : Bool). b || false) can ∙ sym (some_cons gives p []))
-
-  by_port : (t : Tunnel) → s.conn.tunnels ≡ t ∷ [] → OnePort most table h.ports.items s.ports t.id → R s.ports
-  by_port t ts (Without ss ps) = no_ports ps
-  by_port t ts (With seat p ss ps pt st are) = one t p ts ps pt
-
-  by_tunnels : (s.conn.tunnels ≡ []) ⊎ ((t : Tunnel) × (s.conn.tunnels ≡ t ∷ [])) → R s.ports
-  by_tunnels (inl none) = no_ports (served_none s.conn.ending s.conn.tunnels s.ports none held.served)
-  by_tunnels (inr (t, ts)) =
-      let P : List Tunnel → Type 0 = λ xs. AreServed s.conn.ending xs s.ports in
-      by_port t ts (port_at most table h.ports.items s.ports s.conn.ending t (subst P ts held.served) held.ports)
+  same_tries : (ports : List Port) → ((i : ℕ) (p : Port) → slice_get ports i ≡ Some p → can_try s (Receive p.tunnel) ≡ gives p)
+      → is_some (find (can_try s) (map (λ (p : Port). Receive p.tunnel) ports)) ≡ is_some (find gives ports)
+  same_tries [] each = refl
+  same_tries (p ∷ ports) each =
+      let rest = map (λ (q : Port). Receive q.tunnel) ports in
+      some_cons (can_try s) (Receive p.tunnel) rest
+      ∙ ap {B = Bool} (λ (b : Bool). b || is_some (find (can_try s) rest)) (each 0 p refl)
+      ∙ ap {B = Bool} (λ (b : Bool). gives p || b) (same_tries ports (λ i q at. each (suc i) q at))
+      ∙ sym (some_cons gives p ports)
 
 -- a payload waits where it isn't too long, the port doesn't fail and takes nothing now
 goes_is : (long fails waits : Bool) → (long || (fails || not waits)) ≡ not ((waits && not fails) && not long)
@@ -174,9 +165,11 @@ goes_is false false false = refl
 
 -- the port of the payload that a connection wants to send, and whether that goes
 pub record Sending {L Q : Type 0} (words : Words L Q) (table : Slab Q) (h : HeldBy L) (s : Held) (tunnel : ℕ) (payload : List ℕ) : Type 0 where
+  pub place : ℕ
   pub seat : PortSeat
-  pub seats : h.ports.items ≡ seat ∷ []
+  pub here : slice_get h.ports.items place ≡ Some seat
   pub of : seat.tunnel ≡ tunnel
+  pub only : (other : ℕ) (x : PortSeat) → slice_get h.ports.items other ≡ Some x → x.tunnel ≡ tunnel → x ≡ seat
   pub port : Q
   pub stands : get table seat.key ≡ Some port
   pub p : Port
@@ -186,22 +179,26 @@ pub record Sending {L Q : Type 0} (words : Words L Q) (table : Slab Q) (h : Held
 pub sending : {L Q : Type 0} (words : Words L Q) (table : Slab Q) (h : HeldBy L) (s : Held) (tunnel n : ℕ) (payload : List ℕ)
     → IsHeld words.most table h s → TellsConn words table h s → want_of s.conn ≡ Send tunnel n payload → Sending words table h s tunnel payload
 sending {L} {Q} words table h s tunnel n payload held tells want =
-    let x = the_one words.most table h s tunnel n payload held want in
-    let T : List PortSeat → Type 0 = λ seats. TellPorts words table seats s.ports in
-    let U : List Port → Type 0 = λ ports. TellPorts words table (x.seat ∷ []) ports in
-    let tell : TellPorts words table (x.seat ∷ []) (x.p ∷ []) = subst U x.ports_are (subst T x.seats_are tells.ports) in
-    let port_is : port_of s.ports tunnel ≡ Some x.p =
-    ap {B = Option Port} (λ (ps : List Port). port_of ps tunnel) x.ports_are ∙ first_port x.p tunnel x.of_port in
+    let x = the_mine words.most table h s tunnel n payload held want in
+    let f = port_found words table h.ports.items s.ports x.place x.seat held.ports tells.ports x.at_seat in
+    let P : List Port → Type 0 = λ ps. port_of ps f.p.tunnel ≡ Some f.p in
+    let both : Some x.p ≡ Some f.p = sym x.at_port ∙ f.at in
+    let e : x.p ≡ f.p = cc in
+    let port_is : port_of s.ports tunnel ≡ Some f.p =
+    ap {B = Option Port} (λ (i : ℕ). port_of s.ports i) (sym x.of_port ∙ ap (λ (y : Port). y.tunnel) e)
+    ∙ subst P (map-id s.ports) (port_first words.most table (λ q. q) h.ports.items s.ports x.place x.seat f.p (λ q. refl) held.apart held.ports x.at_seat f.at) in
     record {
+      place = x.place;
       seat = x.seat;
-      seats = x.seats_are;
+      here = x.at_seat;
       of = x.of_seat;
-      port = x.is.port;
-      stands = x.is.at;
-      p = x.p;
-      tells = tell.0 x.is.port x.is.at;
-      goes = ap {B = Bool} (λ (limit : ℕ). nat_lt limit (length payload) || may_send (holds_of x.p)) (sym x.is.limit)
-          ∙ goes_is (nat_lt x.p.limit (length payload)) x.p.send_fails x.p.send_waits
+      only = λ other y at same. mine_seat words.most table h.ports.items s.ports tunnel x held.apart other y at same;
+      port = f.port;
+      stands = f.stands;
+      p = f.p;
+      tells = f.tells;
+      goes = ap {B = Bool} (λ (limit : ℕ). nat_lt limit (length payload) || may_send (holds_of f.p)) (sym f.limit)
+          ∙ goes_is (nat_lt f.p.limit (length payload)) f.p.send_fails f.p.send_waits
           ∙ ap {B = Bool} (λ (o : Option Port). not (send_waits o payload)) (sym port_is);
     }
 

@@ -12,6 +12,7 @@ use Rattle.mq_held.specs.declared.held.PortSeat.{PortSeat}
 use Rattle.mq_step.specs.Holds.{IsHeld, ArePorts, AreServed, tunnels_of, numbers_of as ids_of}
 use Rattle.mq_actor.specs.Goes.{Shape, shape_of, shapes_of, Goes}
 use Rattle.mq_actor.specs.Steps.{sight}
+use Rattle.mq_actor.proofs.Between.{get_append}
 use Rattle.mq_actor.proofs.Books.{open_once, open_within}
 use Rattle.mq_actor.proofs.Cores.{AreApart}
 use Rattle.mq_actor.proofs.InRing.{at_all}
@@ -32,16 +33,23 @@ port_of_seat most table (y ∷ seats) (p ∷ ports) (suc a) x are at = port_of_s
 pub tunnel_of_seat : {L Q : Type 0} (most : Q → ℕ) (table : Slab Q) (h : HeldBy L) (s : Held) (a : ℕ) (x : PortSeat) → IsHeld most table h s → slice_get h.ports.items a ≡ Some x
     → (i : ℕ) × (t : Tunnel) × (slice_get s.conn.tunnels i ≡ Some t) × (t.id ≡ x.tunnel)
 tunnel_of_seat most table h s a x held at = by_served s.conn.ending held.served (port_of_seat most table h.ports.items s.ports a x held.ports at) where
-  same : tunnels_of s.ports ≡ ids_of s.conn.tunnels → ((p : Port) × (slice_get s.ports a ≡ Some p) × (p.tunnel ≡ x.tunnel)) → (i : ℕ) × (t : Tunnel) × (slice_get s.conn.tunnels i ≡ Some t) × (t.id ≡ x.tunnel)
-  same are (p, at_p, is_p) =
-      let ids = ap (λ (ns : List ℕ). slice_get ns a) (sym are) ∙ get_map (λ (q : Port). q.tunnel) s.ports a p at_p in
-      let t = map_get (λ (u : Tunnel). u.id) s.conn.tunnels a p.tunnel ids in
-      (a, t.0, t.1, sym t.2 ∙ is_p)
+  Number : Type 0
+  Number = (i : ℕ) × (t : Tunnel) × (slice_get s.conn.tunnels i ≡ Some t) × (t.id ≡ x.tunnel)
 
-  by_served : (e : Option End) → AreServed e s.conn.tunnels s.ports → ((p : Port) × (slice_get s.ports a ≡ Some p) × (p.tunnel ≡ x.tunnel)) → (i : ℕ) × (t : Tunnel) × (slice_get s.conn.tunnels i ≡ Some t) × (t.id ≡ x.tunnel)
+  of_port : (p : Port) → slice_get (ids_of s.conn.tunnels) a ≡ Some p.tunnel → p.tunnel ≡ x.tunnel → Number
+  of_port p at_id is_p = let t = map_get (λ (u : Tunnel). u.id) s.conn.tunnels a p.tunnel at_id in (a, t.0, t.1, sym t.2 ∙ is_p)
+
+  ids : (p : Port) → slice_get s.ports a ≡ Some p → slice_get (tunnels_of s.ports) a ≡ Some p.tunnel
+  ids p at_p = get_map (λ (q : Port). q.tunnel) s.ports a p at_p
+
+  same : tunnels_of s.ports ≡ ids_of s.conn.tunnels → ((p : Port) × (slice_get s.ports a ≡ Some p) × (p.tunnel ≡ x.tunnel)) → Number
+  same are (p, at_p, is_p) = of_port p (ap (λ (ns : List ℕ). slice_get ns a) (sym are) ∙ ids p at_p) is_p
+
+  by_served : (e : Option End) → AreServed e s.conn.tunnels s.ports → ((p : Port) × (slice_get s.ports a ≡ Some p) × (p.tunnel ≡ x.tunnel)) → Number
   by_served None served found = same served found
-  by_served (Some why) (inl none) (p, at_p, is_p) = let e = ap (λ (ps : List Port). slice_get ps a) (sym none) ∙ at_p in absurd cc
-  by_served (Some why) (inr served) found = same served found
+  by_served (Some why) (inl served) found = same served found
+  by_served (Some why) (inr (last, is)) (p, at_p, is_p) =
+      of_port p (ap (λ (ns : List ℕ). slice_get ns a) is ∙ get_append (tunnels_of s.ports) (last ∷ []) a p.tunnel (ids p at_p)) is_p
 
 -- ---- what a step leaves of the numbers of its tunnels
 

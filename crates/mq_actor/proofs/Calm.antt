@@ -20,7 +20,8 @@ use Rattle.mq_held.specs.declared.held.Held.{Held as HeldBy}
 use Rattle.mq_step.specs.Rooms.{HasRooms}
 use Rattle.mq_step.specs.Holds.{IsHeld}
 use Rattle.mq_step.specs.Sights.{idle, idle_port}
-use Rattle.mq_step.proofs.Receiving.{none_faults}
+use Rattle.mq_step.proofs.Cores.{udp_tunnels}
+use Rattle.mq_step.proofs.Receiving.{idle_faults}
 use Rattle.mq_step.proofs.Standing.{new_stands}
 use Rattle.mq_step.proofs.Wanting.{sees_same}
 use Rattle.mq_actor.specs.declared.offer.Offer.{Offer as OfferBy}
@@ -34,7 +35,6 @@ use Rattle.mq_actor.proofs.Between.{get_append, get_last, held_refilled, offered
 use Rattle.mq_actor.proofs.Helds.{at_held, held_length, held_pushed}
 use Rattle.mq_actor.proofs.Between.{numbers_passed, told_so_far, over_so_far, offers_so_far, vain_so_far}
 use Rattle.mq_actor.proofs.Cores.{AreApart, cores_of}
-use Rattle.mq_actor.proofs.Going.{udp_tunnels}
 use Rattle.mq_actor.proofs.InRing.{Precedes, at_all, all_at}
 use Rattle.mq_actor.proofs.Lists.{map_get}
 use Rattle.mq_actor.proofs.Others.{set_length, popped_none, AreForUdp, none_for_ip, cores_refilled, cores_pushed, told_refilled, told_pushed}
@@ -103,7 +103,7 @@ module _ {L Q : Type 0} (words : Words L Q) (r m s : Ring L) (old mid : Moment L
   offers_same same = offers_told o n x.offered (offer_same same)
 
   faults : FaultsFit o n now
-  faults = faults_refilled o n 0 idle x (λ h has number. none_faults o n h idle_port refl refl)
+  faults = faults_refilled o n 0 idle x (λ h has number. idle_faults o n h)
 
   -- nothing was bound
   nothing_bound : n.binds ≡ o.binds

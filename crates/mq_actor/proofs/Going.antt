@@ -1,16 +1,13 @@
 -- What a step of a connection does to its tunnels, its number, its actor and the tunnel from which the next frame is sought.
-use Rattle.std.proofs.Common.{◌≡◌, ◌⊎◌, ℕ, ◌==◌, ◌+◌, cond, Bool, true, false, inl, inr, List, [], ◌∷◌, take, drop, All, Option, Some, None, refl, sym, ap, ◌∙◌}
+use Rattle.std.proofs.Common.{◌≡◌, ◌⊎◌, ℕ, ◌==◌, ◌+◌, cond, Bool, true, false, inl, inr, List, [], ◌∷◌, map, take, drop, Option, Some, None, refl, sym, ap, ◌∙◌}
 use Rattle.std.proofs.Common.{subst}
 use Rattle.std.specs.Prelude.{find, option_map, Contains}
-use Rattle.std.proofs.lemmas.List.Elements.{All-cons, All-nil}
-use Rattle.std.proofs.lemmas.Bool.{eq-eqb}
-use Rattle.mq_addr.specs.declared.kind.Kind.TheVariants as kind
+use Rattle.std.proofs.lemmas.List.Elements.{All-contains_itself}
 use Rattle.mq_talk.specs.declared.book.Call.{Call}
 use Rattle.mq_talk.specs.declared.book.Call.TheVariants as call
 use Rattle.mq_talk.specs.declared.book.Reply.{Reply}
 use Rattle.mq_talk.specs.declared.book.Reply.TheVariants as reply
 use Rattle.mq_talk.specs.declared.goal.Goal.{Goal}
-use Rattle.mq_talk.specs.declared.goal.Goal.TheVariants as goal
 use Rattle.mq_talk.specs.declared.note.End.{End}
 use Rattle.mq_talk.specs.declared.note.End.TheVariants as end
 use Rattle.mq_talk.specs.declared.note.From.{From}
@@ -28,19 +25,22 @@ use Rattle.mq_machine.specs.Shared.{Answers, Asks, port_of, at_port}
 use Rattle.mq_machine.specs.Steps.{framed, settled_note, wrote, finished, failed, queued, received, port_failed, port_received}
 use Rattle.mq_machine.specs.Silent.{Heard}
 use Rattle.mq_machine.specs.Turn.{Try, Act, Frame, Write, Read, Receive, TryNext, ActNext, WriteNext, ReadNext, ReceiveNext, PortNext, TakesNext, received_from}
-use Rattle.mq_machine.specs.Turn.{receive_failed, write_count, most_read, tries_of}
+use Rattle.mq_machine.specs.Turn.{can_try, receive_failed, write_count, most_read, tries_of}
 use Rattle.mq_conn.specs.declared.conn.Conn.{Conn as Core}
-use Rattle.mq_conn.specs.declared.conn.Tunnel.{Tunnel as Live}
-use Rattle.mq_conn.specs.Conns.{IsConn, IsUdp, IsUdpTunnel, tunnels_of}
+use Rattle.mq_conn.specs.Conns.{IsConn}
+use Rattle.mq_conn.specs.Frames.{waits}
 use Rattle.mq_step.specs.Gives.{first_of}
 use Rattle.mq_step.proofs.Wanting.{IsNotOver}
 use Rattle.mq_step.proofs.Keeping.{NoOpens, Kept, no_opens_nil, kept_said, kept_refused, kept_put, kept_full, bound_next, opened_next, closed_next}
 use Rattle.mq_step.proofs.Keeping.{port_failed_keeps}
-use Rattle.mq_step.proofs.Alone.{IsUdpWant, udp_want, tail_opens, none_opens, open_alone, close_alone, close_opens, one_tunnel}
+use Rattle.mq_step.proofs.Cores.{IsUdpWant, udp_want, tail_opens, open_alive, close_live, close_opens, own_stream}
+use Rattle.mq_step.proofs.Places.{found_all, found_id}
+use Rattle.mq_step.proofs.Receiving.{alive_by, waits_opens}
+use Rattle.mq_step.proofs.Stepping.{vain_waits}
 use Rattle.mq_actor.specs.Goes.{shapes_of, Goes}
 use Rattle.mq_actor.proofs.Searches.{Same, each_at, done_seeks}
 use Rattle.mq_actor.proofs.Beside.{framed_leaves, framed_has, wrote_leaves, finished_leaves, took_leaves, Shaped, queued_leaves}
-use Rattle.mq_actor.proofs.Shapes.{find_only}
+use Rattle.mq_actor.proofs.Shapes.{contains_head}
 use Rattle.mq_actor.proofs.Replies.{stays_with, opens_with, closes_with, goes_before, asked_close, Opened, Full, asked_open}
 use Rattle.mq_actor.proofs.Behind.{mapped, unmapped, Acted, acted_done, conn_of}
 use Rattle.mq_actor.proofs.Ending.{Ends, act_ends, failed_same, port_same, write_ends, read_ends, receive_ends}
@@ -85,26 +85,30 @@ left_before s x t sh after same left = record {
 
 -- ---- what it wants
 
+-- a tunnel that is found by its number is one of its own
+has_found : (s : Conn) (id : ℕ) (t : Tunnel) → tunnel_of s id ≡ Some t → Contains s.tunnels t
+has_found s id t found = found_all (λ (u : Tunnel). Contains s.tunnels u) (λ (u : Tunnel). u.id == id) s.tunnels t (All-contains_itself s.tunnels) found
+
 -- another answer is the same
 done_with : (s : Conn) (a b : Answer) (o : Done) → a ≡ b → done s a ≡ o → done s b ≡ o
 done_with s a b o same is = ap (λ (x : Answer). done s x) (sym same) ∙ is
 
--- its tunnel closes
-close_leaves : (s t : Conn) (sh after : Shared) (u : Tunnel) (a : Answer) (n : Note) → s.tunnels ≡ u ∷ [] → want_of s ≡ Ask (call.Close u.id) → NoOpens s.due
+-- a tunnel of it closes
+close_leaves : (s t : Conn) (sh after : Shared) (u : Tunnel) (a : Answer) (n : Note) → Contains s.tunnels u → want_of s ≡ Ask (call.Close u.id) → NoOpens s.due
     → Answers s.actor sh (Ask (call.Close u.id)) a after → done s a ≡ Some (n, t) → Left s sh t after
-close_leaves s t sh after u Said n only want opens answers is = absurd answers
-close_leaves s t sh after u (Bound did) n only want opens answers is = absurd answers
-close_leaves s t sh after u (Judged v at) n only want opens answers is = absurd answers
-close_leaves s t sh after u (Pushed did) n only want opens answers is = absurd answers
-close_leaves s t sh after u (Put port limit) n only want opens answers is = absurd answers
-close_leaves s t sh after u (Replied said) n only want opens answers is =
+close_leaves s t sh after u Said n has want opens answers is = absurd answers
+close_leaves s t sh after u (Bound did) n has want opens answers is = absurd answers
+close_leaves s t sh after u (Judged v at) n has want opens answers is = absurd answers
+close_leaves s t sh after u (Pushed did) n has want opens answers is = absurd answers
+close_leaves s t sh after u (Put port limit) n has want opens answers is = absurd answers
+close_leaves s t sh after u (Replied said) n has want opens answers is =
     let asked = asked_close sh after s.actor u.id said answers in
     let closed : done s (Replied reply.Closed) ≡ Some (n, t) = done_with s (Replied said) (Replied reply.Closed) (Some (n, t)) (ap Replied asked.0) is in
     let left = closed_next s t n u.id opens want closed in
     record {
       number = left.0;
       actor = left.1;
-      goes = closes_with s sh t.tunnels after u only left.3 asked.1;
+      goes = closes_with s sh t.tunnels after u has left.3 asked.1;
       next = inl (done_seeks s t n (Replied said) is);
     }
 
@@ -118,11 +122,11 @@ open_leaves c s t sh after conn id actor goal said n conn_is want asks is = by_s
       let opened : Answer = Replied (reply.Opened x.tunnel x.routes) in
       let same : done s opened ≡ Some (n, t) = done_with s (Replied said) opened (Some (n, t)) (ap Replied x.said_is) is in
       let left = opened_next s t n conn id actor goal x.tunnel x.routes (tail_opens c s conn_is) want same in
-      let alone = open_alone c s conn id actor goal conn_is want in
+      let alive = open_alive c s conn id actor goal conn_is want in
       record {
         number = left.0;
         actor = left.1;
-        goes = opens_with s sh t.tunnels after conn id actor goal x.tunnel x.routes _ alone.2 alone.3 x.tunnel_is left.3 x.wrote;
+        goes = opens_with s sh t.tunnels after conn id actor goal x.tunnel x.routes _ alive.1 alive.2 x.tunnel_is left.3 x.wrote;
         next = inl (done_seeks s t n (Replied said) is);
       }
   by_said (inr x) =
@@ -143,10 +147,11 @@ ask_leaves : (c : Core) (s t : Conn) (sh after : Shared) (asked : Call) (said : 
 ask_leaves c s t sh after (call.Open conn id actor goal) said n conn_is want udp asks is =
     open_leaves c s t sh after conn id actor goal said n conn_is want asks is
 ask_leaves c s t sh after (call.Close tunnel) said n conn_is want udp asks is =
-    let alone = close_alone c s tunnel conn_is want in
+    let live = close_live c s tunnel conn_is want in
+    let same : live.0.id ≡ tunnel = found_id s.tunnels live.0 tunnel live.1 in
     let A : ℕ → Type 0 = λ k. Asks sh s.actor (call.Close k) said after in
-    close_leaves s t sh after alone.0 (Replied said) n alone.1 (want ∙ ap (λ (k : ℕ). Ask (call.Close k)) (sym alone.2))
-    (close_opens c s tunnel conn_is want) (subst A (sym alone.2) asks) is
+    close_leaves s t sh after live.0 (Replied said) n (has_found s tunnel live.0 live.1) (want ∙ ap (λ (k : ℕ). Ask (call.Close k)) (sym same))
+    (close_opens c s tunnel conn_is want) (subst A (sym same) asks) is
 ask_leaves c s t sh after (call.Assign tunnel asked) said n conn_is want udp asks is = absurd udp
 ask_leaves c s t sh after (call.Advertise tunnel ranges) said n conn_is want udp asks is = absurd udp
 
@@ -233,66 +238,54 @@ link_over (b ∷ bytes) = refl
 failed_over : (s : Conn) → s.tunnels ≡ [] → IsNotOver (want_of (failed s)) → ⊥
 failed_over s none over = subst IsNotOver (ap (λ (ts : List Tunnel). ending_want (failed s) end.Link ts) none ∙ link_over (owed s)) over
 
--- a connection whose link failed closes its tunnel
-failed_leaves : (c : Core) (s : Conn) (h new : Held) (sh after : Shared) (answer : Answer) (said : Note) → IsConn c s
+-- a connection whose link failed closes its first tunnel
+failed_leaves : (s : Conn) (h new : Held) (sh after : Shared) (answer : Answer) (said : Note)
     → ActNext (record h { conn = failed s }) sh answer said (Some new) after
     → Left s sh new.conn after
-failed_leaves c s h new sh after answer said conn next = by_one (one_tunnel c s conn) where
+failed_leaves s h new sh after answer said next = by_tunnels s.tunnels refl where
   did : Acted (record h { conn = failed s }) (want_of (failed s)) answer said new.conn
   did = acted_done (record h { conn = failed s }) new (want_of (failed s)) answer said next.is
 
-  by_one : (s.tunnels ≡ []) ⊎ ((u : Tunnel) × (s.tunnels ≡ u ∷ [])) → Left s sh new.conn after
-  by_one (inl none) = absurd (failed_over s none did.over)
-  by_one (inr (u, only)) =
+  by_tunnels : (us : List Tunnel) → s.tunnels ≡ us → Left s sh new.conn after
+  by_tunnels [] none = absurd (failed_over s none did.over)
+  by_tunnels (u ∷ us) are =
       let A : Want → Type 0 = λ w. Answers s.actor sh w answer after in
-      let want : want_of (failed s) ≡ Ask (call.Close u.id) = ap (λ (ts : List Tunnel). ending_want (failed s) end.Link ts) only in
-      let left = close_leaves (failed s) new.conn sh after u answer said only want no_opens_nil (subst A want next.answers) did.is in
+      let C : List Tunnel → Type 0 = λ ts. Contains ts u in
+      let want : want_of (failed s) ≡ Ask (call.Close u.id) = ap (λ (ts : List Tunnel). ending_want (failed s) end.Link ts) are in
+      let left = close_leaves (failed s) new.conn sh after u answer said (subst C (sym are) (contains_head u us)) want no_opens_nil (subst A want next.answers) did.is in
       left_before s (failed s) new.conn sh after (failed_same s) left
 
--- the tunnel whose port failed is its only one
-only_tunnel : (c : Core) (s : Conn) (id : ℕ) (t : Tunnel) → IsConn c s → tunnel_of s id ≡ Some t → s.tunnels ≡ t ∷ []
-only_tunnel c s id t conn found = by_one (one_tunnel c s conn) where
+-- a connection that waits isn't ending, where it has a tunnel
+live_waits : (s : Conn) (id : ℕ) (t : Tunnel) → waits (want_of s) ≡ true → tunnel_of s id ≡ Some t → s.ending ≡ None
+live_waits s id t wait found = by_case (alive_by s s.ending refl wait) where
   test : Tunnel → Bool
   test u = u.id == id
 
-  by_one : (s.tunnels ≡ []) ⊎ ((u : Tunnel) × (s.tunnels ≡ u ∷ [])) → s.tunnels ≡ t ∷ []
-  by_one (inl none) = let e : find test [] ≡ Some t = ap (λ (ts : List Tunnel). find test ts) (sym none) ∙ found in absurd cc
-  by_one (inr (u, only)) = only ∙ ap (λ (x : Tunnel). x ∷ []) (find_only test u t (ap (λ (ts : List Tunnel). find test ts) (sym only) ∙ found))
+  by_case : (s.ending ≡ None) ⊎ (s.tunnels ≡ []) → s.ending ≡ None
+  by_case (inl alive) = alive
+  by_case (inr none) = let e : find test [] ≡ Some t = ap (λ (ts : List Tunnel). find test ts) (sym none) ∙ found in absurd cc
 
--- and is to close
-port_want : (s : Conn) (t : Tunnel) (e : Option End) → s.tunnels ≡ t ∷ [] → want_by (port_failed s t) e ≡ Ask (call.Close t.id)
-port_want s t None only =
-    let on : tunnel_on (port_failed s t) t.stream ≡ Some t =
-    ap (λ (ts : List Tunnel). find (λ (u : Tunnel). u.stream == t.stream) ts) only
-    ∙ ap {B = Option Tunnel} (λ (b : Bool). cond b (Some t) None) (eq-eqb t.stream t.stream refl) in
-    ap (λ (o : Option Tunnel). tunnel_want o (stream.Close why.Port)) on
-port_want s t (Some reason) only = ap (λ (ts : List Tunnel). ending_want (port_failed s t) reason ts) only
-
--- no opening is due where there is a tunnel
-live_opens : (c : Core) (s : Conn) (t : Tunnel) → IsConn c s → s.tunnels ≡ t ∷ [] → NoOpens s.due
-live_opens c s t conn only =
-    none_opens c s conn (λ number id actor goal w. let none : [] ≡ t ∷ [] = sym (open_alone c s number id actor goal conn w).0 ∙ only in cc)
-
--- a connection whose port failed closes its tunnel
+-- a connection whose port failed closes the tunnel of that
 port_leaves : (c : Core) (s : Conn) (id : ℕ) (t : Tunnel) (h new : Held) (sh after : Shared) (answer : Answer) (said : Note) → IsConn c s
-    → tunnel_of s id ≡ Some t
+    → waits (want_of s) ≡ true → tunnel_of s id ≡ Some t
     → ActNext (record h { conn = port_failed s t }) sh answer said (Some new) after → Left s sh new.conn after
-port_leaves c s id t h new sh after answer said conn found next =
+port_leaves c s id t h new sh after answer said conn wait found next =
     let x : Conn = port_failed s t in
     let did = acted_done (record h { conn = x }) new (want_of x) answer said next.is in
-    let only = only_tunnel c s id t conn found in
     let A : Want → Type 0 = λ w. Answers s.actor sh w answer after in
-    let want : want_of x ≡ Ask (call.Close t.id) = port_want s t s.ending only in
-    let opens = (port_failed_keeps s t (live_opens c s t conn only)).opens in
-    left_before s x new.conn sh after (port_same s t) (close_leaves x new.conn sh after t answer said only want opens (subst A want next.answers) did.is)
+    let on : tunnel_on x t.stream ≡ Some t = own_stream c s id t conn found in
+    let want : want_of x ≡ Ask (call.Close t.id) =
+    ap (λ (e : Option End). want_by x e) (live_waits s id t wait found) ∙ ap (λ (o : Option Tunnel). tunnel_want o (stream.Close why.Port)) on in
+    let opens = (port_failed_keeps s t (waits_opens c s conn wait)).opens in
+    left_before s x new.conn sh after (port_same s t) (close_leaves x new.conn sh after t answer said (has_found s id t found) want opens (subst A want next.answers) did.is)
 
 -- ---- a try that leaves the connection
 
-write_leaves : (c : Core) (old new : Held) (sh after : Shared) (fails : Bool) (answer : Answer) (said : Note) → IsConn c old.conn
+write_leaves : (old new : Held) (sh after : Shared) (fails : Bool) (answer : Answer) (said : Note)
     → WriteNext fails old sh answer said (Some new) after → Left old.conn sh new.conn after
-write_leaves c old new sh after true answer said conn next =
-    failed_leaves c old.conn (record old { link = record old.link { write_fails = false } }) new sh after answer said conn next
-write_leaves c old new sh after false answer said conn next =
+write_leaves old new sh after true answer said next =
+    failed_leaves old.conn (record old { link = record old.link { write_fails = false } }) new sh after answer said next
+write_leaves old new sh after false answer said next =
     let P : Conn → Type 0 = λ x. Same old.conn x in
     let h : Held = record old { link = record old.link { room = room_left old.link.room (write_count old) } } in
     let behind_it = conn_of h new (wrote old.conn (write_count old)) said next.is in
@@ -309,29 +302,39 @@ takes_same setup old new (first ∷ others) said next =
     let held : h ≡ new = cc in
     subst P (ap (λ (x : Held). x.conn) held) (took_leaves setup old.conn next.conn (take most_read first) next.took)
 
-read_leaves : (setup : Setup) (c : Core) (old new : Held) (sh after : Shared) (fails : Bool) (answer : Answer) (said : Note) → IsConn c old.conn
+read_leaves : (setup : Setup) (old new : Held) (sh after : Shared) (fails : Bool) (answer : Answer) (said : Note)
     → ReadNext fails setup old sh answer said (Some new) after → Left old.conn sh new.conn after
-read_leaves setup c old new sh after true answer said conn next =
-    failed_leaves c old.conn (record old { link = record old.link { read_fails = false } }) new sh after answer said conn next
-read_leaves setup c old new sh after false answer said conn next =
+read_leaves setup old new sh after true answer said next =
+    failed_leaves old.conn (record old { link = record old.link { read_fails = false } }) new sh after answer said next
+read_leaves setup old new sh after false answer said next =
     left_same old.conn new.conn sh after (takes_same setup old new old.link.pieces said next.1) next.2
 
-receive_fails_leaves : (c : Core) (old new : Held) (sh after : Shared) (p : Port) (o : Option Tunnel) (answer : Answer) (said : Note) → IsConn c old.conn
+receive_fails_leaves : (c : Core) (old new : Held) (sh after : Shared) (p : Port) (o : Option Tunnel) (answer : Answer) (said : Note) → IsConn c old.conn → waits (want_of old.conn) ≡ true
     → tunnel_of old.conn p.tunnel ≡ o
     → ActNext (receive_failed old p o) sh answer said (Some new) after → Left old.conn sh new.conn after
-receive_fails_leaves c old new sh after p None answer said conn found next = act_leaves c old new sh after answer said conn next
-receive_fails_leaves c old new sh after p (Some t) answer said conn found next = port_leaves c old.conn p.tunnel t old new sh after answer said conn found next
+receive_fails_leaves c old new sh after p None answer said conn wait found next = act_leaves c old new sh after answer said conn next
+receive_fails_leaves c old new sh after p (Some t) answer said conn wait found next = port_leaves c old.conn p.tunnel t old new sh after answer said conn wait found next
 
-port_next_leaves : (c : Core) (old new : Held) (sh after : Shared) (p : Port) (fails : Bool) (answer : Answer) (said : Note) → IsConn c old.conn
+port_next_leaves : (c : Core) (old new : Held) (sh after : Shared) (p : Port) (fails : Bool) (answer : Answer) (said : Note) → IsConn c old.conn → waits (want_of old.conn) ≡ true
     → PortNext fails old p sh answer said (Some new) after → Left old.conn sh new.conn after
-port_next_leaves c old new sh after p true answer said conn next =
-    receive_fails_leaves c old new sh after p (tunnel_of old.conn p.tunnel) answer said conn refl next
-port_next_leaves c old new sh after p false answer said conn next = receive_leaves old new p p.arrived sh after said next.is next.after_is
+port_next_leaves c old new sh after p true answer said conn wait next =
+    receive_fails_leaves c old new sh after p (tunnel_of old.conn p.tunnel) answer said conn wait refl next
+port_next_leaves c old new sh after p false answer said conn wait next = receive_leaves old new p p.arrived sh after said next.is next.after_is
 
-receive_next_leaves : (c : Core) (old new : Held) (sh after : Shared) (o : Option Port) (answer : Answer) (said : Note) → IsConn c old.conn
+receive_next_leaves : (c : Core) (old new : Held) (sh after : Shared) (o : Option Port) (answer : Answer) (said : Note) → IsConn c old.conn → waits (want_of old.conn) ≡ true
     → ReceiveNext o old sh answer said (Some new) after → Left old.conn sh new.conn after
-receive_next_leaves c old new sh after None answer said conn next = absurd next
-receive_next_leaves c old new sh after (Some p) answer said conn next = port_next_leaves c old new sh after p p.receive_fails answer said conn next
+receive_next_leaves c old new sh after None answer said conn wait next = absurd next
+receive_next_leaves c old new sh after (Some p) answer said conn wait next = port_next_leaves c old new sh after p p.receive_fails answer said conn wait next
+
+-- a connection receives only while its want waits
+receive_waits : (h : Held) (tunnel : ℕ) → first_of tries_of h ≡ Some (Receive tunnel) → waits (want_of h.conn) ≡ true
+receive_waits h tunnel is = by_act (can_try h Act) refl is where
+  rest : List Try
+  rest = Frame ∷ Write ∷ Read ∷ map (λ (p : Port). Receive p.tunnel) h.ports
+
+  by_act : (b : Bool) → can_try h Act ≡ b → cond b (Some Act) (find (can_try h) rest) ≡ Some (Receive tunnel) → waits (want_of h.conn) ≡ true
+  by_act true so e = absurd cc
+  by_act false so e = vain_waits h.ports (want_of h.conn) so
 
 -- a step that did this try
 pub try_leaves : (setup : Setup) (c d : Core) (old : Held) (sh after : Shared) (try : Try) (answer : Answer) (said : Note) (new : Held)
@@ -340,10 +343,10 @@ pub try_leaves : (setup : Setup) (c d : Core) (old : Held) (sh after : Shared) (
 try_leaves setup c d old sh after Act answer said new conn left is next = act_leaves c old new sh after answer said conn next
 try_leaves setup c d old sh after Frame answer said new conn left is next =
     frame_leaves old.conn new.conn sh after said (mapped old new (framed old.conn) said next.is) next.after_is
-try_leaves setup c d old sh after Write answer said new conn left is next = write_leaves c old new sh after old.link.write_fails answer said conn next
-try_leaves setup c d old sh after Read answer said new conn left is next = read_leaves setup c old new sh after old.link.read_fails answer said conn next
+try_leaves setup c d old sh after Write answer said new conn left is next = write_leaves old new sh after old.link.write_fails answer said next
+try_leaves setup c d old sh after Read answer said new conn left is next = read_leaves setup old new sh after old.link.read_fails answer said next
 try_leaves setup c d old sh after (Receive tunnel) answer said new conn left is next =
-    receive_next_leaves c old new sh after (port_of old.ports tunnel) answer said conn next
+    receive_next_leaves c old new sh after (port_of old.ports tunnel) answer said conn (receive_waits old tunnel is) next
 
 -- ---- a try with which it ends
 
@@ -365,19 +368,3 @@ pub starved_goes : (c : Core) (old : Held) (sh after : Shared) (asked : Bool) (t
 starved_goes c old sh after false try answer tunnels conn heard = stays_with old.conn sh tunnels after (ap shapes_of heard.1) heard.2
 starved_goes c old sh after true try answer tunnels conn heard =
     want_heard c old.conn sh after (want_of old.conn) answer tunnels conn refl (udp_want c old.conn conn) heard.takes heard.answers heard.tunnels_are
-
--- ---- tunnels for UDP
-
-live_udp : (o : Option Live) → IsUdpTunnel o → All (λ (t : Tunnel). kind_of t.goal ≡ kind.Udp) (tunnels_of o)
-live_udp None udp = All-nil (λ (t : Tunnel). kind_of t.goal ≡ kind.Udp)
-live_udp (Some t) udp =
-    All-cons (λ (u : Tunnel). kind_of u.goal ≡ kind.Udp) _ [] (by_goal t.goal udp) (All-nil (λ (u : Tunnel). kind_of u.goal ≡ kind.Udp)) where
-      by_goal : (g : Goal) → IsUdp g → kind_of g ≡ kind.Udp
-      by_goal (goal.Udp addr port) is = refl
-      by_goal (goal.Ip area protocol) is = absurd is
-
--- its tunnels are for UDP
-pub udp_tunnels : (c : Core) (s : Conn) → IsConn c s → All (λ (t : Tunnel). kind_of t.goal ≡ kind.Udp) s.tunnels
-udp_tunnels c s is =
-    let P : Conn → Type 0 = λ x. All (λ (t : Tunnel). kind_of t.goal ≡ kind.Udp) x.tunnels in
-    subst P (sym is.is) (live_udp c.tunnel is.udp)

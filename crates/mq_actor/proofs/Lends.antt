@@ -42,7 +42,7 @@ held_set most table (g ∷ hs) [] i h link at are = absurd are
 held_set {L} most table (g ∷ hs) (s ∷ ss) zero h link at are =
     let e : g ≡ h = cc in
     let x : IsHeld most table h s = subst (λ (k : HeldBy L). IsHeld most table k s) e are.0 in
-    (record { conn = x.conn; number = x.number; ports = x.ports; served = x.served; bound = x.bound; room = x.room }, are.1)
+    (record { conn = x.conn; number = x.number; ports = x.ports; apart = x.apart; served = x.served; bound = x.bound; room = x.room }, are.1)
 held_set most table (g ∷ hs) (s ∷ ss) (suc i) h link at are = (are.0, held_set most table hs ss i h link at are.1)
 
 offered_set : {L : Type 0} (fs : List (OfferBy L)) (xs : List Offer) (i : ℕ) (f : OfferBy L) (link : L)
@@ -196,6 +196,7 @@ module _ {Q : Type 0} (most : Q → ℕ) (table after : Slab Q) (sized : AreSize
           conn = held.conn;
           number = held.number;
           ports = ports_sized h.ports.items s.ports held.ports;
+          apart = held.apart;
           served = held.served;
           bound = bound_sized h.ports.items (want_of s.conn) h.bound held.bound;
           room = held.room;

@@ -128,7 +128,7 @@ boxes_told (Some c) b count is size boxes some =
 pub relinked : {L Q : Type 0} (most : Q → ℕ) (table : Slab Q) (h : HeldBy L) (s : Held) (link : Link) → IsHeld most table h s
     → IsHeld most table h (record s { link = link })
 relinked most table h s link is =
-    record { conn = is.conn; number = is.number; ports = is.ports; served = is.served; bound = is.bound; room = is.room }
+    record { conn = is.conn; number = is.number; ports = is.ports; apart = is.apart; served = is.served; bound = is.bound; room = is.room }
 
 matches : (P : ℕ → Type 0) (o : Option ℕ) → ((k : ℕ) → P k) → MatchOption o ⊤ P
 matches P None each = tt

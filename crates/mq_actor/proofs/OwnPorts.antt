@@ -197,6 +197,7 @@ stay_held most table after h s stay held = record {
   conn = held.conn;
   number = held.number;
   ports = seats_held most table after h.ports.items s.ports (λ i seat at. stay_keys table after h stay seat.key (inl (i, seat, at, refl))) held.ports;
+  apart = held.apart;
   served = held.served;
   bound = bound_stays most table after h.ports.items (want_of s.conn) h.bound (λ key bound. stay_keys table after h stay key (inr bound)) held.bound;
   room = held.room;

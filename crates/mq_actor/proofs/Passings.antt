@@ -16,13 +16,12 @@ use Rattle.mq_machine.specs.Acting.{Outside, ConnWaited, Rose, WantWaited, Binde
 use Rattle.mq_held.specs.declared.held.Held.{Held as HeldBy}
 use Rattle.mq_step.specs.declared.stepped.Stepped.{Stepped}
 use Rattle.mq_step.specs.declared.stepped.Stepped.TheVariants.{Quiet}
-use Rattle.mq_step.specs.Holds.{IsHeld, IsKnown}
+use Rattle.mq_step.specs.Holds.{IsHeld, IsKnown, SeatsApart}
 use Rattle.mq_step.specs.Whole.{Sees}
 use Rattle.mq_step.specs.Gives.{Asked, Waited}
 use Rattle.mq_step.proofs.Filling.{StaysTold, stay_told, none_changed}
 use Rattle.mq_step.proofs.Others.{at_within}
-use Rattle.mq_step.proofs.Passing.{at_most_one}
-use Rattle.mq_step.proofs.Stepping.{sight_of, sight_sees}
+use Rattle.mq_step.proofs.Seeing.{sight_of, sight_sees}
 use Rattle.mq_actor.specs.Seen.{Words, Moment, SeesConn}
 use Rattle.mq_actor.specs.Holds.{AreHeld, HaveOwnPorts}
 use Rattle.mq_actor.specs.Passing.{Tried, TellsSame, PassedOver, PortsStay, PassedAt, Passed, Acts, AreKnown}
@@ -33,7 +32,7 @@ use Rattle.mq_actor.proofs.OwnPorts.{all_stay, stay_twice, stay_back, stay_held,
 
 -- ---- who sees a connection alone
 
--- an outside that tells of one connection, as its link and its only port tell
+-- an outside that tells of one connection, as its link and its ports tell
 abbrev pub sight : {L Q : Type 0} → Words L Q → Binder → Slab Q → HeldBy L → Outside
 sight words binds table h = sight_of words.port words.port_counts binds table h.ports.items record {
   link = λ conn. words.link h.link;
@@ -45,17 +44,17 @@ sight words binds table h = sight_of words.port words.port_counts binds table h.
 
 module _ {L Q : Type 0} (words : Words L Q) (binds : Binder) (table : Slab Q) (h : HeldBy L) where
   -- it sees that connection
-  pub sight_conn : length h.ports.items ≤ 1 → SeesConn words table h (sight words binds table h)
-  sight_conn few = record {
+  pub sight_conn : SeatsApart h.ports.items → SeesConn words table h (sight words binds table h)
+  sight_conn apart = record {
     of_link = record { link_is = refl; counts_are = refl };
-    of_ports = (sight_sees words.port words.port_counts binds table h.ports.items (sight words binds table h) few).ports;
+    of_ports = (sight_sees words.port words.port_counts binds table h.ports.items (sight words binds table h) apart).ports;
   }
 
   -- and what binds ports
-  pub sight_whole : length h.ports.items ≤ 1 → Sees words.link words.link_counts words.port words.port_counts binds table h (sight words binds table h)
-  sight_whole few = record {
+  pub sight_whole : SeatsApart h.ports.items → Sees words.link words.link_counts words.port words.port_counts binds table h (sight words binds table h)
+  sight_whole apart = record {
     of_link = record { link_is = refl; counts_are = refl };
-    of_table = sight_sees words.port words.port_counts binds table h.ports.items (sight words binds table h) few;
+    of_table = sight_sees words.port words.port_counts binds table h.ports.items (sight words binds table h) apart;
   }
 
 -- the outside with these failures of what binds ports
@@ -164,7 +163,7 @@ module _ {L Q : Type 0} (words : Words L Q) (old mid new : Moment L Q) (V W : Tr
     told o n so sn s held =
         let stands = a.stands s held in
         let m = sight words (record { holds = None; faults = 0 }) mid.table a.now in
-        let sm = sight_conn words (record { holds = None; faults = 0 }) mid.table a.now (at_most_one words.most mid.table a.now s stands) in
+        let sm = sight_conn words (record { holds = None; faults = 0 }) mid.table a.now stands.apart in
         told_twice o m n s (a.told o m so sm s held) (b.told m n sm sn s stands)
 
     over : either place h.number → (o n : Outside) → SeesConn words old.table h o → SeesConn words new.table b.now n

@@ -21,8 +21,8 @@ use Rattle.mq_step.specs.Whole.{link_if, filled}
 use Rattle.mq_step.specs.Whole.{FaultsFit as HeldFits}
 use Rattle.mq_step.specs.Holds.{IsHeld, IsPort, ArePorts, AreServed, tunnels_of}
 use Rattle.mq_step.specs.Wanted.{with_prepared}
-use Rattle.mq_step.proofs.Filling.{are_filled, served_filled}
-use Rattle.mq_step.proofs.Receiving.{none_faults}
+use Rattle.mq_step.proofs.Filling.{are_filled, served_same, served_filled}
+use Rattle.mq_step.proofs.Receiving.{idle_faults}
 use Rattle.mq_actor.specs.Passing.{TellsSame}
 
 -- what was found of the connection with this number, where nothing is told of it; nothing was found of others
@@ -128,6 +128,7 @@ held_filled most table h o f s is = record {
   conn = is.conn;
   number = is.number;
   ports = are_filled most table o f h.ports.items s.ports is.ports;
+  apart = is.apart;
   served = served_filled o f s.conn.ending s.conn.tunnels s.ports is.served;
   bound = is.bound;
   room = is.room;
@@ -172,9 +173,7 @@ tunnels_prepared tunnel told (p ∷ ports) =
 
 served_prepared : (tunnel : ℕ) (told : Option PortHolds) (e : Option End) (tunnels : List Tunnel) (ports : List Port) → AreServed e tunnels ports
     → AreServed e tunnels (ports_prepared tunnel told ports)
-served_prepared tunnel told None tunnels ports served = tunnels_prepared tunnel told ports ∙ served
-served_prepared tunnel told (Some why) tunnels ports (inl none) = inl (ap (λ (ps : List Port). ports_prepared tunnel told ps) none)
-served_prepared tunnel told (Some why) tunnels ports (inr is) = inr (tunnels_prepared tunnel told ports ∙ is)
+served_prepared tunnel told e tunnels ports served = served_same e tunnels ports (ports_prepared tunnel told ports) (tunnels_prepared tunnel told ports) served
 
 -- nor does it depend on whether a port is prepared
 pub held_prepared : {L Q : Type 0} (most : Q → ℕ) (table : Slab Q) (h : HeldBy L) (n : Outside) (answer : Answer) (s : Held) → IsHeld most table h s
@@ -183,6 +182,7 @@ held_prepared most table h n (Replied (reply.Opened tunnel routes)) s is = recor
   conn = is.conn;
   number = is.number;
   ports = are_prepared most table tunnel (n.port tunnel) h.ports.items s.ports is.ports;
+  apart = is.apart;
   served = served_prepared tunnel (n.port tunnel) s.conn.ending s.conn.tunnels s.ports is.served;
   bound = is.bound;
   room = is.room;
@@ -296,7 +296,7 @@ told_prepared n (Put put limit) h told = told
 fits_by : (o n : Outside) (number : ℕ) (found : Found) (h : Held) (b : Bool) → (h.conn.number == number) ≡ b
     → (h.conn.number ≡ number → HeldFits o n (filled o found h)) → HeldFits o n (filled o (if b then found else idle) h)
 fits_by o n number found h true same fits = fits (eqb-true h.conn.number number same)
-fits_by o n number found h false other fits = none_faults o n h idle_port refl refl
+fits_by o n number found h false other fits = idle_faults o n h
 
 -- a link or port of which nothing is told doesn't fail, but where that of the connection with this number did
 pub faults_refilled : (o n : Outside) (number : ℕ) (found : Found) (w : Worker)

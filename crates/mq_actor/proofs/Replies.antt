@@ -43,15 +43,14 @@ opens_with s sh ts after conn id actor goal tunnel routes ws conn_is actor_is tu
           ∙ ap (λ (k : ℕ). entries s.number s.actor k) tunnel_is;
     }))
 
--- its tunnel closed
-pub closes_with : (s : Conn) (sh : Shared) (ts : List Tunnel) (after : Shared) (t : Tunnel) → s.tunnels ≡ t ∷ []
+-- a tunnel of it closed
+pub closes_with : (s : Conn) (sh : Shared) (ts : List Tunnel) (after : Shared) (t : Tunnel) → Contains s.tunnels t
     → ts ≡ filter (λ (u : Tunnel). not (u.id == t.id)) s.tunnels
     → Wrote sh s.actor (call.Close t.id) reply.Closed after → Goes s sh ts after
-closes_with s sh ts after t only ts_are book =
-    let P : List Tunnel → Type 0 = λ us. Contains us t in
+closes_with s sh ts after t has ts_are book =
     inr (inr (record {
       closed = t;
-      has = subst P (sym only) (contains_head t []);
+      has = has;
       tunnels_are = ap shapes_of ts_are ∙ without_shapes t.id s.tunnels;
       book = book;
     }))

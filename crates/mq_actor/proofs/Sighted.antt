@@ -15,9 +15,9 @@ use Rattle.mq_machine.specs.State.{Tunnel, Link, Port, Held, Worker}
 use Rattle.mq_machine.specs.Acting.{Outside, IsOpen, Known, Binder}
 use Rattle.mq_held.specs.declared.held.Held.{Held as HeldBy}
 use Rattle.mq_held.specs.declared.held.PortSeat.{PortSeat}
-use Rattle.mq_step.specs.Holds.{ArePorts, AreServed, IsHeld}
+use Rattle.mq_step.specs.Holds.{ArePorts, AreServed, IsApartFrom, SeatsApart, IsHeld}
 use Rattle.mq_step.specs.Sights.{SeesPort}
-use Rattle.mq_step.proofs.Passing.{at_most_one}
+use Rattle.mq_step.proofs.Places.{apart_at}
 use Rattle.mq_actor.specs.declared.offer.Offer.{Offer as OfferBy}
 use Rattle.mq_actor.specs.declared.ring.Ring.{Ring}
 use Rattle.mq_actor.specs.Holds.{AreHeld, AreDistinct, numbers_of}
@@ -274,27 +274,33 @@ seat_port most table (x ∷ seats) (p ∷ ports) are (suc a) seat at = seat_port
 abbrev HasNumber : List Tunnel → ℕ → ℕ → Type 0
 HasNumber tunnels a tunnel = (t : Tunnel) × (slice_get tunnels a ≡ Some t) × (t.id ≡ tunnel)
 
+tunnel_at : (tunnels : List Tunnel) (a n : ℕ) → slice_get (map (λ (t : Tunnel). t.id) tunnels) a ≡ Some n → HasNumber tunnels a n
+tunnel_at tunnels a n at = let found = map_get (λ (t : Tunnel). t.id) tunnels a n at in (found.0, found.1, sym found.2)
+
 tunnel_same : (tunnels : List Tunnel) (ports : List Port) → map (λ (q : Port). q.tunnel) ports ≡ map (λ (t : Tunnel). t.id) tunnels
     → (a : ℕ) (p : Port) → slice_get ports a ≡ Some p → HasNumber tunnels a p.tunnel
-tunnel_same tunnels ports same a p at =
-    let found =
-    map_get (λ (t : Tunnel). t.id) tunnels a p.tunnel
-    (ap (λ (ns : List ℕ). slice_get ns a) (sym same) ∙ get_map (λ (q : Port). q.tunnel) ports a p at) in
-    (found.0, found.1, sym found.2)
+tunnel_same tunnels ports same a p at = tunnel_at tunnels a p.tunnel (ap (λ (ns : List ℕ). slice_get ns a) (sym same) ∙ get_map (λ (q : Port). q.tunnel) ports a p at)
 
 port_tunnel : (ending : Option End) (tunnels : List Tunnel) (ports : List Port) → AreServed ending tunnels ports
     → (a : ℕ) (p : Port) → slice_get ports a ≡ Some p → HasNumber tunnels a p.tunnel
 port_tunnel None tunnels ports served a p at = tunnel_same tunnels ports served a p at
-port_tunnel (Some why) tunnels ports (inl none) a p at =
-    let P : List Port → Type 0 = λ ps. slice_get ps a ≡ Some p in
-    let there : slice_get [] a ≡ Some p = subst P none at in absurd cc
-port_tunnel (Some why) tunnels ports (inr same) a p at = tunnel_same tunnels ports same a p at
+port_tunnel (Some why) tunnels ports (inl same) a p at = tunnel_same tunnels ports same a p at
+port_tunnel (Some why) tunnels ports (inr (last, is)) a p at =
+    tunnel_at tunnels a p.tunnel
+    (ap (λ (ns : List ℕ). slice_get ns a) is ∙ get_append (map (λ (q : Port). q.tunnel) ports) (last ∷ []) a p.tunnel (get_map (λ (q : Port). q.tunnel) ports a p at))
+
+-- the seats of one connection are of tunnels of their own
+one_place : (seats : List PortSeat) → SeatsApart seats → (a b : ℕ) (x y : PortSeat) → slice_get seats a ≡ Some x → slice_get seats b ≡ Some y → x.tunnel ≡ y.tunnel → a ≡ b
+one_place seats apart a b x y at_x at_y same = by_case (apart_at seats apart a b x y at_x at_y) where
+  by_case : ((a ≡ b) × (x ≡ y)) ⊎ IsApartFrom x y → a ≡ b
+  by_case (inl (place, is)) = place
+  by_case (inr ne) = absurd (ne.0 (sym same))
 
 -- a worker's connections have tunnels of their own
 pub own_tunnels : {L Q : Type 0} (most : Q → ℕ) (table : Slab Q) (hs : List (HeldBy L)) (x : Worker) (o : Outside) (seen : Seen) (boxes : Option Boxes)
     → AreHeld most table hs x.conns → AreApart x.conns → Known (sight o seen boxes) x → HaveOwnTunnels hs
 own_tunnels {L} most table hs x o seen boxes are apart known = λ i j a b g h u v at_g at_h at_u at_v same.
-    by_places i j a b g h u v at_u at_v same (held_at most table hs x.conns i g are at_g) (held_at most table hs x.conns j h are at_h) where
+    by_places i j a b g h u v at_g at_h at_u at_v same (held_at most table hs x.conns i g are at_g) (held_at most table hs x.conns j h are at_h) where
       At : ℕ → HeldBy L → Type 0
       At i g = (s : Held) × (slice_get x.conns i ≡ Some s) × IsHeld most table g s
 
@@ -328,17 +334,17 @@ own_tunnels {L} most table hs x o seen boxes are apart known = λ i j a b g h u 
       one_conn : (tunnel m n : ℕ) → OpenOn tunnel m → OpenOn tunnel n → m ≡ n
       one_conn tunnel m n (stream, goal, is) (on, to, also) = open_once seen.entries x.id tunnel n on m stream to goal also is
 
-      by_places : (i j a b : ℕ) (g h : HeldBy L) (u v : PortSeat) → slice_get g.ports.items a ≡ Some u → slice_get h.ports.items b ≡ Some v
+      -- the same place has the same connection
+      same_held : {i j : ℕ} {g h : HeldBy L} → i ≡ j → slice_get hs i ≡ Some g → slice_get hs j ≡ Some h → h ≡ g
+      same_held place at_g at_h = let e : Some _ ≡ Some _ = sym at_h ∙ ap (λ (k : ℕ). slice_get hs k) (sym place) ∙ at_g in cc
+
+      by_places : (i j a b : ℕ) (g h : HeldBy L) (u v : PortSeat) → slice_get hs i ≡ Some g → slice_get hs j ≡ Some h → slice_get g.ports.items a ≡ Some u → slice_get h.ports.items b ≡ Some v
           → u.tunnel ≡ v.tunnel → At i g → At j h → (i ≡ j) × (a ≡ b)
-      by_places i j a b g h u v at_u at_v same (s, at_s, of_s) (t, at_t, of_t) =
+      by_places i j a b g h u v at_g at_h at_u at_v same (s, at_s, of_s) (t, at_t, of_t) =
           let P : ℕ → Type 0 = λ n. OpenOn n s.conn.number in
           let numbers =
           one_conn v.tunnel s.conn.number t.conn.number (subst P same (open_on i a g s u at_s of_s at_u)) (open_on j b h t v at_t of_t at_v) in
-          let few_g = at_most_one most table g s of_s in
-          let few_h = at_most_one most table h t of_t in
-          let in_g = within g.ports.items a u at_u in
-          let in_h = within h.ports.items b v at_v in
-          (apart i j s t at_s at_t numbers, omega (arith, few_g, few_h, in_g, in_h))
+          let place = apart i j s t at_s at_t numbers in (place, one_place g.ports.items of_s.apart a b u v at_u (subst (λ (k : HeldBy L). slice_get k.ports.items b ≡ Some v) (same_held place at_g at_h) at_v) same)
 
 -- ---- connections that change
 
@@ -356,33 +362,26 @@ get_set {A} (z ∷ xs) (suc i) y (suc j) x at = by_case (get_set xs i y j x at) 
   by_case (inl (here, is)) = inl (ap (λ (k : ℕ). suc k) here, is)
   by_case (inr (ne, is)) = inr (λ same. ne (omega (arith, same)), is)
 
--- one of them became another, whose tunnels, one at most, are none of the others'
-pub own_tunnels_set : {L : Type 0} (hs : List (HeldBy L)) (place : ℕ) (now : HeldBy L) → HaveOwnTunnels hs → length now.ports.items ≤ 1
-    → ((j b : ℕ) (h : HeldBy L) (x y : PortSeat) → j ≢ place → slice_get hs j ≡ Some h → slice_get h.ports.items b ≡ Some y
-    → slice_get now.ports.items 0 ≡ Some x → x.tunnel ≢ y.tunnel) → HaveOwnTunnels (slice_set hs place now)
-own_tunnels_set {L} hs place now own few others = λ i j a b g h x y at_g at_h at_x at_y same.
+-- one of them became another, whose tunnels are its own, and none of the others'
+pub own_tunnels_set : {L : Type 0} (hs : List (HeldBy L)) (place : ℕ) (now : HeldBy L) → HaveOwnTunnels hs → SeatsApart now.ports.items
+    → ((j a b : ℕ) (h : HeldBy L) (x y : PortSeat) → j ≢ place → slice_get hs j ≡ Some h → slice_get h.ports.items b ≡ Some y
+    → slice_get now.ports.items a ≡ Some x → x.tunnel ≢ y.tunnel) → HaveOwnTunnels (slice_set hs place now)
+own_tunnels_set {L} hs place now own apart others = λ i j a b g h x y at_g at_h at_x at_y same.
     by_places i j a b g h x y at_x at_y same (get_set hs place now i g at_g) (get_set hs place now j h at_h) where
       Stands : ℕ → HeldBy L → Type 0
       Stands i g = ((i ≡ place) × (g ≡ now)) ⊎ ((i ≢ place) × (slice_get hs i ≡ Some g))
 
-      -- a seat of the new one is its first
-      is_first : (a : ℕ) (g : HeldBy L) (x : PortSeat) → g ≡ now → slice_get g.ports.items a ≡ Some x → (a ≡ 0) × (slice_get now.ports.items 0 ≡ Some x)
-      is_first a g x is at =
-          let P : HeldBy L → Type 0 = λ k. slice_get k.ports.items a ≡ Some x in
-          let there : slice_get now.ports.items a ≡ Some x = subst P is at in
-          let less = within now.ports.items a x there in
-          let first : a ≡ 0 = omega (arith, less, few) in
-          (first, subst (λ (k : ℕ). slice_get now.ports.items k ≡ Some x) first there)
+      -- a seat of the new one
+      there : (a : ℕ) (g : HeldBy L) (x : PortSeat) → g ≡ now → slice_get g.ports.items a ≡ Some x → slice_get now.ports.items a ≡ Some x
+      there a g x is at = let P : HeldBy L → Type 0 = λ k. slice_get k.ports.items a ≡ Some x in subst P is at
 
       by_places : (i j a b : ℕ) (g h : HeldBy L) (x y : PortSeat) → slice_get g.ports.items a ≡ Some x → slice_get h.ports.items b ≡ Some y
           → x.tunnel ≡ y.tunnel → Stands i g → Stands j h → (i ≡ j) × (a ≡ b)
-      by_places i j a b g h x y at_x at_y same (inl (here, is)) (inl (there, also)) =
-          (here ∙ sym there, (is_first a g x is at_x).0 ∙ sym (is_first b h y also at_y).0)
-      by_places i j a b g h x y at_x at_y same (inl (here, is)) (inr (ne, at_h)) =
-          absurd (others j b h x y ne at_h at_y (is_first a g x is at_x).1 same)
-      by_places i j a b g h x y at_x at_y same (inr (ne, at_g)) (inl (there, also)) =
-          absurd (others i a g y x ne at_g at_x (is_first b h y also at_y).1 (sym same))
-      by_places i j a b g h x y at_x at_y same (inr (ne, at_g)) (inr (apart, at_h)) = own i j a b g h x y at_g at_h at_x at_y same
+      by_places i j a b g h x y at_x at_y same (inl (here, is)) (inl (beside, also)) =
+          (here ∙ sym beside, one_place now.ports.items apart a b x y (there a g x is at_x) (there b h y also at_y) same)
+      by_places i j a b g h x y at_x at_y same (inl (here, is)) (inr (ne, at_h)) = absurd (others j a b h x y ne at_h at_y (there a g x is at_x) same)
+      by_places i j a b g h x y at_x at_y same (inr (ne, at_g)) (inl (beside, also)) = absurd (others i b a g y x ne at_g at_x (there b h y also at_y) (sym same))
+      by_places i j a b g h x y at_x at_y same (inr (ne, at_g)) (inr (far, at_h)) = own i j a b g h x y at_g at_h at_x at_y same
 
 -- one of them is gone
 pub own_tunnels_removed : {L : Type 0} (hs : List (HeldBy L)) (place : ℕ) → HaveOwnTunnels hs → HaveOwnTunnels (remove hs place)

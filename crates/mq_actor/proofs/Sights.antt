@@ -15,7 +15,7 @@ use Rattle.mq_held.specs.declared.held.Held.{Held as HeldBy}
 use Rattle.mq_held.specs.declared.held.PortSeat.{PortSeat}
 use Rattle.mq_step.specs.declared.stepped.Stepped.{Stepped}
 use Rattle.mq_step.specs.declared.stepped.Stepped.TheVariants.{Quiet, Did, Ended}
-use Rattle.mq_step.specs.Holds.{IsHeld, ArePorts}
+use Rattle.mq_step.specs.Holds.{IsHeld, ArePorts, SeatsApart}
 use Rattle.mq_step.specs.Whole.{Sees, filled}
 use Rattle.mq_step.specs.Wanted.{with_prepared}
 use Rattle.mq_step.specs.Gives.{Gives, Anything}
@@ -82,28 +82,28 @@ module _ {L Q : Type 0} (words : Words L Q) (r m : Ring L) (old mid new : Moment
         of_link = acting.seen.of_link;
         of_table = record { ports = acting.seen.of_ports; binds_are = sees.binds_are ∙ sym so.passed.binds };
       } in
-      subst E so.passed.seen (subst S setup (acts.gives o n before (sight_whole words new.binds new.table now acts.few) acting.s acting.stands))
+      subst E so.passed.seen (subst S setup (acts.gives o n before (sight_whole words new.binds new.table now acts.apart) acting.s acting.stands))
 
   -- its tunnels are none of the others'
-  tunnels_set : (t : Held) (sh after : Shared) → length now.ports.items ≤ 1 → IsHeld words.most new.table now t → Goes acting.s.conn sh t.conn.tunnels after → SeesBook old.seen sh.book
+  tunnels_set : (t : Held) (sh after : Shared) → SeatsApart now.ports.items → IsHeld words.most new.table now t → Goes acting.s.conn sh t.conn.tunnels after → SeesBook old.seen sh.book
       → HaveOwnTunnels (slice_set mid.conns place now)
-  tunnels_set t sh after few held goes book = own_tunnels_set mid.conns place now own few each where
-    each : (j b : ℕ) (h : HeldBy L) (a y : PortSeat) → j ≢ place → slice_get mid.conns j ≡ Some h → slice_get h.ports.items b ≡ Some y → slice_get now.ports.items 0 ≡ Some a → a.tunnel ≢ y.tunnel
-    each j b h a y ne at_h at_y at_a =
-        let v = tunnel_of_seat words.most new.table now t 0 a held at_a in
+  tunnels_set t sh after apart_now held goes book = own_tunnels_set mid.conns place now own apart_now each where
+    each : (j i b : ℕ) (h : HeldBy L) (a y : PortSeat) → j ≢ place → slice_get mid.conns j ≡ Some h → slice_get h.ports.items b ≡ Some y → slice_get now.ports.items i ≡ Some a → a.tunnel ≢ y.tunnel
+    each j i b h a y ne at_h at_y at_a =
+        let v = tunnel_of_seat words.most new.table now t i a held at_a in
         let other = held_at words.most mid.table mid.conns x.conns j h stand at_h in
         let u = tunnel_of_seat words.most mid.table h other.0 b y other.2 at_y in
         let differ = goes_apart x o old.seen boxes known apart place j u.0 acting.s other.0 sh t.conn.tunnels after v.0 v.1 u.1 acting.at_is other.1 (λ e. ne (sym e)) goes book v.2 u.2 in
         λ same. differ (v.3 ∙ same ∙ sym u.3)
 
-  set_seen : (t : Held) (sh after : Shared) → length now.ports.items ≤ 1 → IsHeld words.most new.table now t → Goes acting.s.conn sh t.conn.tunnels after → SeesBook old.seen sh.book
+  set_seen : (t : Held) (sh after : Shared) → SeatsApart now.ports.items → IsHeld words.most new.table now t → Goes acting.s.conn sh t.conn.tunnels after → SeesBook old.seen sh.book
       → now.number ≡ was.number → s.conns.items ≡ slice_set mid.conns place now → s.ended ≡ None → s.offered.items ≡ r.offered.items → (n : Outside) × SeesRing words new.table new.binds s n
-  set_seen t sh after few held goes book number items ended offered =
+  set_seen t sh after apart_now held goes book number items ended offered =
       let T : List (HeldBy L) → Type 0 = λ hs. HaveOwnTunnels hs in
       let A : List (HeldBy L) → Type 0 = λ hs. AreDistinct (numbers_of hs r.offered.items) in
       let N : List (OfferBy L) → Type 0 = λ fs. AreDistinct (numbers_of s.conns.items fs) in
       sighted words new.table new.binds s ended (subst N (sym offered) (subst A (sym items) (numbers_set mid.conns r.offered.items place was now at number numbers_mid)))
-      (subst T (sym items) (tunnels_set t sh after few held goes book))
+      (subst T (sym items) (tunnels_set t sh after apart_now held goes book))
 
   no_orders : Orders
   no_orders = record { bind = false }
@@ -124,7 +124,7 @@ module _ {L Q : Type 0} (words : Words L Q) (r m : Ring L) (old mid new : Moment
       let IC : Conn → Type 0 = λ c. IsConn now.conn c in
       let left = try_leaves x.setup was.conn now.conn (filled o d.found acting.s) d.sh d.after d.try d.answer said b.0 acting.stands.conn (subst IC same gives.2.0.conn) d.is (subst N b.1 d.next) in
       let TL : List Tunnel → Type 0 = λ ts. Goes acting.s.conn d.sh ts d.after in
-      set_seen gives.0 d.sh d.after acts.few gives.2.0 (subst TL (ap (λ (c : Conn). c.tunnels) (sym same)) left.goes) d.shares.book acts.number leaves.1
+      set_seen gives.0 d.sh d.after acts.apart gives.2.0 (subst TL (ap (λ (c : Conn). c.tunnels) (sym same)) left.goes) d.shares.book acts.number leaves.1
       (ap (λ (z : Ring L). z.ended) leaves.2 ∙ ap (λ (z : Ring L). z.ended) so.ring ∙ begins)
       (ap (λ (z : Ring L). z.offered.items) leaves.2 ∙ ap (λ (z : Ring L). z.offered.items) so.ring)
   acted_seen (Ok (Ended said)) result acts leaves =
@@ -151,6 +151,6 @@ module _ {L Q : Type 0} (words : Words L Q) (r m : Ring L) (old mid new : Moment
       let d = gives.1 in
       let goes = starved_goes was.conn (filled o d.found acting.s) d.sh d.after d.reached.asked d.try d.answer d.tunnels acting.stands.conn d.heard in
       let TL : List Tunnel → Type 0 = λ ts. Goes acting.s.conn d.sh ts d.after in
-      set_seen gives.0 d.sh d.after acts.few gives.2.0 (subst TL (sym (ap (λ (h : Held). h.conn.tunnels) d.then)) goes) d.shares.book acts.number leaves.1
+      set_seen gives.0 d.sh d.after acts.apart gives.2.0 (subst TL (sym (ap (λ (h : Held). h.conn.tunnels) d.then)) goes) d.shares.book acts.number leaves.1
       (ap (λ (z : Ring L). z.ended) leaves.2 ∙ ap (λ (z : Ring L). z.ended) so.ring ∙ begins)
       (ap (λ (z : Ring L). z.offered.items) leaves.2 ∙ ap (λ (z : Ring L). z.offered.items) so.ring)

@@ -10,7 +10,7 @@ use Rattle.mq_machine.specs.Shared.{Answers, Asks}
 use Rattle.mq_machine.specs.Silent.{takes_memory, tunnels_after}
 use Rattle.mq_conn.specs.declared.conn.Conn.{Conn as Core}
 use Rattle.mq_conn.specs.Conns.{IsConn}
-use Rattle.mq_step.proofs.Alone.{IsUdpWant, open_alone}
+use Rattle.mq_step.proofs.Cores.{IsUdpWant, open_alive}
 use Rattle.mq_actor.specs.Goes.{shapes_of, Goes}
 use Rattle.mq_actor.proofs.Replies.{stays_with, opens_with, Opened, Full, asked_open}
 
@@ -23,8 +23,8 @@ open_heard c s sh after conn id actor goal said ts conn_is want asks ts_are = by
 
   by_said : Opened sh after s.actor (call.Open conn id actor goal) said ⊎ Full sh after said → Goes s sh ts after
   by_said (inl x) =
-      let alone = open_alone c s conn id actor goal conn_is want in
-      opens_with s sh ts after conn id actor goal x.tunnel x.routes [] alone.2 alone.3 x.tunnel_is (ts_are ∙ ap left x.said_is) x.wrote
+      let alive = open_alive c s conn id actor goal conn_is want in
+      opens_with s sh ts after conn id actor goal x.tunnel x.routes [] alive.1 alive.2 x.tunnel_is (ts_are ∙ ap left x.said_is) x.wrote
   by_said (inr x) = inl (record { tunnels_are = ap shapes_of (ts_are ∙ ap left x.said_is); book = x.book })
 
 ask_heard : (c : Core) (s : Conn) (sh after : Shared) (asked : Call) (said : Reply) (ts : List Tunnel) → IsConn c s → want_of s ≡ Ask asked

@@ -87,7 +87,7 @@ turn_length {L} conns after place held A turns at =
 -- the connections of the moment behind don't matter
 acts_among : {L Q : Type 0} (words : Words L Q) (setup : Setup) (old new : Moment L Q) (conns : List (HeldBy L)) (r : Result Stepped NoMemory)
     (was now : HeldBy L) → Acts words setup old (record new { conns = conns }) r was now → Acts words setup old new r was now
-acts_among words setup old new conns r was now a = record { number = a.number; others = a.others; stays = a.stays; calm = a.calm; few = a.few; ends = a.ends; still = a.still; gives = a.gives }
+acts_among words setup old new conns r was now a = record { number = a.number; others = a.others; stays = a.stays; calm = a.calm; apart = a.apart; ends = a.ends; still = a.still; gives = a.gives }
 
 module _ {L Q : Type 0} (words : Words L Q) (upper : Bool) (place : ℕ) (r mid : Ring L) (old new : Moment L Q) (held : HeldBy L) where
   -- the ring is as it was, but for its connections and rooms

@@ -13,7 +13,7 @@ use Rattle.mq_step.specs.declared.stepped.Stepped.{Stepped}
 use Rattle.mq_step.specs.declared.stepped.Stepped.TheVariants.{Quiet, Did, Ended}
 use Rattle.mq_step.specs.Sights.{idle}
 use Rattle.mq_step.specs.Whole.{Sees, filled}
-use Rattle.mq_step.specs.Holds.{IsHeld, IsKnown, KeepsOthers}
+use Rattle.mq_step.specs.Holds.{IsHeld, IsKnown, SeatsApart, KeepsOthers}
 use Rattle.mq_step.specs.Gives.{Gives, Anything}
 use Rattle.mq_actor.specs.declared.ring.Ring.{Ring}
 use Rattle.mq_actor.specs.Seen.{Words, Moment, SeesConn}
@@ -81,7 +81,7 @@ pub record Acts {L Q : Type 0} (words : Words L Q) (setup : Setup) (old new : Mo
   pub others : KeepsOthers was now old.table new.table
   pub stays : stepped ≡ Ok Quiet → now.ports.items ≡ was.ports.items
   pub calm : stepped ≡ Ok Quiet → (new.seen ≡ old.seen) × (new.binds ≡ old.binds)
-  pub few : length now.ports.items ≤ 1
+  pub apart : SeatsApart now.ports.items
   pub ends : (said : Note) → stepped ≡ Ok (Ended said) → now.ports.items ≡ was.ports.items
   pub still : stepped ≡ Ok Quiet
       → (s : Held) → IsHeld words.most old.table was s → IsHeld words.most new.table now s

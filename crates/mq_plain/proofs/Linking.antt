@@ -105,7 +105,7 @@ module _ (change : Link → Link) (number : ℕ) where
   helds_changed most table (h ∷ hs) [] are = absurd are
   helds_changed {L} most table (h ∷ hs) (s ∷ ss) are = (here (s.conn.number == number), helds_changed most table hs ss are.1) where
     here : (b : Bool) → IsHeld most table h (if b then record s { link = change s.link } else s)
-    here true = record { conn = are.0.conn; number = are.0.number; ports = are.0.ports; served = are.0.served; bound = are.0.bound; room = are.0.room }
+    here true = record { conn = are.0.conn; number = are.0.number; ports = are.0.ports; apart = are.0.apart; served = are.0.served; bound = are.0.bound; room = are.0.room }
     here false = are.0
 
   offers_changed : {L : Type 0} (fs : List (OfferBy L)) (os : List Offer) → AreOffered fs os → AreOffered fs (map (at_offer number change) os)

@@ -12,8 +12,9 @@ use Rattle.mq_machine.specs.Shared.{at_port}
 use Rattle.mq_machine.specs.Acting.{holds_of}
 use Rattle.mq_held.specs.declared.held.Held.{Held as HeldBy}
 use Rattle.mq_held.specs.declared.held.PortSeat.{PortSeat}
-use Rattle.mq_step.specs.Holds.{IsPort, ArePorts, AreServed, IsOther, tunnels_of}
-use Rattle.mq_step.proofs.Passing.{at_most_one}
+use Rattle.mq_step.specs.Holds.{IsPort, ArePorts, AreServed, IsApartFrom, IsOther, tunnels_of}
+use Rattle.mq_step.proofs.Filling.{served_same}
+use Rattle.mq_step.proofs.Places.{apart_at}
 use Rattle.mq_actor.specs.declared.ring.Ring.{Ring}
 use Rattle.mq_actor.specs.Holds.{IsWorker, AreHeld}
 use Rattle.mq_actor.specs.Lent.{seat_at}
@@ -137,9 +138,7 @@ module _ {L Q : Type 0} (words : Words L Q) (table : Slab Q) (change : Port → 
     here false = refl
 
   served_changed : (why : Option End) (us : List Tunnel) (ports : List Port) → AreServed why us ports → AreServed why us (at_port tunnel change ports)
-  served_changed None us ports served = tunnels_changed ports ∙ served
-  served_changed (Some why) us ports (inl none) = inl (ap (λ (ps : List Port). at_port tunnel change ps) none)
-  served_changed (Some why) us ports (inr same) = inr (tunnels_changed ports ∙ same)
+  served_changed why us ports served = served_same why us ports (at_port tunnel change ports) (tunnels_changed ports) served
 
   helds_changed : (hs : List (HeldBy L)) (ss : List Held) → AreHeld words.most table hs ss → AreHeld words.most table hs (map (with_ports tunnel change) ss)
   helds_changed [] [] are = tt
@@ -150,6 +149,7 @@ module _ {L Q : Type 0} (words : Words L Q) (table : Slab Q) (change : Port → 
       conn = are.0.conn;
       number = are.0.number;
       ports = are_changed h.ports.items s.ports are.0.ports;
+      apart = are.0.apart;
       served = served_changed s.conn.ending s.conn.tunnels s.ports are.0.served;
       bound = are.0.bound;
       room = are.0.room;
@@ -267,16 +267,13 @@ module _ {L Q : Type 0} (words : Words L Q) (table after : Slab Q) (change : Por
         let both : Some other ≡ Some seat = sym (subst P e (ap (λ (k : ℕ). slice_get h.ports.items k) (sym same_a) ∙ at_other)) ∙ x.at_seat in
         cc
 
-    same_place : i ≡ x.i → a ≡ x.a
+    same_place : i ≡ x.i → ((a ≡ x.a) × (other ≡ seat)) ⊎ IsApartFrom other seat
     same_place same_i =
         let first : Some h ≡ Some x.h = sym at ∙ ap (λ (k : ℕ). slice_get r.conns.items k) same_i ∙ x.at in
         let e : h ≡ x.h = cc in
         let held = held_at words.most table r.conns.items w.conns i h is.conns at in
-        let few = at_most_one words.most table h held.0 held.2 in
         let P : HeldBy L → Type 0 = λ g. slice_get g.ports.items x.a ≡ Some seat in
-        let lt = within h.ports.items a other at_other in
-        let lt_x = within h.ports.items x.a seat (subst P (sym e) x.at_seat) in
-        omega (arith, few, lt, lt_x)
+        apart_at h.ports.items held.2.apart a x.a other seat at_other (subst P (sym e) x.at_seat)
 
     keys_apart : i ≢ x.i → other.key ≢ seat.key
     keys_apart ne =
@@ -289,7 +286,10 @@ module _ {L Q : Type 0} (words : Words L Q) (table after : Slab Q) (change : Por
     by_case (inl same) place =
         let both = own i x.i a x.a h x.h other seat at x.at at_other x.at_seat (same ∙ sym of) in
         inl (same, ap (λ (s : PortSeat). s.key) (seat_same both.0 both.1))
-    by_case (inr ne) (inl same_i) = absurd (ne (ap (λ (s : PortSeat). s.tunnel) (seat_same same_i (same_place same_i)) ∙ of))
+    by_case (inr ne) (inl same_i) = by_seat (same_place same_i) where
+      by_seat : ((a ≡ x.a) × (other ≡ seat)) ⊎ IsApartFrom other seat → ((other.tunnel ≡ tunnel) × (other.key ≡ seat.key)) ⊎ ((other.tunnel ≢ tunnel) × (other.key ≢ seat.key))
+      by_seat (inl (place, e)) = absurd (ne (ap (λ (s : PortSeat). s.tunnel) e ∙ of))
+      by_seat (inr far) = inr (ne, λ same. far.1 (sym same))
     by_case (inr ne) (inr apart) = inr (ne, keys_apart apart)
 
   -- what the ring tells then

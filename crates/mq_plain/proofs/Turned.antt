@@ -1,6 +1,7 @@
 -- Behind each turn of a worker the port of the next number holds nothing, once what it was prepared to hold is gone.
-use Rattle.std.proofs.Common.{◌≡◌, ◌≢◌, inl, inr, ℕ, zero, suc, Bool, true, false, List, [], ◌∷◌, length, All, Contains, slice_get, Option, Some, None, refl, sym, ap, subst, ◌∙◌, arith}
+use Rattle.std.proofs.Common.{◌≡◌, ◌≢◌, inl, inr, ℕ, zero, suc, Bool, true, false, List, [], ◌∷◌, ◌++◌, length, All, Contains, slice_get, Option, Some, None, refl, sym, ap, subst, ◌∙◌, arith}
 use Rattle.std.specs.Prelude.{⊤}
+use Rattle.std.proofs.lemmas.List.{append-nil}
 use Rattle.std.proofs.lemmas.List.Elements.{All-contains_itself}
 use Rattle.slab.specs.Slab.{Slab}
 use Rattle.mq_outside.specs.Ports.{empty_port}
@@ -151,18 +152,21 @@ tunnels_apart : (t : ℕ) (us : List Tunnel) → ((j : ℕ) (u : Tunnel) → sli
 tunnels_apart t [] each = tt
 tunnels_apart t (u ∷ us) each = (each zero u refl, tunnels_apart t us (λ j v at. each (suc j) v at))
 
-ports_apart : (t : ℕ) (us : List Tunnel) (ports : List Port) → TunnelsApart t us → tunnels_of ports ≡ numbers_of us → PortsApart t ports
-ports_apart t us [] apart same = tt
-ports_apart t [] (p ∷ ports) apart same = absurd cc
-ports_apart t (u ∷ us) (p ∷ ports) apart same =
-    let first : p.tunnel ≡ u.id = cc in
-    let rest : tunnels_of ports ≡ numbers_of us = cc in
-    (λ e. apart.0 (sym first ∙ e), ports_apart t us ports apart.1 rest)
+ports_apart : (more : List ℕ) (t : ℕ) (us : List Tunnel) (ports : List Port) → TunnelsApart t us → numbers_of us ≡ tunnels_of ports ++ more → PortsApart t ports
+ports_apart more t us [] apart same = tt
+ports_apart more t [] (p ∷ ports) apart same = absurd cc
+ports_apart more t (u ∷ us) (p ∷ ports) apart same =
+    let first : u.id ≡ p.tunnel = cc in
+    let rest : numbers_of us ≡ tunnels_of ports ++ more = cc in
+    (λ e. apart.0 (first ∙ e), ports_apart more t us ports apart.1 rest)
+
+all_apart : (t : ℕ) (us : List Tunnel) (ports : List Port) → TunnelsApart t us → tunnels_of ports ≡ numbers_of us → PortsApart t ports
+all_apart t us ports apart same = ports_apart [] t us ports apart (sym same ∙ sym (append-nil (tunnels_of ports)))
 
 served_apart : (t : ℕ) (why : Option End) (us : List Tunnel) (ports : List Port) → TunnelsApart t us → AreServed why us ports → PortsApart t ports
-served_apart t None us ports apart served = ports_apart t us ports apart served
-served_apart t (Some why) us ports apart (inl none) = let P : List Port → Type 0 = λ ps. PortsApart t ps in subst P (sym none) tt
-served_apart t (Some why) us ports apart (inr same) = ports_apart t us ports apart same
+served_apart t None us ports apart served = all_apart t us ports apart served
+served_apart t (Some why) us ports apart (inl same) = all_apart t us ports apart same
+served_apart t (Some why) us ports apart (inr (last, is)) = ports_apart (last ∷ []) t us ports apart is
 
 apart_all : (t : ℕ) (hs : List Held) → ((i : ℕ) (h : Held) → slice_get hs i ≡ Some h → PortsApart t h.ports) → ConnsApart t hs
 apart_all t [] each = tt

@@ -17,7 +17,7 @@ use Rattle.mq_machine.specs.Want.{Want, Nothing, Say, Bind, Ask, Judge, Push, Se
 use Rattle.mq_machine.specs.Shared.{Answers, port_of}
 use Rattle.mq_machine.specs.Silent.{Reached, Heard, SeatStarves}
 use Rattle.mq_machine.specs.Turn.{Try, Act, Frame, Write, Read, Receive, receive_failed, ActNext, TryNext, WriteNext, ReadNext, PortNext, ReceiveNext, Seat, Offers, Inbox, Of, SeatNext}
-use Rattle.mq_step.proofs.Alone.{IsUdpWant, udp_want}
+use Rattle.mq_step.proofs.Cores.{IsUdpWant, udp_want}
 use Rattle.mq_actor.specs.declared.ring.Ring.{Ring}
 use Rattle.mq_actor.specs.Holds.{IsWorker}
 use Rattle.mq_actor.proofs.Helds.{at_held}
