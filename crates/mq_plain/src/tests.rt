@@ -1,6 +1,6 @@
-//! A worker whose office refuses memory to one call.
+//! A worker whose office refuses memory to one call, and one over the inboxes that threads share.
 
-ghost use Rattle.std.specs.Prelude.{◌≡◌, [], Some, IfOk, List, length};
+ghost use Rattle.std.specs.Prelude.{◌≡◌, ◌+◌, [], IfOk, List, length};
 ghost use Rattle.mq_addr.specs.declared.kind.Kind.TheVariants as kind;
 ghost use Rattle.mq_talk.specs.Mails.{Boxes};
 ghost use Rattle.mq_talk.specs.Offices.{Seen};
@@ -9,18 +9,22 @@ ghost use Rattle.mq_machine.specs.Acting.{Outside, Known};
 ghost use Rattle.mq_mem.specs.Offices.{seen_of};
 ghost use Rattle.mq_actor.specs.Holds.{IsWorker};
 ghost use Rattle.mq_actor.specs.Steps.{sight};
+ghost use Rattle.mq_mail.specs.Posts.{new_key};
 ghost use Rattle.mq_plain.specs.Served.{Serves, words};
 
 use crate::{Plain, PlainPorts, offer, piece};
 use mq_addr::Kind;
 use mq_book::Config;
 use mq_machine::Setup;
+use mq_mail::{MailKey, Post, matrix};
 use mq_mem::{PlainMail, PlainOffice, RefusingOffice};
 use mq_policy::Policy;
-use mq_talk::{End, Note};
+use mq_talk::{End, Mail, Note};
 use mq_target::Template;
 use mq_wire::{Bytes, NoMemory, Seq};
 use std::alloc::Global;
+use std::collections::VecDeque;
+use std::sync::Wait;
 use std::test::Fail;
 
 /// A request for a tunnel to 192.0.2.6, port 443 (RFC 9298, section 3.2).
@@ -101,15 +105,16 @@ fn word(step: Result<Option<Note>, NoMemory>) -> Option<&'static str> {
 }
 
 /// A worker takes steps until one gives no note, twenty at most. Answers what they gave.
-fn steps(
+fn steps<M: Mail>(
     alloc: Global,
     worker: &mut Plain,
     office: &mut RefusingOffice,
-    mail: &mut PlainMail,
+    mail: &mut M,
 ) -> Result<Vec<&'static str>, NoMemory>
-    requires known { (o : Outside) × (w : machine.Worker) × IsWorker words.most worker.old.table.table worker.old.ring w × Known (sight o (seen_of office.old.office) (Some mail.old.boxes)) w }
+    requires known { (o : Outside) × (w : machine.Worker) × IsWorker words.most worker.old.table.table worker.old.ring w × Known (sight o (seen_of office.old.office) (M.boxes mail.old)) w }
     requires office { office.old.office.actor ≡ worker.old.ring.id }
-    requires mail { mail.old.actor ≡ worker.old.ring.id }
+    requires mail { M.actor mail.old ≡ worker.old.ring.id }
+    requires inboxes { M.count mail.old ≡ worker.old.ring.setup.pump + 1 }
 {
     let mut gave = Vec::new(alloc);
     for _ in 0..20 {
@@ -130,6 +135,28 @@ fn played(alloc: Global, refused: u64) -> Result<(Vec<&'static str>, RefusingOff
     Ok((gave, office))
 }
 
+/// Inboxes that threads share, the only worker's and the pump's, and the worker's key.
+fn shared(alloc: Global) -> Result<(Post, MailKey), NoMemory>
+    ensures post { IfOk result (λ made. (length made.0.inboxes ≡ 2) × (made.0.capacity ≡ 256)) }
+    ensures key { IfOk result (λ made. made.1 ≡ new_key made.0.inboxes 0) }
+{
+    let (post, keys) = matrix(alloc, 2, 256)?;
+    let mut keys = VecDeque::from_vec(keys.into_vec());
+    let Some(key) = keys.pop_front() else {
+        unreachable!()
+    };
+    Ok((post, key))
+}
+
+/// What the steps of the only worker gave over the inboxes that threads share, where no call is refused memory.
+fn played_shared<R: Wait>(rt: &R, alloc: Global) -> Result<Vec<&'static str>, NoMemory> {
+    let mut worker = asked(alloc)?;
+    let mut office = office(alloc, 2)?;
+    let (post, key) = shared(alloc)?;
+    let mut mail = post.mail(rt, key);
+    steps(alloc, &mut worker, &mut office, &mut mail)
+}
+
 // A connection whose open is refused memory ends, and leaves no entry behind.
 #[test]
 fn an_open_that_is_refused_memory_ends_its_connection(rt: HostRuntime) -> Result<(), Fail> {
@@ -147,5 +174,14 @@ fn an_open_that_is_refused_memory_ends_its_connection(rt: HostRuntime) -> Result
         assert_eq!(rt; office.book().count(), entries);
         assert_eq!(rt; office.made(), 1);
     }
+    Ok(())
+}
+
+// The inboxes that threads share serve a worker as the plain ones do.
+#[test]
+fn a_worker_serves_over_shared_inboxes(rt: HostRuntime) -> Result<(), Fail> {
+    let gave = played_shared(&rt, rt.alloc())?;
+    let served = ["accepted", "took", "ported", "opened", "wrote"];
+    assert_eq!(rt; gave.as_slice(), served.as_slice());
     Ok(())
 }

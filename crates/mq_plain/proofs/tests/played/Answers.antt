@@ -1,4 +1,5 @@
-use Rattle.std.proofs.Common.{◌≡◌, length, sym, ap, ◌∙◌}
+use Rattle.std.proofs.Common.{◌≡◌, ℕ, ◌+◌, length, sym, ap, ◌∙◌}
+use Rattle.mq_machine.specs.declared.setup.Setup.{Setup}
 use Rattle.mq_mem.specs.Mails.{Mail as MailOf}
 use Rattle.mq_mem.specs.Offices.{seen_of}
 use Rattle.mq_plain.proofs.Serving.{nowhere}
@@ -21,3 +22,10 @@ steps-requires-clause-mail c =
     let size : length c.in_ok-mail.mail.boxes ≡ 2 = ap (λ (m : MailOf). length m.boxes) c.in_ok-mail.ensures in
     let x = c.in_ok-worker.ensures (seen_of c.in_ok-office.office.office) c.in_ok-mail.mail.boxes c.in_ok-office.ensures.config c.in_ok-office.ensures.empty size in
     ap (λ (m : MailOf). m.actor) c.in_ok-mail.ensures ∙ sym x.2.id
+
+pub steps-requires-clause-inboxes : goal.steps-requires-clause-inboxes
+steps-requires-clause-inboxes c =
+    let size : length c.in_ok-mail.mail.boxes ≡ 2 = ap (λ (m : MailOf). length m.boxes) c.in_ok-mail.ensures in
+    let x = c.in_ok-worker.ensures (seen_of c.in_ok-office.office.office) c.in_ok-mail.mail.boxes c.in_ok-office.ensures.config c.in_ok-office.ensures.empty size in
+    let pump : x.1.setup.pump ≡ 1 = (x.2.known nowhere).pump ∙ c.in_ok-office.ensures.config in
+    size ∙ ap (λ (n : ℕ). n + 1) (sym pump ∙ ap (λ (s : Setup). s.pump) x.2.stands.setup)

@@ -1,4 +1,4 @@
-use Rattle.std.proofs.Common.{◌≡◌, Some}
+use Rattle.std.proofs.Common.{◌≡◌, ◌+◌}
 use Rattle.mq_machine.specs.State as machine
 use Rattle.mq_machine.specs.Acting.{Outside, Known}
 use Rattle.mq_mem.specs.Offices.{seen_of}
@@ -8,8 +8,9 @@ use Rattle.mq_plain.specs.Served.{words}
 use Rattle.mq_plain.proofs.tests.steps.Given as goal
 
 abbrev pub invariant-loop : goal.invariant-loop
-invariant-loop l = record {
-  known : (o : Outside) × (w : machine.Worker) × IsWorker words.most l.worker.table.table l.worker.ring w × Known (sight o (seen_of l.office.office) (Some l.mail.boxes)) w;
+invariant-loop g l = record {
+  known : (o : Outside) × (w : machine.Worker) × IsWorker words.most l.worker.table.table l.worker.ring w × Known (sight o (seen_of l.office.office) (g.M.Mail.boxes l.mail)) w;
   office : l.office.office.actor ≡ l.worker.ring.id;
-  mail : l.mail.actor ≡ l.worker.ring.id;
+  mail : g.M.Mail.actor l.mail ≡ l.worker.ring.id;
+  inboxes : g.M.Mail.count l.mail ≡ l.worker.ring.setup.pump + 1;
 }
