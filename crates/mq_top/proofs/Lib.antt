@@ -7,3 +7,5 @@ pub mod Playing
 pub mod Cutting
 pub mod Reading
 pub mod Ending
+pub mod Generating
+pub mod Wording

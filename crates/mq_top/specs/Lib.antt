@@ -4,4 +4,6 @@ pub mod Printing
 pub mod Playing
 pub mod Reading
 pub mod Replay
+pub mod Generates
+pub mod Words
 pub mod Standard

@@ -1,7 +1,6 @@
 -- What a replay answers: by its status, what the script that was read, what is left of it and what was printed have to
 -- do with one another.
-use Rattle.std.specs.Prelude.{◌≡◌, ℕ, ◌⊎◌, List, [], ◌∷◌, ◌++◌, Option, Some, codes, string_bytes, String}
-use Rattle.std.specs.Global.{Global}
+use Rattle.std.specs.Prelude.{◌≡◌, ℕ, ◌⊎◌, List, [], ◌++◌, Option, Some}
 use Rattle.mq_play.specs.Script.{IsPlayed, IsPlayedSoFar, IsPlayedBad, IsPlayedPart}
 use Rattle.mq_outside.specs.Outside.{Rose, Gives}
 use Rattle.mq_top.specs.declared.status.Status.{Status}
@@ -48,13 +47,7 @@ SinkCounts before after BadScript = after ≡ before
 SinkCounts before after ReadFault = after ≡ before
 SinkCounts before after NoMemory = after ≡ before
 
--- the words are the one word replay
-abbrev pub IsReplay : List (String Global) → Type 0
-IsReplay [] = ⊥
-IsReplay (word ∷ []) = string_bytes word ≡ codes "replay"
-IsReplay (word ∷ other ∷ words) = ⊥
-
--- the exit status of a replay
+-- the exit status of a program that ends so
 abbrev pub code_of : Status → ℕ
 code_of Done = 0
 code_of ReadFault = 3

@@ -1,8 +1,10 @@
-//! A script is read from a source, played in the world of all actors, and what happens is printed to a sink.
+//! A script is read from a source, played in the world of all actors, and what happens is printed to a sink. Or a script is
+//! generated, and printed to a sink.
 #![tactic(auto)]
 
 mod command;
 mod entry;
+mod generate;
 mod output;
 mod play;
 mod script;
@@ -15,9 +17,11 @@ mod steps;
 mod tests;
 mod told;
 mod turns;
+mod words;
 
 pub use command::run;
 pub use entry::program;
+pub use generate::print_script;
 pub use script::replay;
 pub use standard::{StandardSink, StandardSource};
 pub use status::Status;

@@ -1,6 +1,7 @@
 //! Whole replays over sources and sinks in memory.
 
 mod capsules;
+mod generated;
 mod limits;
 mod lines;
 mod many;
