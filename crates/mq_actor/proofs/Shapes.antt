@@ -13,18 +13,18 @@ use Rattle.mq_actor.specs.Goes.{Shape, shape_of, shapes_of}
 -- of a tunnel in which this waits now
 pub set_shapes : (id : ℕ) (ws : List Waiting) (ts : List Tunnel) → shapes_of (set_waiting id ws ts) ≡ shapes_of ts
 set_shapes id ws [] = refl
-set_shapes id ws (t ∷ ts) = same (t.id == id) ∙ ap (λ (shapes : List Shape). shape_of t ∷ shapes) (set_shapes id ws ts) where
-  same : (b : Bool) → shapes_of ((cond b (record t { waiting = ws }) t) ∷ set_waiting id ws ts) ≡ shape_of t ∷ shapes_of (set_waiting id ws ts)
-  same true = refl
-  same false = refl
+set_shapes id ws (t ∷ ts) = same (t.id == id) (set_shapes id ws ts) where
+  same : (b : Bool) → shapes_of (set_waiting id ws ts) ≡ shapes_of ts → shapes_of (cond b (record t { waiting = ws } ∷ ts) (t ∷ set_waiting id ws ts)) ≡ shapes_of (t ∷ ts)
+  same true rest = refl
+  same false rest = ap (λ (shapes : List Shape). shape_of t ∷ shapes) rest
 
 -- of a tunnel in which this waits last
 pub waits_shapes : (id : ℕ) (w : Waiting) (ts : List Tunnel) → shapes_of (waits id w ts) ≡ shapes_of ts
 waits_shapes id w [] = refl
-waits_shapes id w (t ∷ ts) = same (t.id == id) ∙ ap (λ (shapes : List Shape). shape_of t ∷ shapes) (waits_shapes id w ts) where
-  same : (b : Bool) → shapes_of ((cond b (record t { waiting = t.waiting ++ w ∷ [] }) t) ∷ waits id w ts) ≡ shape_of t ∷ shapes_of (waits id w ts)
-  same true = refl
-  same false = refl
+waits_shapes id w (t ∷ ts) = same (t.id == id) (waits_shapes id w ts) where
+  same : (b : Bool) → shapes_of (waits id w ts) ≡ shapes_of ts → shapes_of (cond b (record t { waiting = t.waiting ++ w ∷ [] } ∷ ts) (t ∷ waits id w ts)) ≡ shapes_of (t ∷ ts)
+  same true rest = refl
+  same false rest = ap (λ (shapes : List Shape). shape_of t ∷ shapes) rest
 
 -- without the tunnel of this number
 pub without_shapes : (id : ℕ) (ts : List Tunnel)

@@ -5,7 +5,7 @@ use Rattle.mq_talk.specs.declared.note.From.{From}
 use Rattle.mq_talk.specs.declared.note.Note.{Note}
 use Rattle.mq_talk.specs.declared.note.Note.TheVariants as note
 use Rattle.mq_talk.specs.declared.place.Cause.TheVariants as cause
-use Rattle.mq_capsule.specs.Readers.{TellsBegun}
+use Rattle.mq_front.specs.Data.{EndsAs as DataEndsAs}
 use Rattle.mq_talk.specs.declared.note.Why.{Why}
 use Rattle.mq_talk.specs.declared.note.Why.TheVariants as why
 use Rattle.mq_conn.specs.declared.front.Front.{Front}
@@ -69,5 +69,5 @@ pub record Framed (old new : Conn) (said : Note) : Type 0 where
 -- why the link's end closes the tunnel, by how far the bytes were read
 abbrev pub EndsAs : Front → Option Why → Type 0
 EndsAs (Head reader) ends = ends ≡ None
-EndsAs (Data d) ends = (inside : Bool) × (ends ≡ Some (if inside then why.Truncated else why.End)) × TellsBegun d.reader (inside ≡ true)
+EndsAs (Data d) ends = (end : Why) × (ends ≡ Some end) × DataEndsAs d end
 EndsAs Shut ends = ends ≡ Some why.End

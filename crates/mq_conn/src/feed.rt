@@ -52,13 +52,7 @@ impl Conn {
     {
         match &self.front {
             Front::Head(_) => None,
-            Front::Data(stream) => {
-                if stream.reader.begun() {
-                    Some(Why::Truncated)
-                } else {
-                    Some(Why::End)
-                }
-            }
+            Front::Data(stream) => Some(stream.end()),
             Front::Shut => Some(Why::End),
         }
     }

@@ -23,7 +23,7 @@ use Rattle.mq_machine.specs.State.{Stream, Tunnel}
 use Rattle.mq_front.specs.declared.data.DataStream.{DataStream}
 use Rattle.mq_front.specs.declared.http2.Http2.{Http2}
 use Rattle.mq_front.specs.Data.{IsUdp, IsStream, Takes}
-use Rattle.mq_front.specs.Events.{Contains, Leads, error_dues, reset_dues, Puts, EventTo, EventsTo, ReadsFrames}
+use Rattle.mq_front.specs.Events.{Contains, Leads, error_dues, reset_dues, PutsEvent, EventTo, EventsTo, ReadsFrames}
 use Rattle.mq_front.specs.Streams.{AreStreams, HasNone, IsPlaceOf}
 use Rattle.mq_front.proofs.Tables.{found, missing, added}
 
@@ -95,7 +95,7 @@ leads_there id g ends before mid after old new d mid_is after_is new_is stands =
 }
 
 leads_by : (setup : Setup) (ts : List Tunnel) (id : ℕ) (fields : List Field) (g : Goal) (ends : Bool) (before after : List Due) (old new : List DataStream) (streams : List Stream) → FieldsMean setup fields (ToGoal g)
-    → Leads id g ends before after old new → AreStreams old streams → IsUdp g → Puts setup ts (told.Request id fields ends) streams before after new
+    → Leads id g ends before after old new → AreStreams old streams → IsUdp g → PutsEvent setup ts (told.Request id fields ends) streams before after new
 leads_by setup ts id fields (goal.Ip area protocol) ends before after old new streams means leads are udp = absurd udp
 leads_by setup ts id fields (goal.Udp addr port) ends before after old new streams means leads are udp =
     let g = goal.Udp addr port in

@@ -1,5 +1,5 @@
 -- The data streams of a connection, and that of a number.
-use Rattle.std.proofs.Common.{◌≡◌, ℕ, zero, suc, ◌==◌, cond, Bool, true, false, List, [], ◌∷◌, ◌++◌, Some, None, slice_set, refl, sym, ap, ◌∙◌, subst, arith, eq-eqb, ne_eqb}
+use Rattle.std.proofs.Common.{◌≡◌, ℕ, zero, suc, ◌==◌, cond, filter, not, Bool, true, false, List, [], ◌∷◌, ◌++◌, Some, None, slice_set, refl, sym, ap, ◌∙◌, subst, arith, eq-eqb, ne_eqb}
 use Rattle.mq_machine.specs.Reading.{stream_of, more_bytes}
 use Rattle.mq_machine.specs.State.{Stream}
 use Rattle.mq_front.specs.declared.data.DataStream.{DataStream}
@@ -59,3 +59,22 @@ added [] [] d s are is = (is, tt)
 added [] (t ∷ ss) d s are is = absurd are
 added (x ∷ ds) [] d s are is = absurd are
 added (x ∷ ds) (t ∷ ss) d s are is = (are.0, added ds ss d s are.1 is)
+
+-- without those of a number
+pub kept : (ds : List DataStream) (ss : List Stream) (id : ℕ) → AreStreams ds ss → AreStreams (filter (λ (d : DataStream). not (d.id == id)) ds) (filter (λ (s : Stream). not (s.id == id)) ss)
+kept [] [] id are = tt
+kept [] (s ∷ ss) id are = absurd are
+kept (x ∷ ds) [] id are = absurd are
+kept (x ∷ ds) (s ∷ ss) id are = subst P (sym are.0.id_is) (both (not (s.id == id)) (kept ds ss id are.1)) where
+  here : List DataStream
+  here = filter (λ (d : DataStream). not (d.id == id)) ds
+
+  there : List Stream
+  there = filter (λ (t : Stream). not (t.id == id)) ss
+
+  P : ℕ → Type 0
+  P k = AreStreams (cond (not (k == id)) (x ∷ here) here) (cond (not (s.id == id)) (s ∷ there) there)
+
+  both : (b : Bool) → AreStreams here there → AreStreams (cond b (x ∷ here) here) (cond b (s ∷ there) there)
+  both true rest = (are.0, rest)
+  both false rest = rest

@@ -21,7 +21,7 @@ use Rattle.mq_machine.specs.Reading.{BytesAsk, EndsWith, acts_of, payload_count,
 use Rattle.mq_machine.specs.State.{Stream}
 use Rattle.mq_front.specs.declared.data.DataStream.{DataStream}
 use Rattle.mq_front.specs.Data.{IsUdp, IsStream, EndsAs, Took, Takes}
-use Rattle.mq_front.specs.Items.{HasNoValue, HaveNoValue, Puts}
+use Rattle.mq_front.specs.Items.{HasNoValue, HaveNoValue, PutsItems}
 use Rattle.mq_front.proofs.ItemLists.{on_both}
 
 -- ---- a reader of a tunnel for UDP tells no control capsules
@@ -107,7 +107,7 @@ unless_closed false false l = refl
 
 -- its end was put, unless the tunnel is to close before
 took : (old new : DataStream) (bytes : List ℕ) (ends closes : Bool) (given : List Item) (why : Why) (before mid after : List Due) (mtu : ℕ) (s : Stream) → new.id ≡ old.id
-    → GivesItems old.reader bytes given → StandsOn old.reader new.reader bytes → Puts old.id old.n given before mid new.n closes → EndsAs new why
+    → GivesItems old.reader bytes given → StandsOn old.reader new.reader bytes → PutsItems old.id old.n given before mid new.n closes → EndsAs new why
     → after ≡ mid ++ on_stream old.id (cond (ends && not closes) (stream.Close why ∷ []) []) → IsStream old s → Took mtu s bytes ends before after new
 took old new bytes ends closes given why before mid after mtu s same gives on puts ended after_is is =
     let whole = gives false s.bytes is.items is.stands is.items_are in
@@ -141,7 +141,7 @@ took old new bytes ends closes given why before mid after mtu s same gives on pu
     }
 
 pub took_all : (old new : DataStream) (bytes : List ℕ) (ends closes : Bool) (given : List Item) (why : Why) (before mid after : List Due) (result : Result (Unit {0}) NoMemory) → new.id ≡ old.id → GivesItems old.reader bytes given
-    → StandsOn old.reader new.reader bytes → Puts old.id old.n given before mid new.n closes → EndsAs new why → OnOk result (after ≡ mid ++ on_stream old.id (cond (ends && not closes) (stream.Close why ∷ []) []))
+    → StandsOn old.reader new.reader bytes → PutsItems old.id old.n given before mid new.n closes → EndsAs new why → OnOk result (after ≡ mid ++ on_stream old.id (cond (ends && not closes) (stream.Close why ∷ []) []))
     → OnOk result (Takes old bytes ends before after new)
 took_all old new bytes ends closes given why before mid after (Err refused) same gives on puts ended h = tt
 took_all old new bytes ends closes given why before mid after (Ok done) same gives on puts ended h = λ mtu s is. took old new bytes ends closes given why before mid after mtu s same gives on puts ended h is

@@ -19,6 +19,8 @@ use Rattle.mq_front.specs.declared.http2.Http2.{Http2}
 use Rattle.mq_front.specs.Data.{IsUdp, Takes}
 use Rattle.mq_front.specs.Streams.{AreStreams, HasNone, IsPlaceOf}
 
+-- ---- only the crate's own functions cite these words, up to the next line of this kind
+
 -- Contents of the data stream of this number: what they ask for was put, or nothing where there is none.
 abbrev pub Contains : ℕ → List ℕ → Bool → List Due → List Due → List DataStream → List DataStream → Type 0
 Contains id bytes ends before after old new =
@@ -39,8 +41,10 @@ abbrev pub reset_dues : ℕ → Bool → List Due
 reset_dues id false = []
 reset_dues id true = due.Do (act.OfStream id (stream.Close why.Reset)) ∷ []
 
+-- ---- what events ask for
+
 -- what one event asks for was put
-pub record Puts (setup : Setup) (ts : List Tunnel) (told : http2.StreamEvent) (streams : List Stream) (before after : List Due) (new : List DataStream) : Type 0 where
+pub record PutsEvent (setup : Setup) (ts : List Tunnel) (told : http2.StreamEvent) (streams : List Stream) (before after : List Due) (new : List DataStream) : Type 0 where
   pub event : StreamEvent
   pub acts : List Due
   pub others : List Stream
@@ -52,7 +56,7 @@ pub record Puts (setup : Setup) (ts : List Tunnel) (told : http2.StreamEvent) (s
 -- of a connection whose tunnels are for UDP
 abbrev pub EventTo : Setup → List Tunnel → http2.StreamEvent → List Due → List Due → List DataStream → List DataStream → Type 0
 EventTo setup ts told before after old new =
-    setup.udp.kind ≡ kind.Udp → (streams : List Stream) → AreStreams old streams → Puts setup ts told streams before after new
+    setup.udp.kind ≡ kind.Udp → (streams : List Stream) → AreStreams old streams → PutsEvent setup ts told streams before after new
 
 -- what events ask for was put, one after the other
 pub record PutsAll (setup : Setup) (ts : List Tunnel) (told : List http2.StreamEvent) (streams : List Stream) (before after : List Due) (new : List DataStream) : Type 0 where

@@ -1,4 +1,4 @@
--- What is put into the list of what is due for the items of a data stream of UDP.
+-- What is put into the list of what is due for the items of a data stream of UDP. Only the crate's own functions cite these words.
 use Rattle.std.specs.Prelude.{◌≡◌, ℕ, ◌+◌, Bool, true, false, List, [], ◌∷◌, ◌++◌}
 use Rattle.std.specs.List.{list_any}
 use Rattle.mq_addr.specs.declared.kind.Kind.TheVariants as kind
@@ -29,7 +29,7 @@ PutsUnless true id n i old new closes = (new ≡ old) × (closes ≡ true)
 PutsUnless false id n i old new closes = PutsItem id n i old new closes
 
 -- what the items ask for from payload n on was put, the next payload is that, and a close is among it or isn't
-abbrev pub Puts : ℕ → ℕ → List Item → List Due → List Due → ℕ → Bool → Type 0
-Puts id n items old new next closes = (mtu : ℕ) → HaveNoValue items
+abbrev pub PutsItems : ℕ → ℕ → List Item → List Due → List Due → ℕ → Bool → Type 0
+PutsItems id n items old new next closes = (mtu : ℕ) → HaveNoValue items
     → (new ≡ old ++ on_stream id (acts_of kind.Udp mtu n items)) × (next ≡ n + payload_count items)
     × (closes ≡ list_any is_close (acts_of kind.Udp mtu n items))

@@ -24,6 +24,7 @@ impl Model for Dues {
 }
 
 impl Dues {
+    /// A list of nothing.
     pub fn new(alloc: Global) -> Dues
         ensures { result ≡ [] }
     {
@@ -32,6 +33,7 @@ impl Dues {
         }
     }
 
+    /// Whether nothing is due.
     pub fn is_empty(&self) -> bool
         ensures { result ≡ (length self.now == 0) }
     {
@@ -45,12 +47,14 @@ impl Dues {
         self.items.front()
     }
 
+    /// Takes what is due first.
     pub fn pop(&mut self) -> Option<Due>
         ensures { MatchOption result ((self.old ≡ []) × (self.new ≡ [])) (λ d. self.old ≡ d ∷ self.new) }
     {
         self.items.pop_front()
     }
 
+    /// Puts one more at the back. `Err` is want of memory.
     pub fn push(&mut self, due: Due) -> Result<(), NoMemory>
         ensures { OnOk result (self.new ≡ self.old ++ due ∷ []) }
     {
@@ -58,6 +62,7 @@ impl Dues {
         Ok(())
     }
 
+    /// Nothing is due any more. Takes no memory.
     pub fn clear(&mut self)
         ensures { self.new ≡ [] }
     {

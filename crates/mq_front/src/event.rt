@@ -1,5 +1,5 @@
 //! What an event of a connection of HTTP/2 asks for.
-ghost use Rattle.std.specs.Prelude.{◌≡◌, ◌++◌, List, OnOk, MatchOption, IfOk};
+ghost use Rattle.std.specs.Prelude.{◌≡◌, ◌++◌, List, OnOk, MatchOption};
 ghost use Rattle.mq_h2.specs.declared.event.StreamEvent.TheVariants as told;
 ghost use Rattle.mq_machine.specs.declared.setup.Setup.{Setup as Rules};
 ghost use Rattle.mq_machine.specs.State.{Tunnel};

@@ -1,6 +1,7 @@
 //! The front end of a connection of HTTP/2: its core, and the data streams of its requests.
-ghost use Rattle.std.specs.Prelude.{◌≡◌, [], OnOk, IfOk};
-ghost use Rattle.mq_h2.specs.State.{new_state};
+ghost use Rattle.std.specs.Prelude.{◌≡◌, ◌==◌, not, List, [], filter, OnOk, IfOk};
+ghost use Rattle.mq_h2.specs.State.{State, new_state};
+ghost use Rattle.mq_machine.specs.State.{Stream};
 ghost use Rattle.mq_front.specs.Events.{IsFront, ReadsFrames, EventsTo};
 
 use crate::data::DataStream;
@@ -14,6 +15,7 @@ use std::alloc::Global;
 /// The core of a connection of HTTP/2, behind the client's preface, and its data streams, in the order of their requests.
 #[derive(Drop)]
 pub struct Http2 {
+    /// What of the connection concerns no request: frames, windows, and the bytes that are owed.
     pub h2: H2,
     streams: Vec<DataStream>,
 }
@@ -68,5 +70,19 @@ impl Http2 {
             &mut self.streams,
             due,
         )
+    }
+
+    /// Nothing more is asked for by a data stream: its request was refused, or its tunnel closed. Takes no memory.
+    pub fn forget(&mut self, stream: u32)
+        ensures { (h : State) (streams : List Stream) → IsFront self.old h streams → IsFront self.new h (filter (λ (s : Stream). not (s.id == stream)) streams) }
+    {
+        self.streams.retain(|d| d.id != stream);
+    }
+
+    /// Nothing more is asked for by any: the connection is given up. Takes no memory.
+    pub fn forget_all(&mut self)
+        ensures { (h : State) (streams : List Stream) → IsFront self.old h streams → IsFront self.new h [] }
+    {
+        self.streams.clear();
     }
 }

@@ -3,7 +3,7 @@ ghost use Rattle.std.specs.Prelude.{◌≡◌, ℕ, ◌+◌, ◌++◌, ◌∷◌
 ghost use Rattle.std.specs.Option.{option_to_list};
 ghost use Rattle.mq_addr.specs.declared.kind.Kind.TheVariants as kind;
 ghost use Rattle.mq_machine.specs.Reading.{udp_act, in_context, item_acts, is_payload, is_close, on_stream};
-ghost use Rattle.mq_front.specs.Items.{HasNoValue, PutsItem, PutsUnless, Puts};
+ghost use Rattle.mq_front.specs.Items.{HasNoValue, PutsItem, PutsUnless, PutsItems};
 
 use crate::dues::Dues;
 use mq_capsule::Item;
@@ -11,7 +11,7 @@ use mq_machine::{Act, Due, StreamAct};
 use mq_talk::{Cause, Why};
 use mq_wire::{Bytes, NoMemory};
 
-/// The longest payload of UDP.
+/// The longest payload of UDP, in bytes (RFC 9298, section 5).
 const MAX_UDP: usize = 65_527;
 
 /// What a payload asks for.
@@ -94,7 +94,7 @@ fn next_number(n: u64, item: &Item) -> Result<u64, NoMemory>
     }
 }
 
-/// Puts an act of a data stream at the back of the list, and answers whether it closes the tunnel.
+/// PutsItems an act of a data stream at the back of the list, and answers whether it closes the tunnel.
 fn put_act(stream: u32, act: StreamAct, due: &mut Dues) -> Result<bool, NoMemory>
     ensures { IfOk result (λ closes. (due.new ≡ due.old ++ on_stream stream (act ∷ [])) × (closes ≡ is_close act)) }
 {
@@ -103,7 +103,7 @@ fn put_act(stream: u32, act: StreamAct, due: &mut Dues) -> Result<bool, NoMemory
     Ok(closes)
 }
 
-/// Puts an act of a data stream at the back of the list, or nothing.
+/// PutsItems an act of a data stream at the back of the list, or nothing.
 pub(crate) fn put_if(
     puts: bool,
     stream: u32,
@@ -118,7 +118,7 @@ pub(crate) fn put_if(
     Ok(())
 }
 
-/// Puts what an item asks for at the back of the list, and answers whether it closes the tunnel.
+/// PutsItems what an item asks for at the back of the list, and answers whether it closes the tunnel.
 fn put_item(stream: u32, n: u64, item: Item, due: &mut Dues) -> Result<bool, NoMemory>
     ensures { IfOk result (λ closes. PutsItem stream n item due.old due.new closes) }
 {
@@ -152,7 +152,7 @@ pub struct Asked {
     pub closes: bool,
 }
 
-/// Puts what one more item asks for.
+/// PutsItems what one more item asks for.
 fn put_next(stream: u32, asked: Asked, item: Item, due: &mut Dues) -> Result<Asked, NoMemory>
     ensures { IfOk result (λ next. PutsUnless asked.closes stream asked.n item due.old due.new next.closes × (next.n ≡ asked.n + (if is_payload item then 1 else 0))) }
 {
@@ -161,14 +161,14 @@ fn put_next(stream: u32, asked: Asked, item: Item, due: &mut Dues) -> Result<Ask
     Ok(Asked { n, closes })
 }
 
-/// Puts what the items ask for at the back of the list, behind a close nothing. `first` is the number of their first payload.
+/// PutsItems what the items ask for at the back of the list, behind a close nothing. `first` is the number of their first payload.
 pub fn put_items(
     stream: u32,
     first: u64,
     items: Vec<Item>,
     due: &mut Dues,
 ) -> Result<Asked, NoMemory>
-    ensures { IfOk result (λ asked. Puts stream first items.items due.old due.new asked.n asked.closes) }
+    ensures { IfOk result (λ asked. PutsItems stream first items.items due.old due.new asked.n asked.closes) }
 {
     let mut asked = Asked {
         n: first,

@@ -1,7 +1,7 @@
 //! What a request of HTTP/2 asks for: an extended CONNECT to a tunnel, or something that isn't served (RFC 8441, section 4; RFC
 //! 9298, section 3.4).
-ghost use Rattle.std.specs.Prelude.{◌≡◌, IfOk, codes, option_map};
-ghost use Rattle.mq_h2.specs.Fields.{is_text, is_named, is_value, value_of};
+ghost use Rattle.std.specs.Prelude.{◌≡◌, IfOk, option_map};
+ghost use Rattle.mq_h2.specs.Fields.{is_text, is_value, value_of};
 ghost use Rattle.mq_machine.specs.Http2.{kind_by, kind_of, path_of};
 ghost use Rattle.mq_machine.specs.Reading.{FieldsMean};
 ghost use Rattle.mq_front.specs.Meanings.{meaning_of};

@@ -227,7 +227,7 @@ fn requests_by_their_meaning(rt: HostRuntime) -> Result<(), Fail> {
             "000011010500000001828684418cf1e3c2e5f23a6ba0ab90f4ff",
             "1 refuse 501 0\n",
         ),
-        // CONNECT with another protocol is malformed no more than GET is: it isn't served
+        // CONNECT with another protocol isn't malformed, and isn't served
         (
             "00003201040000000102 07434f4e4e454354 87 04102f752f3139322e302e322e362f343433 010170 00093a70726f746f636f6c 07776562736f636b",
             "1 refuse 501 0\n",

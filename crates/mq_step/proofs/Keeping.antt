@@ -517,17 +517,17 @@ settle_is_kept c x kept =
 
 set_numbers : (id : ℕ) (ws : List Waiting) (ts : List Tunnel) → numbers_of (set_waiting id ws ts) ≡ numbers_of ts
 set_numbers id ws [] = refl
-set_numbers id ws (t ∷ ts) = same (t.id == id) ∙ ap (λ (ids : List ℕ). t.id ∷ ids) (set_numbers id ws ts) where
-  same : (b : Bool) → numbers_of ((cond b (record t { waiting = ws }) t) ∷ set_waiting id ws ts) ≡ t.id ∷ numbers_of (set_waiting id ws ts)
-  same true = refl
-  same false = refl
+set_numbers id ws (t ∷ ts) = same (t.id == id) (set_numbers id ws ts) where
+  same : (b : Bool) → numbers_of (set_waiting id ws ts) ≡ numbers_of ts → numbers_of (cond b (record t { waiting = ws } ∷ ts) (t ∷ set_waiting id ws ts)) ≡ numbers_of (t ∷ ts)
+  same true rest = refl
+  same false rest = ap (λ (ids : List ℕ). t.id ∷ ids) rest
 
 waits_numbers : (id : ℕ) (w : Waiting) (ts : List Tunnel) → numbers_of (waits id w ts) ≡ numbers_of ts
 waits_numbers id w [] = refl
-waits_numbers id w (t ∷ ts) = same (t.id == id) ∙ ap (λ (ids : List ℕ). t.id ∷ ids) (waits_numbers id w ts) where
-  same : (b : Bool) → numbers_of ((cond b (record t { waiting = t.waiting ++ w ∷ [] }) t) ∷ waits id w ts) ≡ t.id ∷ numbers_of (waits id w ts)
-  same true = refl
-  same false = refl
+waits_numbers id w (t ∷ ts) = same (t.id == id) (waits_numbers id w ts) where
+  same : (b : Bool) → numbers_of (waits id w ts) ≡ numbers_of ts → numbers_of (cond b (record t { waiting = t.waiting ++ w ∷ [] } ∷ ts) (t ∷ waits id w ts)) ≡ numbers_of (t ∷ ts)
+  same true rest = refl
+  same false rest = ap (λ (ids : List ℕ). t.id ∷ ids) rest
 
 -- so many bytes put
 framing_kept : (c : Conn) (f : Front) (id : ℕ) (rest : List ℕ) (count : ℕ) (ts : List Tunnel) (next : ℕ) → NoOpens c.due → numbers_of ts ≡ numbers_of c.tunnels

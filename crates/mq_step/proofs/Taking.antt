@@ -132,7 +132,7 @@ bound_opens x (due.Do (act.OfStream on a) ∷ rest) conn id actor g bounds udp w
 bound_opens x (due.Spend on size ∷ rest) conn id actor g bounds udp w = cc
 bound_opens x (due.Fault code ∷ rest) conn id actor g bounds udp w = cc
 
--- of a connection of HTTP/1.1, whose openings are for UDP
+-- of a connection, whose openings are for UDP
 wants_bound : (c : Core) (t : Conn) → IsConn c t → Bounds t.due → (conn id actor : ℕ) (g : Goal) → want_of t ≡ Ask (call.Open conn id actor g) → ⊥
 wants_bound c t is bounds conn id actor g w =
     let alive : t.ending ≡ None = (open_alive c t conn id actor g is w).0 in
