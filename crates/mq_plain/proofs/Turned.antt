@@ -29,7 +29,7 @@ use Rattle.mq_actor.specs.Holds.{IsWorker}
 use Rattle.mq_actor.specs.Steps.{sight}
 use Rattle.mq_actor.proofs.Between.{apart_of}
 use Rattle.mq_actor.proofs.Books.{open_within}
-use Rattle.mq_actor.proofs.Going.{udp_tunnels}
+use Rattle.mq_step.proofs.Cores.{udp_tunnels}
 use Rattle.mq_actor.proofs.Helds.{at_held}
 use Rattle.mq_actor.proofs.InRing.{at_all, all_at}
 use Rattle.mq_actor.proofs.Lists.{found_at}
