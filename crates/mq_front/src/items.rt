@@ -94,7 +94,7 @@ fn next_number(n: u64, item: &Item) -> Result<u64, NoMemory>
     }
 }
 
-/// PutsItems an act of a data stream at the back of the list, and answers whether it closes the tunnel.
+/// Puts an act of a data stream at the back of the list, and answers whether it closes the tunnel.
 fn put_act(stream: u32, act: StreamAct, due: &mut Dues) -> Result<bool, NoMemory>
     ensures { IfOk result (λ closes. (due.new ≡ due.old ++ on_stream stream (act ∷ [])) × (closes ≡ is_close act)) }
 {
@@ -103,7 +103,7 @@ fn put_act(stream: u32, act: StreamAct, due: &mut Dues) -> Result<bool, NoMemory
     Ok(closes)
 }
 
-/// PutsItems an act of a data stream at the back of the list, or nothing.
+/// Puts an act of a data stream at the back of the list, or nothing.
 pub(crate) fn put_if(
     puts: bool,
     stream: u32,
@@ -118,7 +118,7 @@ pub(crate) fn put_if(
     Ok(())
 }
 
-/// PutsItems what an item asks for at the back of the list, and answers whether it closes the tunnel.
+/// Puts what an item asks for at the back of the list, and answers whether it closes the tunnel.
 fn put_item(stream: u32, n: u64, item: Item, due: &mut Dues) -> Result<bool, NoMemory>
     ensures { IfOk result (λ closes. PutsItem stream n item due.old due.new closes) }
 {
@@ -152,7 +152,7 @@ pub struct Asked {
     pub closes: bool,
 }
 
-/// PutsItems what one more item asks for.
+/// Puts what one more item asks for.
 fn put_next(stream: u32, asked: Asked, item: Item, due: &mut Dues) -> Result<Asked, NoMemory>
     ensures { IfOk result (λ next. PutsUnless asked.closes stream asked.n item due.old due.new next.closes × (next.n ≡ asked.n + (if is_payload item then 1 else 0))) }
 {
@@ -161,7 +161,7 @@ fn put_next(stream: u32, asked: Asked, item: Item, due: &mut Dues) -> Result<Ask
     Ok(Asked { n, closes })
 }
 
-/// PutsItems what the items ask for at the back of the list, behind a close nothing. `first` is the number of their first payload.
+/// Puts what the items ask for at the back of the list, behind a close nothing. `first` is the number of their first payload.
 pub fn put_items(
     stream: u32,
     first: u64,
