@@ -1,5 +1,5 @@
 -- What a connection's frames, writes, reads and receives leave of its number, its actor, its tunnels' shapes and the next tunnel.
-use Rattle.std.proofs.Common.{◌≡◌, ℕ, ◌+◌, cond, Bool, true, false, List, [], ◌∷◌, ◌++◌, drop, length, nat_le, Option, Some, None, refl, sym, ap, ◌∙◌, subst}
+use Rattle.std.proofs.Common.{◌≡◌, ℕ, ◌+◌, cond, Bool, true, false, List, [], ◌∷◌, ◌++◌, drop, take, length, nat_le, Option, Some, None, refl, sym, ap, ◌∙◌, subst}
 use Rattle.std.specs.Prelude.{option_and_then, Contains}
 use Rattle.std.proofs.lemmas.List.Elements.{All-contains_itself}
 use Rattle.mq_capsule.specs.Writing.{capsule_text, datagram}
@@ -8,6 +8,7 @@ use Rattle.mq_talk.specs.declared.note.Note.{Note}
 use Rattle.mq_talk.specs.declared.note.Note.TheVariants as note
 use Rattle.mq_talk.specs.declared.place.Cause.TheVariants as cause
 use Rattle.mq_machine.specs.declared.setup.Setup.{Setup}
+use Rattle.mq_machine.specs.Putting.{Putting, putting}
 use Rattle.mq_machine.specs.Settle.{settle}
 use Rattle.mq_machine.specs.State.{Conn, Tunnel, Waiting, Packet, Front, Head, OverHttp1, OverHttp2}
 use Rattle.mq_machine.specs.Done.{Done, with_waiting}
@@ -29,29 +30,23 @@ pub record Framed (c t : Conn) : Type 0 where
   pub shapes : shapes_of t.tunnels ≡ shapes_of c.tunnels
   pub next : t.next_tunnel ≡ tunnel.id + 1
 
-framing_leaves : (c : Conn) (u : Tunnel) (f : Front) (rest : List ℕ) (count : ℕ) (ts : List Tunnel) → next_framed c ≡ Some u
-    → shapes_of ts ≡ shapes_of c.tunnels
-    → Framed c (record (framing c f u.stream rest count) { tunnels = ts; next_tunnel = u.id + 1 })
-framing_leaves c u (Head bytes) rest count ts turn shapes = record { tunnel = u; turn = turn; number = refl; actor = refl; shapes = shapes; next = refl }
-framing_leaves c u (OverHttp2 h) rest count ts turn shapes = record { tunnel = u; turn = turn; number = refl; actor = refl; shapes = shapes; next = refl }
-framing_leaves c u OverHttp1 rest count ts turn shapes = record { tunnel = u; turn = turn; number = refl; actor = refl; shapes = shapes; next = refl }
+framing_leaves : (c : Conn) (u : Tunnel) (put : Putting) (ts : List Tunnel) → next_framed c ≡ Some u → shapes_of ts ≡ shapes_of c.tunnels
+    → Framed c (record (putting c put) { tunnels = ts; next_tunnel = u.id + 1 })
+framing_leaves c u put ts turn shapes = record { tunnel = u; turn = turn; number = refl; actor = refl; shapes = shapes; next = refl }
 
 framed_by_leaves : (c : Conn) (u : Tunnel) (w : Waiting) (ws : List Waiting) (count : ℕ) → next_framed c ≡ Some u → Framed c (framed_by c u w ws count).1
 framed_by_leaves c u w ws count turn = by_whole (nat_le (length w.capsule) (w.framed + count)) where
-  by_whole : (b : Bool) → Framed c (cond {A = Note × Conn} b (
-    whole_note u w w.what,
-    record (framing c c.front u.stream (drop w.framed w.capsule) count) { tunnels = set_waiting u.id ws c.tunnels; next_tunnel = u.id + 1 },
-  ) (
-    note.Part u.id count,
-    record (framing c c.front u.stream (drop w.framed w.capsule) count) {
-      tunnels = set_waiting u.id (record w { framed = w.framed + count } ∷ ws) c.tunnels;
-      next_tunnel = u.id + 1;
-    },
-  )).1
-  by_whole true = framing_leaves c u c.front (drop w.framed w.capsule) count (set_waiting u.id ws c.tunnels) turn (set_shapes u.id ws c.tunnels)
-  by_whole false =
-      let left : List Waiting = record w { framed = w.framed + count } ∷ ws in
-      framing_leaves c u c.front (drop w.framed w.capsule) count (set_waiting u.id left c.tunnels) turn (set_shapes u.id left c.tunnels)
+  put : Putting
+  put = framing c.front u.stream (take count (drop w.framed w.capsule))
+
+  left : List Waiting
+  left = record w { framed = w.framed + count } ∷ ws
+
+  by_whole : (b : Bool) → Framed c (cond {A = Note × Conn} b
+      (whole_note u w w.what, record (putting c put) { tunnels = set_waiting u.stream ws c.tunnels; next_tunnel = u.id + 1 })
+      (note.Part u.id count, record (putting c put) { tunnels = set_waiting u.stream left c.tunnels; next_tunnel = u.id + 1 })).1
+  by_whole true = framing_leaves c u put (set_waiting u.stream ws c.tunnels) turn (set_shapes u.stream ws c.tunnels)
+  by_whole false = framing_leaves c u put (set_waiting u.stream left c.tunnels) turn (set_shapes u.stream left c.tunnels)
 
 front_leaves : (c : Conn) (u : Tunnel) (ws : List Waiting) → next_framed c ≡ Some u → Each (Framed c) (framed_front c u ws)
 front_leaves c u [] turn = tt

@@ -28,7 +28,7 @@ use Rattle.mq_machine.specs.Turn.{Try, Act, Frame, Write, Read, Receive, TryNext
 use Rattle.mq_machine.specs.Turn.{can_try, receive_failed, write_count, most_read, tries_of}
 use Rattle.mq_conn.specs.declared.conn.Conn.{Conn as Core}
 use Rattle.mq_conn.specs.Conns.{IsConn}
-use Rattle.mq_conn.specs.Frames.{waits}
+use Rattle.mq_machine.specs.Lawful.{waits}
 use Rattle.mq_step.specs.Gives.{first_of}
 use Rattle.mq_step.proofs.Wanting.{IsNotOver}
 use Rattle.mq_step.proofs.Keeping.{NoOpens, Kept, no_opens_nil, kept_said, kept_refused, kept_put, kept_full, bound_next, opened_next, closed_next}
@@ -236,7 +236,7 @@ link_over (b ∷ bytes) = refl
 
 -- one that has no tunnel ends
 failed_over : (s : Conn) → s.tunnels ≡ [] → IsNotOver (want_of (failed s)) → ⊥
-failed_over s none over = subst IsNotOver (ap (λ (ts : List Tunnel). ending_want (failed s) end.Link ts) none ∙ link_over (owed s)) over
+failed_over s none over = subst IsNotOver (ap (λ (ts : List Tunnel). ending_want (failed s) end.Link ts) none ∙ link_over (owed (failed s))) over
 
 -- a connection whose link failed closes its first tunnel
 failed_leaves : (s : Conn) (h new : Held) (sh after : Shared) (answer : Answer) (said : Note)

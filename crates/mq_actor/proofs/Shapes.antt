@@ -11,10 +11,10 @@ use Rattle.mq_actor.specs.Goes.{Shape, shape_of, shapes_of}
 -- ---- shapes
 
 -- of a tunnel in which this waits now
-pub set_shapes : (id : ℕ) (ws : List Waiting) (ts : List Tunnel) → shapes_of (set_waiting id ws ts) ≡ shapes_of ts
-set_shapes id ws [] = refl
-set_shapes id ws (t ∷ ts) = same (t.id == id) (set_shapes id ws ts) where
-  same : (b : Bool) → shapes_of (set_waiting id ws ts) ≡ shapes_of ts → shapes_of (cond b (record t { waiting = ws } ∷ ts) (t ∷ set_waiting id ws ts)) ≡ shapes_of (t ∷ ts)
+pub set_shapes : (on : ℕ) (ws : List Waiting) (ts : List Tunnel) → shapes_of (set_waiting on ws ts) ≡ shapes_of ts
+set_shapes on ws [] = refl
+set_shapes on ws (t ∷ ts) = same (t.stream == on) (set_shapes on ws ts) where
+  same : (b : Bool) → shapes_of (set_waiting on ws ts) ≡ shapes_of ts → shapes_of (cond b (record t { waiting = ws } ∷ ts) (t ∷ set_waiting on ws ts)) ≡ shapes_of (t ∷ ts)
   same true rest = refl
   same false rest = ap (λ (shapes : List Shape). shape_of t ∷ shapes) rest
 

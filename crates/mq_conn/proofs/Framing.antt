@@ -1,149 +1,573 @@
--- A capsule is framed.
-use Rattle.std.proofs.Common.{◌≡◌, ℕ, ◌+◌, ◌<◌, cond, Bool, true, false, not, nat_le, nat_lt, List, [], ◌∷◌, ◌++◌, length, drop, Option, Some, None, refl, sym, ap, ◌∙◌, subst, eq-eqb, arith}
-use Rattle.std.specs.Prelude.{find, option_map, option_and_then}
+-- What comes to a tunnel, and what of it is framed.
+use Rattle.std.proofs.Common.{◌≡◌, ◌≢◌, ℕ, zero, suc, ◌≤◌, ◌<◌, ◌+◌, ◌-◌, ◌==◌, ◌||◌, ◌&&◌, cond, Bool, true, false, not, List, [], ◌∷◌, ◌++◌, length, take, drop, filter, nat_le, nat_lt, Option, Some, None, slice_get, slice_set, Result, Ok, Err, refl, sym, ap, ◌∙◌, subst, arith}
+use Rattle.std.specs.Prelude.{find, min, sum_by, vec_len, vec_capacity, option_map, option_and_then, MatchOption}
 use Rattle.std.specs.Option.{is_some}
-use Rattle.std.proofs.Math.Seq.{take-length}
+use Rattle.std.proofs.Math.Bool.{beq}
+use Rattle.std.proofs.lemmas.Bool.{and_parts}
+use Rattle.std.proofs.lemmas.Bool.Decides.{nat_tests}
+use Rattle.std.proofs.lemmas.List.{length-append, length-drop, drop-drop}
 use Rattle.mq_capsule.specs.Writing.{capsule_text, datagram}
+use Rattle.mq_front.specs.declared.front.Front.{Front}
+use Rattle.mq_front.specs.Fronts.{IsFront, Framed, Frames, HasPut}
+use Rattle.mq_wire.specs.declared.NoMemory.{NoMemory}
 use Rattle.mq_talk.specs.declared.note.End.{End}
 use Rattle.mq_talk.specs.declared.note.End.TheVariants as end
+use Rattle.mq_talk.specs.declared.note.From.{From}
 use Rattle.mq_talk.specs.declared.note.Note.{Note}
 use Rattle.mq_talk.specs.declared.note.Note.TheVariants as note
+use Rattle.mq_talk.specs.declared.note.Why.TheVariants as why
+use Rattle.mq_talk.specs.declared.place.Cause.TheVariants as cause
+use Rattle.mq_machine.specs.declared.act.Act.TheVariants as act
+use Rattle.mq_machine.specs.declared.act.StreamAct.TheVariants as stream
 use Rattle.mq_machine.specs.declared.act.Due.{Due}
+use Rattle.mq_machine.specs.declared.act.Due.TheVariants as due
+use Rattle.mq_machine.specs.Done.{waits as waits_last}
+use Rattle.mq_machine.specs.Lawful.{IsLoose, IsLawful, Alone, waits}
+use Rattle.mq_machine.specs.Putting.{Putting, first_of, putting}
+use Rattle.mq_machine.specs.Settle.{settle, is_given_up}
 use Rattle.mq_machine.specs.State as machine
-use Rattle.mq_machine.specs.State.{Waiting, Head, OverHttp1, OverHttp2}
-use Rattle.mq_machine.specs.Steps.{framed, framed_front, framed_by, can_frame, can_go_on, tunnels_from, settled_note, set_waiting, frame_size, framing}
-use Rattle.std.proofs.lemmas.Bool.Decides.{nat_tests}
-use Rattle.mq_machine.specs.Settle.{settle}
+use Rattle.mq_machine.specs.State.{Waiting, Head, OverHttp1, OverHttp2, Stream, is_packet, tunnel_of, waiting_bytes, packets}
+use Rattle.mq_machine.specs.Steps.{can_frame, can_go_on, frame_size, framed, framed_by, framed_front, framing, is_ending, most_owed, next_framed, port_failed, queued, set_waiting, settled_note, tunnels_from, whole_note}
+use Rattle.mq_machine.specs.Want.{want_of}
+use Rattle.mq_machine.proofs.Lawful.Steps.{settle_lawful, waiting_loose, framed_by_loose}
+use Rattle.mq_machine.proofs.Lawful.Idle.{port_failed_lawful}
 use Rattle.mq_conn.specs.declared.conn.Conn.{Conn}
 use Rattle.mq_conn.specs.declared.conn.First.{First}
+use Rattle.mq_conn.specs.declared.conn.First.TheVariants as first
 use Rattle.mq_conn.specs.declared.conn.Tunnel.{Tunnel}
+use Rattle.mq_conn.specs.Conns.{IsConn, Stands, IsRead, Keeps, HasRoom, Refuses, Past, state, behind, act_of, tunnel_is, tunnels_of}
+use Rattle.mq_conn.specs.Frames.{Comes, Delivers, IsFirst, IsNext, IsPlaceOf, HasNone, PutFirst, PutsFirst, Takes, TookFirst, on_side, took_note, took_waiting}
 use Rattle.mq_conn.specs.declared.queue.Packet.{Packet}
-use Rattle.mq_conn.specs.Conns.{IsConn, IsDue, IsUdpTunnel, Past, Refuses, state, tunnels_of}
-use Rattle.mq_conn.specs.Frames.{Framed, PutsFirst, PopsFirst}
-use Rattle.mq_conn.specs.Queues.{waiting_of}
-use Rattle.mq_conn.proofs.Fronts.{plain_front}
-use Rattle.mq_conn.proofs.Acting.{settles, owed_more, given_more}
-use Rattle.mq_conn.proofs.QueueLists.{capsule_length}
-use Rattle.mq_conn.proofs.Took.{goes_on}
+use Rattle.mq_conn.specs.Queues.{size_of, behind as behind_part}
+use Rattle.mq_conn.proofs.Places.{found, missing, waits_at, set_at, bytes_in, one_within, side, side_is, first_at, none_at, either_side, other_side}
+use Rattle.mq_conn.proofs.Serving.{Is, Settles, by_state, goes_on, has_front, is_conn, over_none, settles_so}
+use Rattle.mq_conn.proofs.Wanting.{want_due, follows_first, first_waits}
+
+-- ---- the port of a tunnel failed
+
+-- where it waits, no act stands in front
+waits_first : (c : Conn) (p : Past) (e : Option End) (fi : Option First) → Is c p → waits (want_of (state c p)) ≡ true → c.ending ≡ e → c.first ≡ fi → c.first ≡ None
+waits_first c p (Some reason) fi h k ending is = (over_none c p reason h ending).0
+waits_first c p None None h k ending is = is
+waits_first c p None (Some f) h k ending is =
+    let dues : behind c.first c.due ≡ due.Do (act_of f) ∷ c.due = ap (λ (o : Option First). behind o c.due) is in
+    let wanted = want_due c p (due.Do (act_of f) ∷ c.due) ending dues in
+    absurd (first_waits c p f c.due (follows_first c p (act_of f) c.due h dues) (ap waits (sym wanted) ∙ k))
+
+pub shut_none : (c : Conn) (id : ℕ) → HasNone c.tunnels.items id → (s : machine.Conn) → IsConn c s → (t : machine.Tunnel) → tunnel_of s id ≡ Some t → ⊥
+shut_none c id none s stands t is =
+    by_state c (λ (x : machine.Conn). tunnel_of x id ≡ Some t → ⊥) (λ p h k. (let e : None ≡ Some t = sym (missing c.tunnels.items id none) ∙ k in cc)) s stands is
+
+pub shuts : (c : Conn) (id place : ℕ) (u : Tunnel) → IsPlaceOf c.tunnels.items id place u → (s : machine.Conn) → IsConn c s → (t : machine.Tunnel) → tunnel_of s id ≡ Some t → waits (want_of s) ≡ true
+    → IsConn (record c { first = Some (first.Close u.stream why.Port) }) (port_failed s t)
+shuts c id place u at s stands t is waiting =
+    by_state c (λ (x : machine.Conn). tunnel_of x id ≡ Some t → waits (want_of x) ≡ true → IsConn d (port_failed x t)) go s stands is waiting
+  where
+    d : Conn
+    d = record c { first = Some (first.Close u.stream why.Port) }
+
+    go : (p : Past) → Is c p → tunnel_of (state c p) id ≡ Some t → waits (want_of (state c p)) ≡ true → IsConn d (port_failed (state c p) t)
+    go p h k w =
+        let same : Some (tunnel_is u) ≡ Some t = sym (found c.tunnels.items id place u at) ∙ k in
+        let T : machine.Tunnel → Type 0 = λ v. IsConn d (port_failed (state c p) v) in
+        let none = waits_first c p c.ending c.first h w refl refl in
+        let is_t : tunnel_is u ≡ t = (let e = same in cc) in
+        subst T is_t (record {
+          stands = record {
+            past = p;
+            is = ap (λ (f : Option First). record (state c p) { due = due.Do (act.OfStream u.stream (stream.Close why.Port)) ∷ behind f c.due }) none;
+            read = h.read;
+            given = h.given;
+            room = tt;
+            opens = h.opens;
+          };
+          lawful = port_failed_lawful (state c p) id (tunnel_is u) h.lawful (found c.tunnels.items id place u at) w;
+        })
+
+-- ---- a packet comes
+
+-- too much waits
+abbrev pub full : List Tunnel → Tunnel → List ℕ → Bool
+full ts t packet = nat_le 64 (length (filter is_packet t.waiting)) || nat_lt 1048576 (sum_by (λ (u : Tunnel). size_of u.waiting) ts + length (capsule_text (datagram packet)))
+
+abbrev coming : From → ℕ → List ℕ → Waiting
+coming from n packet = record { what = machine.Packet from n packet; capsule = capsule_text (datagram packet); framed = 0 }
+
+abbrev came : Bool → machine.Conn → ℕ → From → ℕ → List ℕ → Note × machine.Conn
+came b x id from n packet = cond b (note.Dropped from n cause.QueueFull, x) (note.Queued from n id, record x { tunnels = waits_last id (coming from n packet) x.tunnels })
+
+queued_is : (c : Conn) (p : Past) (t : Tunnel) (from : From) (n : ℕ) (packet : List ℕ) (b : Bool) → full c.tunnels.items t packet ≡ b
+    → queued (state c p) (tunnel_is t) from n packet ≡ came b (state c p) t.id from n packet
+queued_is c p t from n packet b is =
+    ap (λ (k : ℕ). came (nat_le 64 (length (filter is_packet t.waiting)) || nat_lt 1048576 (k + length (capsule_text (datagram packet)))) (state c p) t.id from n packet) (bytes_in c.tunnels.items)
+    ∙ ap (λ (v : Bool). came v (state c p) t.id from n packet) is
+
+comes_to : (d : Conn) (x : machine.Conn) (u : machine.Tunnel) (from : From) (n : ℕ) (packet : List ℕ) (said : Note) (q : Note × machine.Conn) → queued x u from n packet ≡ q
+    → said ≡ q.0 → IsConn d (settle q.1) → Comes d x (Some u) from n packet said
+comes_to d x u from n packet said q is told stands =
+    let P : Note × machine.Conn → Type 0 = λ r. (said ≡ (settled_note r).0) × IsConn d (settled_note r).1 in
+    subst P (sym is) (told, stands)
+
+stands_same : (c : Conn) (p : Past) → Is c p → Stands c (state c p)
+stands_same c p h = (is_conn c p h).stands
+
+pub drops : (c d : Conn) (id place : ℕ) (t : Tunnel) (from : From) (n : ℕ) (packet : List ℕ) → IsPlaceOf c.tunnels.items id place t → full c.tunnels.items t packet ≡ true → Settles c d
+    → Delivers c d from n id packet (note.Dropped from n cause.QueueFull)
+drops c d id place t from n packet at is settles s stands =
+    by_state c (λ (x : machine.Conn). Comes d x (tunnel_of x id) from n packet (note.Dropped from n cause.QueueFull)) go s stands
+  where
+    go : (p : Past) → Is c p → Comes d (state c p) (tunnel_of (state c p) id) from n packet (note.Dropped from n cause.QueueFull)
+    go p h =
+        let T : Option machine.Tunnel → Type 0 = λ o. Comes d (state c p) o from n packet (note.Dropped from n cause.QueueFull) in
+        subst T (sym (found c.tunnels.items id place t at))
+        (comes_to d (state c p) (tunnel_is t) from n packet (note.Dropped from n cause.QueueFull) (came true (state c p) t.id from n packet) (queued_is c p t from n packet true is) refl
+        (settles_so c d (state c p) settles (stands_same c p h) h.lawful.loose))
+
+pub gone : (c : Conn) (id : ℕ) (from : From) (n : ℕ) (packet : List ℕ) → HasNone c.tunnels.items id → Delivers c c from n id packet (note.Dropped from n cause.Gone)
+gone c id from n packet none s stands =
+    by_state c (λ (x : machine.Conn). Comes c x (tunnel_of x id) from n packet (note.Dropped from n cause.Gone)) go s stands
+  where
+    go : (p : Past) → Is c p → Comes c (state c p) (tunnel_of (state c p) id) from n packet (note.Dropped from n cause.Gone)
+    go p h =
+        let T : Option machine.Tunnel → Type 0 = λ o. Comes c (state c p) o from n packet (note.Dropped from n cause.Gone) in
+        subst T (sym (missing c.tunnels.items id none)) (refl, is_conn c p h)
+
+-- the tunnels are others, of as many and with as much room
+pub record Sets (c e : Conn) (place : ℕ) (t : Tunnel) : Type 0 where
+  pub keeps : e ≡ record c { tunnels = e.tunnels }
+  pub items : e.tunnels.items ≡ slice_set c.tunnels.items place t
+  pub len : vec_len e.tunnels ≡ vec_len c.tunnels
+  pub capacity : vec_capacity e.tunnels ≡ vec_capacity c.tunnels
+
+pub queues : (c e d : Conn) (id place : ℕ) (t : Tunnel) (from : From) (n : ℕ) (packet : List ℕ) → IsPlaceOf c.tunnels.items id place t → full c.tunnels.items t packet ≡ false
+    → Sets c e place (record t { waiting = t.waiting ++ coming from n packet ∷ [] }) → Settles e d → Delivers c d from n id packet (note.Queued from n id)
+queues c e d id place t from n packet at is sets settles s stands =
+    by_state c (λ (x : machine.Conn). Comes d x (tunnel_of x id) from n packet (note.Queued from n id)) go s stands
+  where
+    w : Waiting
+    w = coming from n packet
+
+    go : (p : Past) → Is c p → Comes d (state c p) (tunnel_of (state c p) id) from n packet (note.Queued from n id)
+    go p h =
+        let T : Option machine.Tunnel → Type 0 = λ o. Comes d (state c p) o from n packet (note.Queued from n id) in
+        let y : machine.Conn = record (state c p) { tunnels = waits_last t.id w (tunnels_of c.tunnels.items) } in
+        let placed : waits_last t.id w (tunnels_of c.tunnels.items) ≡ tunnels_of e.tunnels.items =
+        ap (λ (k : ℕ). waits_last k w (tunnels_of c.tunnels.items)) at.id_is ∙ waits_at c.tunnels.items id place t w at ∙ ap tunnels_of (sym sets.items) in
+        let R : ℕ → Type 0 = λ len. HasRoom c.first len (vec_capacity e.tunnels) in
+        let S : ℕ → Type 0 = λ capacity. HasRoom c.first (vec_len c.tunnels) capacity in
+        let kept : Stands (record c { tunnels = e.tunnels }) y = record {
+          past = p;
+          is = ap (λ (ts : List machine.Tunnel). record (state c p) { tunnels = ts }) placed;
+          read = h.read;
+          given = h.given;
+          room = subst R (sym sets.len) (subst S (sym sets.capacity) h.room);
+          opens = h.opens;
+        } in
+        let E : Conn → Type 0 = λ v. Stands v y in
+        let loose : IsLoose y = waiting_loose t.id w (state c p) h.lawful.loose in
+        subst T (sym (found c.tunnels.items id place t at))
+        (comes_to d (state c p) (tunnel_is t) from n packet (note.Queued from n id) (came false (state c p) t.id from n packet) (queued_is c p t from n packet false is)
+        (ap (λ (k : ℕ). note.Queued from n k) (sym at.id_is)) (settles_so e d y settles (subst E (sym sets.keeps) kept) loose))
+
+-- ---- whose turn it is
+
+-- whether a part of what waits first in a tunnel can be framed
+pub frames_at : (c : Conn) (t : Tunnel) (w : Waiting) (rest : List Waiting) (g : Front) (size room : ℕ) → c.front ≡ Some g → t.waiting ≡ w ∷ rest → size ≡ length (drop w.framed w.capsule)
+    → ((f : machine.Front) (streams : List Stream) (owed : List ℕ) → IsFront g f streams owed → room ≡ frame_size f t.stream size) → (s : machine.Conn) → IsConn c s → nat_lt 0 room ≡ can_frame s (tunnel_is t)
+frames_at c t w rest g size room fronted waiting whole rooms s stands = by_state c (λ (x : machine.Conn). nat_lt 0 room ≡ can_frame x (tunnel_is t)) go s stands
+  where
+    go : (p : Past) → Is c p → nat_lt 0 room ≡ can_frame (state c p) (tunnel_is t)
+    go p h =
+        let x = state c p in
+        let R : Option Front → Type 0 = λ o. IsRead o c.ending p.front p.streams (drop p.given p.out) in
+        let r = subst R fronted h.read in
+        ap (λ (n : ℕ). nat_lt 0 n) (rooms p.front p.streams (drop p.given p.out) r.1) ∙ ap (λ (n : ℕ). nat_lt 0 (frame_size p.front t.stream n)) whole
+        ∙ ap (λ (ws : List Waiting). can_frame x (record (tunnel_is t) { waiting = ws })) (sym waiting)
+
+pub frames_none : (c : Conn) (t : Tunnel) → t.waiting ≡ [] → (s : machine.Conn) → false ≡ can_frame s (tunnel_is t)
+frames_none c t waiting s = ap (λ (ws : List Waiting). can_frame s (record (tunnel_is t) { waiting = ws })) (sym waiting)
+
+pub goes_fronted : (c : Conn) → c.front ≡ None → (s : machine.Conn) → IsConn c s → s.ending ≡ None → ⊥
+goes_fronted c none s stands goes = by_state c (λ (x : machine.Conn). x.ending ≡ None → ⊥) go s stands goes
+  where
+    go : (p : Past) → Is c p → c.ending ≡ None → ⊥
+    go p h e =
+        let f = has_front c.front c.ending p.front p.streams (drop p.given p.out) h.read (ap is_given_up e) in
+        let k : None ≡ Some f.0 = sym none ∙ f.1 in
+        cc
+
+-- of the tunnels before this place none on this side can be framed
+abbrev pub Passes : Conn → Bool → ℕ → Type 0
+Passes c late place = (s : machine.Conn) → IsConn c s → s.ending ≡ None → (other : ℕ) (t : Tunnel) → other < place → slice_get c.tunnels.items other ≡ Some t
+    → side late c.next_tunnel (tunnel_is t) ≡ true → can_frame s (tunnel_is t) ≡ false
+
+pub next_at : (c : Conn) (late : Bool) (place : ℕ) (t : Tunnel) → Passes c late place → slice_get c.tunnels.items place ≡ Some t → side late c.next_tunnel (tunnel_is t) ≡ true
+    → ((s : machine.Conn) → IsConn c s → s.ending ≡ None → can_frame s (tunnel_is t) ≡ true) → IsNext c late (Some place)
+next_at c late place t passes at on can s stands goes =
+    let ts = tunnels_of c.tunnels.items in (
+      t,
+      at,
+      ap (λ (us : List machine.Tunnel). find (can_frame s) us) (side_is late c.next_tunnel ts)
+          ∙ first_at (can_frame s) (side late c.next_tunnel) c.tunnels.items place t (passes s stands goes) at on (can s stands goes),
+    )
+
+pub next_none : (c : Conn) (late : Bool) → ((s : machine.Conn) → IsConn c s → s.ending ≡ None → (other : ℕ) (t : Tunnel) → slice_get c.tunnels.items other ≡ Some t
+    → side late c.next_tunnel (tunnel_is t) ≡ true → can_frame s (tunnel_is t) ≡ false) → IsNext c late None
+next_none c late passes s stands goes =
+    ap (λ (us : List machine.Tunnel). find (can_frame s) us) (side_is late c.next_tunnel (tunnels_of c.tunnels.items))
+    ∙ none_at (can_frame s) (side late c.next_tunnel) c.tunnels.items (passes s stands goes)
+
+pub goes_not_ending : (c : Conn) (s : machine.Conn) → IsConn c s → can_go_on s ≡ true → s.ending ≡ None
+goes_not_ending c s stands can = by_state c (λ (x : machine.Conn). can_go_on x ≡ true → x.ending ≡ None) (λ p h k. (goes_on c p h k).ending) s stands can
+
+abbrev pub IsTurn : Conn → machine.Conn → Option ℕ → Type 0
+IsTurn c s o = MatchOption o (next_framed s ≡ None) (λ place. (t : Tunnel) × (slice_get c.tunnels.items place ≡ Some t) × (next_framed s ≡ Some (tunnel_is t)))
+
+pub turn_waits : (c : Conn) (s : machine.Conn) → can_go_on s ≡ false → IsTurn c s None
+turn_waits c s not_now = ap (λ (b : Bool). cond b (find (can_frame s) (tunnels_from s.next_tunnel s.tunnels)) None) not_now
+
+pub turn_late : (c : Conn) (place : ℕ) → IsNext c true (Some place) → (s : machine.Conn) → IsConn c s → can_go_on s ≡ true → IsTurn c s (Some place)
+turn_late c place next s stands can = by_state c (λ (x : machine.Conn). can_go_on x ≡ true → IsTurn c x (Some place)) go s stands can
+  where
+    go : (p : Past) → Is c p → can_go_on (state c p) ≡ true → IsTurn c (state c p) (Some place)
+    go p h k =
+        let x = state c p in
+        let r = next x (is_conn c p h) (goes_not_ending c x (is_conn c p h) k) in (
+          r.0,
+          r.1,
+          ap (λ (b : Bool). cond b (find (can_frame x) (tunnels_from x.next_tunnel x.tunnels)) None) k
+              ∙ either_side (can_frame x) (on_side true c.next_tunnel (tunnels_of c.tunnels.items)) (on_side false c.next_tunnel (tunnels_of c.tunnels.items)) (tunnel_is r.0) r.2,
+        )
+
+pub turn_early : (c : Conn) (o : Option ℕ) → IsNext c true None → IsNext c false o → (s : machine.Conn) → IsConn c s → can_go_on s ≡ true → IsTurn c s o
+turn_early c o late next s stands can = by_state c (λ (x : machine.Conn). can_go_on x ≡ true → IsTurn c x o) go s stands can
+  where
+    go : (p : Past) → Is c p → can_go_on (state c p) ≡ true → IsTurn c (state c p) o
+    go p h k =
+        let x = state c p in
+        let goes = goes_not_ending c x (is_conn c p h) k in
+        let is : next_framed x ≡ find (can_frame x) (on_side false c.next_tunnel (tunnels_of c.tunnels.items)) =
+        ap (λ (b : Bool). cond b (find (can_frame x) (tunnels_from x.next_tunnel x.tunnels)) None) k
+        ∙ other_side (can_frame x) (on_side true c.next_tunnel (tunnels_of c.tunnels.items)) (on_side false c.next_tunnel (tunnels_of c.tunnels.items)) (late x (is_conn c p h) goes) in
+        by_place o is (next x (is_conn c p h) goes)
+      where
+        by_place : (o : Option ℕ) → next_framed (state c p) ≡ find (can_frame (state c p)) (on_side false c.next_tunnel (tunnels_of c.tunnels.items)) → IsFirst c (state c p) false o → IsTurn c (state c p) o
+        by_place None is r = is ∙ r
+        by_place (Some place) is r = (r.0, r.1, is ∙ r.2)
+
+-- where it is a tunnel's turn, something waits there
+first_in : (x : machine.Conn) (t : machine.Tunnel) (ws : List Waiting) → framed_front x t ws ≡ None → ws ≡ []
+first_in x t [] h = refl
+first_in x t (w ∷ ws) h = absurd cc
+
+-- ---- bytes are put
+
+pub drop_more : (given : ℕ) (out more : List ℕ) → given ≤ length out → drop given (out ++ more) ≡ drop given out ++ more
+drop_more zero out more h = refl
+drop_more (suc g) [] more h = absurd (omega (arith, h))
+drop_more (suc g) (b ∷ bs) more h = drop_more g bs more (omega (arith, h))
+
+pub given_more : (given : ℕ) (out more : List ℕ) → given ≤ length out → given ≤ length (out ++ more)
+given_more given out more h = let e = length-append out more in omega (arith, h, e)
+
+framing_goes : (f : machine.Front) (id : ℕ) (text : List ℕ) → (framing f id text).ending ≡ None
+framing_goes (Head bytes) id text = refl
+framing_goes OverHttp1 id text = refl
+framing_goes (OverHttp2 h) id text = refl
+
+goes_first : (e : Option End) → first_of e None ≡ e
+goes_first None = refl
+goes_first (Some reason) = refl
+
+pub puts_so : (old new : Conn) (place count : ℕ) (t : Tunnel) (w : Waiting) (rest : List Waiting) (g h : Front) → slice_get old.tunnels.items place ≡ Some t → t.waiting ≡ w ∷ rest
+    → old.front ≡ Some g → new ≡ record old { front = Some h }
+    → ((f : machine.Front) (streams : List Stream) (owed : List ℕ) → IsFront g f streams owed → Framed h f t.stream count (drop w.framed w.capsule) streams owed) → PutFirst old new place count
+puts_so old new place count t w rest g h at waits fronted keeps frames = record {
+  t = t;
+  w = w;
+  rest = rest;
+  at = at;
+  waits = waits;
+  keeps = keeps ∙ ap (λ (o : Option Front). record old { front = o }) (ap (λ (c : Conn). c.front) (sym keeps));
+  put = put;
+}
+  where
+    bytes : List ℕ
+    bytes = drop w.framed w.capsule
+
+    put : (s : machine.Conn) → Stands old s → (count ≡ frame_size s.front t.stream (length bytes)) × Stands new (putting s (framing s.front t.stream (take count bytes)))
+    put s k =
+        let p = k.past in
+        let P : machine.Conn → Type 0 = λ x. (count ≡ frame_size x.front t.stream (length bytes)) × Stands new (putting x (framing x.front t.stream (take count bytes))) in
+        let R : Option Front → Type 0 = λ o. IsRead o old.ending p.front p.streams (drop p.given p.out) in
+        let r = subst R fronted k.read in
+        let f = frames p.front p.streams (drop p.given p.out) r.1 in
+        let puts = framing p.front t.stream (take count bytes) in
+        let q : Past = record p { front = puts.front; out = p.out ++ puts.text } in
+        let d : Conn = record old { front = Some h } in
+        let O : List ℕ → Type 0 = λ owed. IsFront h puts.front p.streams owed in
+        let E : Conn → Type 0 = λ c. Stands c (putting (state old p) puts) in
+        subst P (sym k.is) (
+          f.count_is,
+          subst E (sym keeps) (record {
+            past = q;
+            is = ap (λ (e : Option End). record (state old p) { front = puts.front; out = p.out ++ puts.text; ending = e }) (ap (λ (e : Option End). first_of old.ending e) (framing_goes p.front t.stream (take count bytes)) ∙ goes_first old.ending);
+            read = (r.0, subst O (sym (drop_more p.given p.out puts.text k.given)) f.put);
+            given = given_more p.given p.out puts.text k.given;
+            room = k.room;
+            opens = k.opens;
+          }),
+        )
+
+-- ---- it is framed
+
+framed_by_is : (x : machine.Conn) (t : Tunnel) (w : Waiting) (rest : List Waiting) (count : ℕ) (b : Bool) → nat_le (length w.capsule) (w.framed + count) ≡ b
+    → framed_by x (tunnel_is t) w rest count
+    ≡ (took_note b t w count, record (putting x (framing x.front t.stream (take count (drop w.framed w.capsule)))) { tunnels = set_waiting t.stream (took_waiting b w rest count) x.tunnels; next_tunnel = t.id + 1 })
+framed_by_is x t w rest count b is = ap (λ (v : Bool). cond v (done true) (done false)) is ∙ by b
+  where
+    done : Bool → Note × machine.Conn
+    done b = (took_note b t w count, record (putting x (framing x.front t.stream (take count (drop w.framed w.capsule)))) { tunnels = set_waiting t.stream (took_waiting b w rest count) x.tunnels; next_tunnel = t.id + 1 })
+
+    by : (b : Bool) → cond b (done true) (done false) ≡ done b
+    by true = refl
+    by false = refl
+
+framed_is : (x : machine.Conn) (u : machine.Tunnel) (w : Waiting) (rest : List Waiting) (count : ℕ) (d : Note × machine.Conn) → next_framed x ≡ Some u → u.waiting ≡ w ∷ rest
+    → count ≡ frame_size x.front u.stream (length (drop w.framed w.capsule)) → framed_by x u w rest count ≡ d → framed x ≡ Some (settled_note d)
+framed_is x u w rest count d turn waiting size is =
+    ap (λ (o : Option machine.Tunnel). option_map settled_note (option_and_then (λ (t : machine.Tunnel). framed_front x t t.waiting) o)) turn
+    ∙ ap (λ (ws : List Waiting). option_map settled_note (framed_front x u ws)) waiting
+    ∙ ap (λ (n : ℕ). Some (settled_note (framed_by x u w rest n))) (sym size)
+    ∙ ap (λ (r : Note × machine.Conn). Some (settled_note r)) is
+
+pub frames_so : (old mid new d : Conn) (place count : ℕ) (said : Note) → ((s : machine.Conn) → IsConn old s → IsTurn old s (Some place)) → ((s : machine.Conn) → IsConn old s → can_go_on s ≡ true)
+    → (put : PutFirst old mid place count) → Takes mid new place count put.t put.w put.rest said → Settles new d
+    → (s : machine.Conn) → IsConn old s → (t : machine.Conn) × IsConn d t × (framed s ≡ Some (said, t))
+frames_so old mid new d place count said turns goes put takes settles s stands =
+    by_state old (λ (x : machine.Conn). (t : machine.Conn) × IsConn d t × (framed x ≡ Some (said, t))) go s stands
+  where
+    b : Bool
+    b = nat_le (length put.w.capsule) (put.w.framed + count)
+
+    go : (p : Past) → Is old p → (t : machine.Conn) × IsConn d t × (framed (state old p) ≡ Some (said, t))
+    go p h =
+        let x = state old p in
+        let u = put.t in
+        let turn = turns x (is_conn old p h) in
+        let idle = goes_on old p h (goes x (is_conn old p h)) in
+        let here : Some turn.0 ≡ Some u = sym turn.1 ∙ put.at in
+        let same : turn.0 ≡ u = (let e = here in cc) in
+        let next : next_framed x ≡ Some (tunnel_is u) = turn.2 ∙ ap (λ (v : Tunnel). Some (tunnel_is v)) same in
+        let puts = put.put x (is_conn old p h).stands in
+        let y : machine.Conn = putting x (framing x.front u.stream (take count (drop put.w.framed put.w.capsule))) in
+        let z : machine.Conn = record y { tunnels = set_waiting u.stream (took_waiting b put.w put.rest count) x.tunnels; next_tunnel = u.id + 1 } in
+        let is = framed_by_is x u put.w put.rest count b refl in
+        let loose = subst (λ (r : Note × machine.Conn). IsLoose r.1) is (framed_by_loose x (tunnel_is u) put.w put.rest count h.lawful.loose) in
+        let k = puts.1 in
+        let q = k.past in
+        let items : mid.tunnels.items ≡ old.tunnels.items = ap (λ (c : Conn). c.tunnels.items) put.keeps in
+        let first_is : mid.first ≡ None = ap (λ (c : Conn). c.first) put.keeps ∙ idle.first in
+        let placed : set_waiting u.stream (took_waiting b put.w put.rest count) x.tunnels ≡ tunnels_of new.tunnels.items =
+        set_at old.tunnels.items place u (took_waiting b put.w put.rest count) h.lawful.loose.alone put.at
+        ∙ ap (λ (ts : List Tunnel). tunnels_of (slice_set ts place (record u { waiting = took_waiting b put.w put.rest count }))) (sym items) ∙ ap tunnels_of (sym takes.items) in
+        let e : Conn = record mid { tunnels = new.tunnels; next_tunnel = u.id + 1 } in
+        let R : Option First → Type 0 = λ o. HasRoom o (vec_len new.tunnels) (vec_capacity new.tunnels) in
+        let stood : Stands e z = record {
+          past = q;
+          is = ap (λ (ts : List machine.Tunnel). record y { tunnels = ts; next_tunnel = u.id + 1 }) placed ∙ ap (λ (v : machine.Conn). record v { tunnels = tunnels_of new.tunnels.items; next_tunnel = u.id + 1 }) k.is;
+          read = k.read;
+          given = k.given;
+          room = subst R (sym first_is) tt;
+          opens = k.opens;
+        } in
+        let E : Conn → Type 0 = λ c. Stands c z in (
+          settle z,
+          settles_so new d z settles (subst E (sym takes.keeps) stood) loose,
+          framed_is x (tunnel_is u) put.w put.rest count (took_note b u put.w count, z) next put.waits puts.0 is ∙ ap (λ (n : Note). Some (n, settle z)) (sym takes.said_is),
+        )
+
+pub not_false : (b : Bool) → not b ≡ false → b ≡ true
+not_false true h = refl
+not_false false h = absurd cc
+
+pub not_true : (b : Bool) → not b ≡ true → b ≡ false
+not_true true h = absurd cc
+not_true false h = refl
 
 lt_not_le : (a b : ℕ) → nat_lt a b ≡ not (nat_le b a)
 lt_not_le a b = grind (arith, nat_tests)
 
--- a tunnel alone is the next, wherever the search begins
-one_of : (n : ℕ) (t : machine.Tunnel) → tunnels_from n (t ∷ []) ≡ t ∷ []
-one_of n t = ap (λ (b : Bool). cond (nat_le n t.id) (t ∷ []) [] ++ cond b (t ∷ []) []) (lt_not_le t.id n) ∙ by (nat_le n t.id) where
-  by : (b : Bool) → cond b (t ∷ []) [] ++ cond (not b) (t ∷ []) [] ≡ t ∷ []
-  by true = refl
-  by false = refl
+-- whether it is on the side that is searched
+pub on_its_side : (late : Bool) (from id : ℕ) (t : machine.Tunnel) → id ≡ t.id → beq (nat_le from id) late ≡ true → side late from t ≡ true
+on_its_side true from id t is h = ap (λ (n : ℕ). nat_le from n) (sym is) ∙ by (nat_le from id) h
+  where
+    by : (b : Bool) → beq b true ≡ true → b ≡ true
+    by true k = refl
+    by false k = absurd cc
+on_its_side false from id t is h = ap (λ (n : ℕ). nat_lt n from) (sym is) ∙ lt_not_le id from ∙ by (nat_le from id) h
+  where
+    by : (b : Bool) → beq b false ≡ true → not b ≡ true
+    by true k = absurd cc
+    by false k = refl
 
-above_zero : (n : ℕ) → 0 < n → nat_lt 0 n ≡ true
-above_zero n h = grind (arith, nat_tests)
+pub puts_first : (old new : Conn) (place : ℕ) (r : Result ℕ NoMemory) (t : Tunnel) (w : Waiting) (rest : List Waiting) (g h : Front) → slice_get old.tunnels.items place ≡ Some t → t.waiting ≡ w ∷ rest
+    → old.front ≡ Some g → new ≡ record old { front = Some h }
+    → ((f : machine.Front) (streams : List Stream) (owed : List ℕ) → IsFront g f streams owed → Frames h r f t.stream (drop w.framed w.capsule) streams owed) → PutsFirst old new place r
+puts_first old new place (Ok count) t w rest g h at waits fronted keeps frames = puts_so old new place count t w rest g h at waits fronted keeps frames
+puts_first old new place (Err fault) t w rest g h at waits fronted keeps frames =
+    let P : Conn → Type 0 = λ x. x ≡ record old { front = x.front; first = x.first; due = x.due; ending = x.ending } in
+    subst P (sym keeps) refl
 
-is_there : (p : List ℕ) → nat_lt 0 (length (capsule_text (datagram p))) ≡ true
-is_there p = above_zero (length (capsule_text (datagram p))) (omega (arith, capsule_length p))
+framed_goes : (x : machine.Conn) (t : machine.Tunnel) → next_framed x ≡ Some t → can_go_on x ≡ true
+framed_goes x t h = go (can_go_on x) h
+  where
+    go : (b : Bool) → cond b (find (can_frame x) (tunnels_from x.next_tunnel x.tunnels)) None ≡ Some t → b ≡ true
+    go true k = refl
+    go false k = absurd cc
 
-le_zero : (n : ℕ) → nat_le n (0 + n) ≡ true
-le_zero n = grind (arith, nat_tests)
+pub turn_goes : (c : Conn) (place : ℕ) (s : machine.Conn) → IsTurn c s (Some place) → can_go_on s ≡ true
+turn_goes c place s turn = framed_goes s (tunnel_is turn.0) turn.2
 
--- a live tunnel's connection has read its head
-live_front : (f : machine.Front) (live : Bool) (fi : Option First) (dues : List Due) → IsDue None f live fi dues → live ≡ true → f ≡ OverHttp1
-live_front (Head bytes) live fi dues h is = let e = h.0 in absurd cc
-live_front OverHttp1 live fi dues h is = refl
-live_front (OverHttp2 state) live fi dues h is = absurd h
-
--- it is framed
-framed_so : (y : machine.Conn) (t : Tunnel) (packet : Packet) (rest : List Waiting) → y.front ≡ OverHttp1 → y.tunnels ≡ record { id = t.id; stream = 0; goal = t.goal; waiting = waiting_of packet ∷ rest } ∷ [] → can_go_on y ≡ true
-    → framed y ≡ Some (
-      note.Delivered packet.from packet.n t.id packet.packet,
-      settle (record y { out = y.out ++ capsule_text (datagram packet.packet); tunnels = record { id = t.id; stream = 0; goal = t.goal; waiting = rest } ∷ []; next_tunnel = t.id + 1 }),
-    )
-framed_so y t packet rest front tunnels goes =
-    let w = waiting_of packet in
-    let m : machine.Tunnel = record { id = t.id; stream = 0; goal = t.goal; waiting = w ∷ rest } in
-    let text = capsule_text (datagram packet.packet) in
-    let F : Option machine.Tunnel → Option (Note × machine.Conn) = λ o. option_map settled_note (option_and_then (λ (t : machine.Tunnel). framed_front y t t.waiting) o) in
-    let said = note.Delivered packet.from packet.n t.id packet.packet in
-    let size = length text in
-    let done : Note × machine.Conn → Option (Note × machine.Conn) = λ d. Some (settled_note d) in
-    let part : Note × machine.Conn = (note.Part t.id size, record (framing y y.front 0 (drop 0 text) size) { tunnels = set_waiting t.id (record w { framed = 0 + size } ∷ rest) y.tunnels; next_tunnel = t.id + 1 }) in
-    ap (λ (b : Bool). F (cond b (find (can_frame y) (tunnels_from y.next_tunnel y.tunnels)) None)) goes
-    ∙ ap (λ (ts : List machine.Tunnel). F (find (can_frame y) (tunnels_from y.next_tunnel ts))) tunnels
-    ∙ ap (λ (ts : List machine.Tunnel). F (find (can_frame y) ts)) (one_of y.next_tunnel m)
-    ∙ ap (λ (f : machine.Front). F (cond (nat_lt 0 (frame_size f 0 (length text))) (Some m) None)) front
-    ∙ ap (λ (b : Bool). F (cond b (Some m) None)) (is_there packet.packet)
-    ∙ ap (λ (f : machine.Front). done (framed_by y m w rest (frame_size f 0 size))) front
-    ∙ ap (λ (b : Bool). done (cond b (said, record (framing y y.front 0 (drop 0 text) size) { tunnels = set_waiting t.id rest y.tunnels; next_tunnel = t.id + 1 }) part)) (le_zero size)
-    ∙ ap (λ (f : machine.Front). done (said, record (framing y f 0 text size) { tunnels = set_waiting t.id rest y.tunnels; next_tunnel = t.id + 1 })) front
-    ∙ ap (λ (xs : List ℕ). done (said, record y { out = y.out ++ xs; tunnels = set_waiting t.id rest y.tunnels; next_tunnel = t.id + 1 })) (take-length text)
-    ∙ ap (λ (ts : List machine.Tunnel). done (said, record y { out = y.out ++ text; tunnels = set_waiting t.id rest ts; next_tunnel = t.id + 1 })) tunnels
-    ∙ ap (λ (b : Bool). done (said, record y { out = y.out ++ text; tunnels = cond b (record m { waiting = rest } ∷ []) (m ∷ []); next_tunnel = t.id + 1 })) (eq-eqb t.id t.id refl)
-
--- ---- the capsule that was put is that of the packet that was taken
-
-capsule_first : List Waiting → List ℕ
-capsule_first [] = []
-capsule_first (w ∷ ws) = w.capsule
-
-pub frames_both : (old mid new : Conn) (id : ℕ) (p : Packet) → ((s : machine.Conn) → IsConn old s → can_go_on s ≡ true) → PutsFirst old mid → ((t : Tunnel) → mid.tunnel ≡ Some t → PopsFirst mid new t id p)
-    → Framed old new (note.Delivered p.from p.n id p.packet)
-unfolding capsule_first
-frames_both old mid new id p goes put pop =
-    let live : mid.tunnel ≡ Some put.t = ap (λ (x : Conn). x.tunnel) put.new_is ∙ put.live in
-    let took = pop put.t live in
-    let same : capsule_text (datagram put.p.packet) ≡ capsule_text (datagram p.packet) = ap capsule_first (sym put.first ∙ took.first) in
-    record {
-      t = put.t;
-      p = p;
-      rest = took.rest;
-      goes_on = goes;
-      live = put.live;
-      first = took.first;
-      said_is = ap (λ (n : ℕ). note.Delivered p.from p.n n p.packet) took.id_is;
-      new_is = took.new_is
-          ∙ ap (λ (x : Conn). record x { tunnel = Some (record put.t { waiting = took.rest }); next_tunnel = put.t.id + 1 }) put.new_is
-          ∙ ap (λ (text : List ℕ). record old { tunnel = Some (record put.t { waiting = took.rest }); owed = old.owed ++ text; next_tunnel = put.t.id + 1 }) same;
-    }
-
--- ---- the machine's frame
-
-pub frames : (c d : Conn) (said : Note) → Framed c d said → (s : machine.Conn) → IsConn c s → (t : machine.Conn) × IsConn d t × (framed s ≡ Some (said, t))
-frames c d said f s stands =
-    let p = stands.past in
-    let t = f.t in
-    let text = capsule_text (datagram f.p.packet) in
-    let can = f.goes_on s stands in
-    let idle = goes_on c s stands can in
-    let D : Option End → Type 0 = λ e. IsDue e p.front (is_some c.tunnel) c.first c.due in
-    let front = live_front p.front (is_some c.tunnel) c.first c.due (subst D idle.ending stands.due) (ap (λ (o : Option Tunnel). is_some o) f.live) in
-    let y : machine.Conn = record (state c p) { tunnels = record { id = t.id; stream = 0; goal = t.goal; waiting = waiting_of f.p ∷ f.rest } ∷ [] } in
-    let same : s ≡ y = stands.is ∙ ap (λ (o : Option Tunnel). record (state c p) { tunnels = tunnels_of o }) f.live
-    ∙ ap (λ (ws : List Waiting). record (state c p) { tunnels = record { id = t.id; stream = 0; goal = t.goal; waiting = ws } ∷ [] }) f.first in
-    let C : machine.Conn → Type 0 = λ x. can_go_on x ≡ true in
-    let u : Tunnel = record t { waiting = f.rest } in
-    let e : Conn = record c { tunnel = Some u; owed = c.owed ++ text; next_tunnel = t.id + 1 } in
-    let q : Past = record p { out = p.out ++ text } in
-    let L : Option Tunnel → Type 0 = λ o. IsDue c.ending p.front (is_some o) c.first c.due in
-    let U : Option Tunnel → Type 0 = λ o. IsUdpTunnel o in
-    let E : Conn → Type 0 = λ x. IsConn x (state e q) in (
-      state e q,
-      subst E (sym f.new_is) (record {
-        past = q;
-        is = refl;
-        read = stands.read;
-        owed = owed_more c.owed p text stands.owed stands.given;
-        given = given_more p text stands.given;
-        due = subst L f.live stands.due;
-        udp = (let V : Option Tunnel → Type 0 = λ o. IsUdpTunnel o in subst V f.live stands.udp);
-        begun = stands.begun;
-      }),
-      ap framed same ∙ framed_so y t f.p f.rest front refl (subst C same can)
-          ∙ ap (λ (z : machine.Conn). Some (note.Delivered f.p.from f.p.n t.id f.p.packet, z)) (settles c.ending p.front (is_some c.tunnel) c.first c.due (state e q) stands.due (plain_front c s stands))
-          ∙ ap (λ (n : Note). Some (n, state e q)) (sym f.said_is),
-    )
-
--- one that can go on wasn't refused memory
-pub goes_unspent : (c : Conn) (done : Bool) → ((s : machine.Conn) → IsConn c s → can_go_on s ≡ true) → Refuses c done
-goes_unspent c done goes s stands spent =
-    let idle = goes_on c s stands (goes s stands) in
-    let e : None ≡ Some end.NoMemory = sym idle.ending ∙ ap (λ (x : machine.Conn). x.ending) (sym stands.is) ∙ spent in
+pub turn_unspent : (c : Conn) (place : ℕ) (done : Bool) → ((s : machine.Conn) → IsConn c s → IsTurn c s (Some place)) → Refuses c done
+turn_unspent c place done turns s stands spent =
+    let goes = goes_not_ending c s stands (turn_goes c place s (turns s stands)) in
+    let e : None ≡ Some end.NoMemory = sym goes ∙ spent in
     absurd cc
+
+pub same_at : (old mid : Conn) (place : ℕ) (t : Tunnel) → mid ≡ record old { front = mid.front } → slice_get old.tunnels.items place ≡ Some t → slice_get mid.tunnels.items place ≡ Some t
+same_at old mid place t keeps at = ap (λ (c : Conn). slice_get c.tunnels.items place) keeps ∙ at
+
+-- ---- of what waits first so much was framed
+
+pub takes_all : (old new : Conn) (place count : ℕ) (t u : Tunnel) (w : Waiting) (rest ws : List Waiting) (p : Packet) (framed : ℕ) → u ≡ t → u.waiting ≡ behind_part framed p ∷ ws → t.waiting ≡ w ∷ rest
+    → length w.capsule ≤ w.framed + count → new.tunnels.items ≡ slice_set old.tunnels.items place (record u { waiting = ws }) → new ≡ record old { tunnels = new.tunnels; next_tunnel = u.id + 1 }
+    → Takes old new place count t w rest (note.Delivered p.from p.n u.id p.packet)
+takes_all old new place count t u w rest ws p framed same popped waiting all items keeps =
+    let e : behind_part framed p ∷ ws ≡ w ∷ rest = sym popped ∙ ap (λ (v : Tunnel). v.waiting) same ∙ waiting in
+    let first : behind_part framed p ≡ w = (let k = e in cc) in
+    let others : ws ≡ rest = (let k = e in cc) in
+    let b : nat_le (length w.capsule) (w.framed + count) ≡ true = le_true (length w.capsule) (w.framed + count) all in
+    record {
+      said_is = ap (λ (v : Tunnel). note.Delivered p.from p.n v.id p.packet) same ∙ ap (λ (v : Waiting). whole_note (tunnel_is t) v v.what) first ∙ ap (λ (v : Bool). took_note v t w count) (sym b);
+      items = items ∙ ap (λ (v : Tunnel). slice_set old.tunnels.items place (record v { waiting = ws })) same ∙ ap (λ (xs : List Waiting). slice_set old.tunnels.items place (record t { waiting = xs })) others
+          ∙ ap (λ (v : Bool). slice_set old.tunnels.items place (record t { waiting = took_waiting v w rest count })) (sym b);
+      keeps = keeps ∙ ap (λ (v : Tunnel). record old { tunnels = new.tunnels; next_tunnel = v.id + 1 }) same;
+    }
+  where
+    le_true : (a b : ℕ) → a ≤ b → nat_le a b ≡ true
+    le_true a b h = grind (arith, nat_tests)
+
+pub takes_part : (old new : Conn) (place count : ℕ) (t u : Tunnel) (w : Waiting) (rest ws : List Waiting) → u ≡ t → t.waiting ≡ w ∷ rest → w.framed + count < length w.capsule
+    → ((w : Waiting) (rest : List Waiting) → u.waiting ≡ w ∷ rest → w.framed + count ≤ length w.capsule → ws ≡ record w { framed = w.framed + count } ∷ rest)
+    → new.tunnels.items ≡ slice_set old.tunnels.items place (record u { waiting = ws }) → new ≡ record old { tunnels = new.tunnels; next_tunnel = u.id + 1 } → Takes old new place count t w rest (note.Part u.id count)
+takes_part old new place count t u w rest ws same waiting some advanced items keeps =
+    let here : u.waiting ≡ w ∷ rest = ap (λ (v : Tunnel). v.waiting) same ∙ waiting in
+    let is = advanced w rest here (omega (arith, some)) in
+    let b : nat_le (length w.capsule) (w.framed + count) ≡ false = lt_false (length w.capsule) (w.framed + count) some in
+    record {
+      said_is = ap (λ (v : Tunnel). note.Part v.id count) same ∙ ap (λ (v : Bool). took_note v t w count) (sym b);
+      items = items ∙ ap (λ (v : Tunnel). slice_set old.tunnels.items place (record v { waiting = ws })) same ∙ ap (λ (xs : List Waiting). slice_set old.tunnels.items place (record t { waiting = xs })) is
+          ∙ ap (λ (v : Bool). slice_set old.tunnels.items place (record t { waiting = took_waiting v w rest count })) (sym b);
+      keeps = keeps ∙ ap (λ (v : Tunnel). record old { tunnels = new.tunnels; next_tunnel = v.id + 1 }) same;
+    }
+  where
+    lt_false : (a b : ℕ) → b < a → nat_le a b ≡ false
+    lt_false a b h = grind (arith, nat_tests)
+
+pub took_none : (old new : Conn) (place count : ℕ) (r : Option Note) → r ≡ None
+    → ((t : Tunnel) (w : Waiting) (rest : List Waiting) → slice_get old.tunnels.items place ≡ Some t → t.waiting ≡ w ∷ rest → ⊥) → TookFirst old new place count r
+took_none old new place count r is never =
+    let P : Option Note → Type 0 = λ o. TookFirst old new place count o in
+    subst P (sym is) never
+
+pub off_its_side : (late : Bool) (from id : ℕ) (t : machine.Tunnel) → id ≡ t.id → beq (nat_le from id) late ≡ false → side late from t ≡ true → ⊥
+off_its_side true from id t is h on = by (nat_le from id) h (ap (λ (n : ℕ). nat_le from n) is ∙ on)
+  where
+    by : (b : Bool) → beq b true ≡ false → b ≡ true → ⊥
+    by true k on = cc
+    by false k on = cc
+off_its_side false from id t is h on = by (nat_le from id) h (sym (lt_not_le id from) ∙ ap (λ (n : ℕ). nat_lt n from) is ∙ on)
+  where
+    by : (b : Bool) → beq b false ≡ false → not b ≡ true → ⊥
+    by true k on = cc
+    by false k on = cc
+
+pub passes_more : (c : Conn) (late : Bool) (place : ℕ) (u : Tunnel) → Passes c late place → slice_get c.tunnels.items place ≡ Some u
+    → (side late c.next_tunnel (tunnel_is u) ≡ true → (s : machine.Conn) → IsConn c s → s.ending ≡ None → can_frame s (tunnel_is u) ≡ false) → Passes c late (place + 1)
+passes_more c late place u passes here cant s stands goes other t lt at on = by (nat_lt other place) refl
+  where
+    by : (b : Bool) → nat_lt other place ≡ b → can_frame s (tunnel_is t) ≡ false
+    by true e = passes s stands goes other t (grind (arith, nat_tests, e)) at on
+    by false e =
+        let same : other ≡ place = grind (arith, nat_tests, e, lt) in
+        let both : Some u ≡ Some t = sym here ∙ ap (λ (n : ℕ). slice_get c.tunnels.items n) (sym same) ∙ at in
+        let is : u ≡ t = (let k = both in cc) in
+        ap (λ (v : Tunnel). can_frame s (tunnel_is v)) (sym is) ∙ cant (ap (λ (v : Tunnel). side late c.next_tunnel (tunnel_is v)) is ∙ on) s stands goes
+
+-- ---- whether there is room
+
+pub room_is : (n a b sum : ℕ) → n < 64 → a ≡ sum → nat_le (a + b) 1048576 ≡ not (nat_le 64 n || nat_lt 1048576 (sum + b))
+room_is n a b sum few same =
+    ap (λ (k : ℕ). nat_le (k + b) 1048576) same ∙ sym (le_not_lt (sum + b)) ∙ ap (λ (v : Bool). not (v || nat_lt 1048576 (sum + b))) (sym (not_many n few))
+  where
+    le_not_lt : (k : ℕ) → not (nat_lt 1048576 k) ≡ nat_le k 1048576
+    le_not_lt k = grind (arith, nat_tests)
+
+    not_many : (n : ℕ) → n < 64 → nat_le 64 n ≡ false
+    not_many n h = grind (arith, nat_tests)
+
+pub not_full : (ts : List Tunnel) (place : ℕ) (t : Tunnel) (packet : List ℕ) → slice_get ts place ≡ Some t → full ts t packet ≡ false
+    → (length (filter is_packet t.waiting) < 64) × (size_of t.waiting + length (capsule_text (datagram packet)) ≤ 1048576)
+not_full ts place t packet at h =
+    let parts = neither (nat_le 64 (length (filter is_packet t.waiting))) (nat_lt 1048576 (sum_by (λ (u : Tunnel). size_of u.waiting) ts + length (capsule_text (datagram packet)))) h in
+    let within = one_within ts place t at in (
+      few (length (filter is_packet t.waiting)) parts.0,
+      small (size_of t.waiting) (length (capsule_text (datagram packet))) (sum_by (λ (u : Tunnel). size_of u.waiting) ts) within parts.1,
+    )
+  where
+    neither : (a b : Bool) → (a || b) ≡ false → (a ≡ false) × (b ≡ false)
+    neither true b k = absurd cc
+    neither false b k = (refl, k)
+
+    few : (n : ℕ) → nat_le 64 n ≡ false → n < 64
+    few n k = grind (arith, nat_tests, k)
+
+    small : (a b sum : ℕ) → a ≤ sum → nat_lt 1048576 (sum + b) ≡ false → a + b ≤ 1048576
+    small a b sum less k = grind (arith, nat_tests, k, less)
+
+pub sum_is : (a sum : ℕ) → a ≡ min sum 18446744073709551615 → a ≤ 1048576 → a ≡ sum
+sum_is a sum h few = omega (arith, h, few)
+
+-- ---- whether anything can be framed
+
+find_true : (p : machine.Tunnel → Bool) (ts : List machine.Tunnel) (t : machine.Tunnel) → find p ts ≡ Some t → p t ≡ true
+find_true p [] t is = absurd cc
+find_true p (u ∷ ts) t is = by_test (p u) refl is (λ later. find_true p ts t later)
+  where
+    by_test : (b : Bool) → p u ≡ b → cond b (Some u) (find p ts) ≡ Some t → (find p ts ≡ Some t → p t ≡ true) → p t ≡ true
+    by_test true test e go = let same : u ≡ t = (let k = e in cc) in ap p (sym same) ∙ test
+    by_test false test e go = go e
+
+-- a part of what waits first in the tunnel whose turn it is can be framed
+turn_can : (s : machine.Conn) (t : machine.Tunnel) → next_framed s ≡ Some t → can_frame s t ≡ true
+turn_can s t is = by_going (can_go_on s) is
+  where
+    by_going : (b : Bool) → cond b (find (can_frame s) (tunnels_from s.next_tunnel s.tunnels)) None ≡ Some t → can_frame s t ≡ true
+    by_going true e = find_true (can_frame s) (tunnels_from s.next_tunnel s.tunnels) t e
+    by_going false e = absurd cc
+
+something_waits : (s : machine.Conn) (t : machine.Tunnel) (ws : List Waiting) → t.waiting ≡ ws → can_frame s t ≡ true → is_some (option_map settled_note (framed_front s t ws)) ≡ true
+something_waits s t [] is can =
+    let e : false ≡ true = ap (λ (ws : List Waiting). can_frame s (record t { waiting = ws })) (sym is) ∙ can in
+    absurd cc
+something_waits s t (w ∷ ws) is can = refl
+
+pub can_frame_so : (c : Conn) (o : Option ℕ) (b : Bool) → b ≡ is_some o → ((s : machine.Conn) → IsConn c s → IsTurn c s o) → (s : machine.Conn) → IsConn c s → b ≡ is_some (framed s)
+can_frame_so c None b is turns s stands =
+    is ∙ sym (ap (λ (o : Option machine.Tunnel). is_some (option_map settled_note (option_and_then (λ (t : machine.Tunnel). framed_front s t t.waiting) o))) (turns s stands))
+can_frame_so c (Some place) b is turns s stands =
+    let turn = turns s stands in
+    let t = tunnel_is turn.0 in
+    is ∙ sym (ap (λ (o : Option machine.Tunnel). is_some (option_map settled_note (option_and_then (λ (t : machine.Tunnel). framed_front s t t.waiting) o))) turn.2
+    ∙ something_waits s t t.waiting refl (turn_can s t turn.2))

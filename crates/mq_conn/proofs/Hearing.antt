@@ -1,229 +1,254 @@
--- What the book's replies do.
-use Rattle.std.proofs.Common.{◌≡◌, ◌≢◌, ℕ, Bool, true, false, List, [], ◌∷◌, ◌++◌, Option, Some, None, Result, Ok, Err, refl, sym, ap, ◌∙◌, subst}
-use Rattle.std.specs.Prelude.{IfOk, OnOk, OnErr, option_map}
-use Rattle.std.specs.Option.{is_some}
+-- What a reply of the book does to what the core stands for.
+use Rattle.std.proofs.Common.{◌≡◌, ◌≢◌, ℕ, ◌<◌, ◌==◌, Bool, true, cond, List, [], ◌∷◌, ◌++◌, drop, Option, Some, None, Result, Ok, Err, refl, sym, ap, ◌∙◌, subst}
+use Rattle.std.specs.Prelude.{find, slice_get, vec_len, vec_capacity}
+use Rattle.std.specs.Result.{IsErr}
+use Rattle.std.specs.Option.{is_some, unwrap_or}
 use Rattle.mq_addr.specs.declared.range.Range.{Range}
-use Rattle.mq_addr.specs.declared.kind.Kind.TheVariants as kind
-use Rattle.mq_head.specs.Answers.{success_text}
-use Rattle.mq_wire.specs.declared.NoMemory.{NoMemory}
 use Rattle.mq_talk.specs.declared.book.Call.TheVariants as call
 use Rattle.mq_talk.specs.declared.book.Reply.{Reply}
 use Rattle.mq_talk.specs.declared.book.Reply.TheVariants as reply
 use Rattle.mq_talk.specs.declared.goal.Goal.{Goal}
-use Rattle.mq_talk.specs.declared.goal.Goal.TheVariants as goal
 use Rattle.mq_talk.specs.declared.note.End.{End}
 use Rattle.mq_talk.specs.declared.note.End.TheVariants as end
 use Rattle.mq_talk.specs.declared.note.Note.{Note}
-use Rattle.mq_talk.specs.declared.note.Note.TheVariants as note
+use Rattle.mq_talk.specs.declared.note.Why.TheVariants as why
+use Rattle.mq_wire.specs.declared.NoMemory.{NoMemory}
 use Rattle.mq_machine.specs.declared.act.Act.TheVariants as act
 use Rattle.mq_machine.specs.declared.act.StreamAct.{StreamAct}
 use Rattle.mq_machine.specs.declared.act.StreamAct.TheVariants as stream
 use Rattle.mq_machine.specs.declared.act.Due.{Due}
 use Rattle.mq_machine.specs.declared.act.Due.TheVariants as due
-use Rattle.mq_machine.specs.Done.{Done, done, stream_done, tunnel_done, first_waiting}
-use Rattle.mq_machine.specs.Settle.{passing, settled}
+use Rattle.mq_machine.specs.Done.{Done, closed, done_by, ending_done, opened, refused, tunnel_done}
+use Rattle.mq_machine.specs.Lawful.{Follows, IsLawful, IsLoose, IsOver, IsUdp, has_on}
+use Rattle.mq_machine.specs.Settle.{settle}
 use Rattle.mq_machine.specs.Silent.{tunnels_after}
 use Rattle.mq_machine.specs.State as machine
-use Rattle.mq_machine.specs.State.{Stream, Head, OverHttp1, OverHttp2, tunnel_on, kind_of, is_packet}
-use Rattle.mq_machine.specs.Steps.{settled_note, starved}
-use Rattle.mq_machine.specs.Want.{Answer, Replied, Want, Nothing, Say, Bind, Ask, Judge, Push, Send, Over, want_of}
+use Rattle.mq_machine.specs.State.{tunnel_on}
+use Rattle.mq_machine.specs.Steps.{starved}
+use Rattle.mq_machine.specs.Want.{Answer, Ask, Replied, Want, due_want, want_by, want_of}
+use Rattle.mq_machine.proofs.Lawful.Idle.{heard_lawful}
+use Rattle.mq_machine.proofs.Lawful.Lists.{itself}
+use Rattle.mq_conn.specs.declared.answer.Closing.{Closing}
 use Rattle.mq_conn.specs.declared.conn.Conn.{Conn}
 use Rattle.mq_conn.specs.declared.conn.First.{First}
 use Rattle.mq_conn.specs.declared.conn.First.TheVariants as first
 use Rattle.mq_conn.specs.declared.conn.Tunnel.{Tunnel}
-use Rattle.mq_conn.specs.Conns.{IsConn, IsDue, IsUdp, Does, Keeps, Hears, HearsNone, Past, state, behind, given_up, tunnels_of, heard}
-use Rattle.mq_conn.proofs.Standing.{shut, gives_up}
-use Rattle.mq_conn.proofs.Fronts.{plain_front}
-use Rattle.mq_conn.proofs.Acting.{acting, done_acting, does_so, begins, passes, due_from, owed_more, given_more, refused_conn, history_full, want_acting}
+use Rattle.mq_conn.specs.Closing.{ClosesSo, OpensOn, closes_due, closes_dues, closing}
+use Rattle.mq_conn.specs.Conns.{Does, GivesUp, HasRoom, Hears, HearsNone, HearsOne, Leaves, Stands, behind, tunnel_is, tunnels_of}
+use Rattle.mq_conn.proofs.Standing.{due_is, ending_is, fronted, gone, gone_left, tunnels_are}
+use Rattle.mq_conn.proofs.Answering.{does_due, leads, not_over, some_done, stream_leads}
 
--- ---- no answer to it
+-- ---- a tunnel closes
 
-pub none_of : (x : machine.Conn) (o : Option machine.Tunnel) (a : StreamAct) (answer : Answer) → ((t : machine.Tunnel) → stream_done x t a answer ≡ None)
-    → is_some (option_map settled_note (tunnel_done x o a answer)) ≡ true → ⊥
-none_of x None a answer none h = absurd cc
-none_of x (Some t) a answer none h = let P : Done → Type 0 = λ d. is_some (option_map settled_note d) ≡ true in let e = subst P (none t) h in absurd cc
+closes_is : (d : Due) (c : Closing) → closes_due d ≡ Some c → d ≡ due.Do (act.OfStream c.stream (stream.Close c.why))
+closes_is (due.Do (act.Bind id goal)) c h = absurd cc
+closes_is (due.Do (act.Open id goal)) c h = absurd cc
+closes_is (due.Do (act.Refuse id status rule)) c h = absurd cc
+closes_is (due.Do (act.Reset id code)) c h = absurd cc
+closes_is (due.Do (act.OfStream id (stream.Payload n payload))) c h = absurd cc
+closes_is (due.Do (act.OfStream id (stream.Packet n packet flow))) c h = absurd cc
+closes_is (due.Do (act.OfStream id (stream.Push n to packet))) c h = absurd cc
+closes_is (due.Do (act.OfStream id (stream.Drop n cause))) c h = absurd cc
+closes_is (due.Do (act.OfStream id (stream.Assign asked))) c h = absurd cc
+closes_is (due.Do (act.OfStream id (stream.Advertise ranges))) c h = absurd cc
+closes_is (due.Do (act.OfStream id (stream.Close reason))) c h =
+    ap (λ (o : Option Closing). due.Do (act.OfStream (unwrap_or o c).stream (stream.Close (unwrap_or o c).why))) h
+closes_is (due.Spend id size) c h = absurd cc
+closes_is (due.Fault code) c h = absurd cc
 
--- ---- an Open
+-- this closes a tunnel first
+abbrev pub ClosesFirst : List Due → Closing → Type 0
+ClosesFirst dues c = (rest : List Due) × (dues ≡ due.Do (act.OfStream c.stream (stream.Close c.why)) ∷ rest)
 
-opens_by : (y : machine.Conn) (e : Option End) (g : machine.Front) (live : Bool) (fi : Option First) (dues : List Due) (id : ℕ) (routes : List Range) → IsDue e g live fi dues
-    → is_some (done (record y { ending = e; front = g; due = behind fi dues }) (Replied (reply.Opened id routes))) ≡ true
-    → (goal : Goal) × (waiting : List machine.Waiting) × (fi ≡ Some (first.Open goal waiting))
-opens_by y (Some why) g live fi dues id routes h some = ending y.tunnels some where
-  ending : (ts : List machine.Tunnel) → is_some (done (record y { ending = Some why; front = g; due = behind fi dues; tunnels = ts }) (Replied (reply.Opened id routes))) ≡ true
-      → (goal : Goal) × (waiting : List machine.Waiting) × (fi ≡ Some (first.Open goal waiting))
-  ending [] e = absurd cc
-  ending (t ∷ ts) e = absurd cc
-opens_by y None (Head bytes) live (Some f) dues id routes h some = let e = h.1 in absurd cc
-opens_by y None (Head bytes) live None [] id routes h some = absurd cc
-opens_by y None (Head bytes) live None (d ∷ dues) id routes h some = let e = h.2 in absurd cc
-opens_by y None (OverHttp2 state) live fi dues id routes h some = absurd h
-opens_by y None OverHttp1 live (Some (first.Open goal waiting)) dues id routes h some = (goal, waiting, refl)
-opens_by y None OverHttp1 live (Some (first.Close reason)) dues id routes h some =
-    absurd (none_of (record y { ending = None; front = OverHttp1; due = dues }) (tunnel_on (record y { ending = None; front = OverHttp1; due = dues }) 0) (stream.Close reason) (Replied (reply.Opened id routes)) (λ t. refl) some)
-opens_by y None OverHttp1 live None [] id routes h some = absurd cc
-opens_by y None OverHttp1 live None (due.Do (act.Bind i goal) ∷ dues) id routes h some = absurd cc
-opens_by y None OverHttp1 live None (due.Do (act.Open i goal) ∷ dues) id routes h some = absurd h
-opens_by y None OverHttp1 live None (due.Do (act.Refuse i status rule) ∷ dues) id routes h some = absurd cc
-opens_by y None OverHttp1 live None (due.Do (act.Reset i code) ∷ dues) id routes h some = absurd h
-opens_by y None OverHttp1 live None (due.Do (act.OfStream i a) ∷ dues) id routes h some =
-    absurd (none_of (record y { ending = None; front = OverHttp1; due = dues }) (tunnel_on (record y { ending = None; front = OverHttp1; due = dues }) i) a (Replied (reply.Opened id routes)) (other a) some) where
-      other : (a : StreamAct) → (t : machine.Tunnel) → stream_done (record y { ending = None; front = OverHttp1; due = dues }) t a (Replied (reply.Opened id routes)) ≡ None
-      other (stream.Payload n payload) t = refl
-      other (stream.Packet n packet flow) t = refl
-      other (stream.Push n to packet) t = refl
-      other (stream.Drop n cause) t = refl
-      other (stream.Assign asked) t = refl
-      other (stream.Advertise ranges) t = refl
-      other (stream.Close reason) t = refl
-opens_by y None OverHttp1 live None (due.Spend i size ∷ dues) id routes h some = absurd h
-opens_by y None OverHttp1 live None (due.Fault code ∷ dues) id routes h some = absurd h
+dues_close : (dues : List Due) (c : Closing) → closes_dues dues ≡ Some c → ClosesFirst dues c
+dues_close [] c h = absurd cc
+dues_close (d ∷ rest) c h = (rest, ap (λ (x : Due). x ∷ rest) (closes_is d c h))
 
-pub opens : (c : Conn) (s : machine.Conn) (id : ℕ) (routes : List Range) → IsConn c s → is_some (done s (Replied (reply.Opened id routes))) ≡ true
-    → (goal : Goal) × (waiting : List machine.Waiting) × (c.first ≡ Some (first.Open goal waiting))
-opens c s id routes stands some =
-    let p = stands.past in
-    let P : machine.Conn → Type 0 = λ x. is_some (done x (Replied (reply.Opened id routes))) ≡ true in
-    opens_by (state c p) c.ending p.front (is_some c.tunnel) c.first c.due id routes stands.due (subst P stands.is some)
+closing_all : (f : Option First) (dues : List Due) → closing f dues ≡ closes_dues (behind f dues)
+closing_all None dues = refl
+closing_all (Some (first.Open id goal waiting)) dues = refl
+closing_all (Some (first.Close id reason)) dues = refl
 
--- the tunnel that opened
-abbrev pub tunnel_of : ℕ → Goal → List machine.Waiting → Tunnel
-tunnel_of id goal waiting = record { id = id; goal = goal; waiting = waiting }
+pub closing_first : (f : Option First) (dues : List Due) (c : Closing) → closing f dues ≡ Some c → ClosesFirst (behind f dues) c
+closing_first f dues c h = dues_close (behind f dues) c (sym (closing_all f dues) ∙ h)
 
-abbrev pub opened_conn : Conn → ℕ → Goal → List machine.Waiting → Conn
-opened_conn c id goal waiting = record c { first = None; tunnel = Some (tunnel_of id goal waiting); owed = c.owed ++ success_text (kind_of goal) }
+-- the tunnel of a stream that has one
+record Has (s : machine.Conn) (id : ℕ) : Type 0 where
+  pub t : machine.Tunnel
+  pub on : tunnel_on s id ≡ Some t
 
-none_live : (o : Option Tunnel) → is_some o ≡ false → o ≡ None
-none_live None h = refl
-none_live (Some t) h = absurd cc
+has_tunnel : (s x : machine.Conn) (id : ℕ) (a : StreamAct) (answer : Answer) (o : Option machine.Tunnel) → tunnel_on s id ≡ o → is_some (tunnel_done x o a answer) ≡ true → Has s id
+has_tunnel s x id a answer None is h = absurd cc
+has_tunnel s x id a answer (Some t) is h = record { t = t; on = is }
 
-udp_kind : (goal : Goal) → IsUdp goal → kind_of goal ≡ kind.Udp
-udp_kind (goal.Udp addr port) h = refl
-udp_kind (goal.Ip area protocol) h = absurd h
+-- the tunnel closes that was to close
+pub closes_due_one : (old mid e : Conn) (c : Closing) (said : Note) → closing old.first old.due ≡ Some c → old.ending ≡ None
+    → ((d : Due) (rest : List Due) → behind old.first old.due ≡ d ∷ rest → mid ≡ record old { first = None; due = rest })
+    → ClosesSo mid e c.stream c.why said → Does old e (Replied reply.Closed) said
+closes_due_one old mid e c said is over takes closes s conn some =
+    let all = closing_first old.first old.due c is in
+    let rest = all.0 in
+    let d : Due = due.Do (act.OfStream c.stream (stream.Close c.why)) in
+    let mid_is = takes d rest all.1 in
+    let x = record s { due = rest } in
+    let P : Conn → Type 0 = λ k. Stands k x in
+    let st : Stands mid x = subst P (sym mid_is) (fronted old s d rest all.1 conn.stands) in
+    let none : s.ending ≡ None = ending_is old s conn.stands ∙ over in
+    let first_so : mid.first ≡ None = ap (λ (k : Conn). k.first) mid_is in
+    let due_so = due_is old s conn.stands ∙ all.1 in
+    let D : Done → Type 0 = λ o. is_some o ≡ true in
+    let h = has_tunnel s x c.stream (stream.Close c.why) (Replied reply.Closed) (tunnel_on s c.stream) refl
+    (subst D (does_due s (act.OfStream c.stream (stream.Close c.why)) rest (Replied reply.Closed) none due_so) (some_done s (Replied reply.Closed) some)) in
+    let r = closes x h.t st first_so (λ ending. absurd (ending none)) h.on in
+    leads e s (Replied reply.Closed) said conn.lawful tt (record {
+      x = (closed x h.t c.why).1;
+      does = stream_leads s c.stream (stream.Close c.why) rest (Replied reply.Closed) h.t none due_so h.on ∙ ap (λ (n : Note). Some (n, (closed x h.t c.why).1)) (sym r.0);
+      stands = r.1;
+    })
 
-pub opened : (c : Conn) (id : ℕ) (goal : Goal) (waiting : List machine.Waiting) (routes : List Range) → c.first ≡ Some (first.Open goal waiting)
-    → Does c (opened_conn c id goal waiting) (Replied (reply.Opened id routes)) (note.Opened id c.number 0 (kind_of goal))
-opened c id goal waiting routes is = does_so c _ (Replied (reply.Opened id routes)) _ (λ s stands some.
-    let p = stands.past in
-    let b = begins c s (first.Open goal waiting) stands is in
-    let f = b.follows in
-    let d = due.Do (act.Open 0 goal) in
-    let text = success_text (kind_of goal) in
-    let e = opened_conn c id goal waiting in
-    let q : Past = record p { out = p.out ++ text } in
-    let none = none_live c.tunnel f.0 in
-    let udp = udp_kind goal f.1 in
-    let y : machine.Conn = record (acting c p d c.due) { out = p.out ++ text; due = c.due } in
-    let said = note.Opened id c.number 0 (kind_of goal) in
-    let with : List machine.Waiting → machine.Conn = λ ws. record y { tunnels = record { id = id; stream = 0; goal = goal; waiting = ws } ∷ [] } in
-    let Z : List machine.Waiting → Option (Note × machine.Conn) = λ ws. Some (said, settled (passing c.due (with ws))) in
-    let first_of : machine.Conn → Option (Note × machine.Conn) = λ x. done x (Replied (reply.Opened id routes)) in (
-      state e q,
+-- ---- the first tunnel of an ending connection
+
+over_first : (e : Option End) (f : Option First) (dues ds : List Due) → e ≢ None → IsOver e ds → ds ≡ behind f dues → f ≡ None
+over_first None f dues ds ending h is = absurd (ending refl)
+over_first (Some reason) None dues ds ending h is = refl
+over_first (Some reason) (Some f) dues ds ending h is = let k = sym h ∙ is in absurd cc
+
+ending_closes : (s : machine.Conn) (e : Option End) (t : machine.Tunnel) (ts : List machine.Tunnel) → e ≢ None → s.tunnels ≡ t ∷ ts → done_by s e (Replied reply.Closed) ≡ Some (closed s t why.Conn)
+ending_closes s None t ts ending is = absurd (ending refl)
+ending_closes s (Some reason) t ts ending is = ap (λ (us : List machine.Tunnel). ending_done s us (Replied reply.Closed)) is
+
+pub closes_ending : (old e : Conn) (t : Tunnel) (ts : List Tunnel) (said : Note) → old.ending ≢ None → old.tunnels.items ≡ t ∷ ts → ClosesSo old e t.stream why.Conn said → Does old e (Replied reply.Closed) said
+closes_ending old e t ts said ending is closes s conn some =
+    let m = tunnel_is t in
+    let ends : s.ending ≢ None = λ k. ending (sym (ending_is old s conn.stands) ∙ k) in
+    let all : s.tunnels ≡ m ∷ tunnels_of ts = tunnels_are old s conn.stands ∙ ap tunnels_of is in
+    let on : tunnel_on s t.stream ≡ Some m =
+    ap (λ (us : List machine.Tunnel). find (λ (u : machine.Tunnel). u.stream == t.stream) us) all
+    ∙ ap (λ (b : Bool). cond b (Some m) (find (λ (u : machine.Tunnel). u.stream == t.stream) (tunnels_of ts))) (itself t.stream) in
+    let first_so = over_first s.ending old.first old.due s.due ends conn.lawful.loose.over (due_is old s conn.stands) in
+    let r = closes s m conn.stands first_so (λ k. refl) on in
+    leads e s (Replied reply.Closed) said conn.lawful tt (record {
+      x = (closed s m why.Conn).1;
+      does = ending_closes s s.ending m (tunnels_of ts) ends all ∙ ap (λ (n : Note). Some (n, (closed s m why.Conn).1)) (sym r.0);
+      stands = r.1;
+    })
+
+-- ---- a tunnel is to open
+
+-- what is due where one stands in front
+pub open_due : (c : Conn) (s : machine.Conn) (id : ℕ) (goal : Goal) (waiting : List machine.Waiting) → c.first ≡ Some (first.Open id goal waiting) → Stands c s → s.due ≡ due.Do (act.Open id goal) ∷ c.due
+open_due c s id goal waiting is st = due_is c s st ∙ ap (λ (f : Option First). behind f c.due) is
+
+open_room : (c : Conn) (s : machine.Conn) (id : ℕ) (goal : Goal) (waiting : List machine.Waiting) → c.first ≡ Some (first.Open id goal waiting) → Stands c s → (waiting ≡ []) × (vec_len c.tunnels < vec_capacity c.tunnels)
+open_room c s id goal waiting is st =
+    let P : Option First → Type 0 = λ f. HasRoom f (vec_len c.tunnels) (vec_capacity c.tunnels) in
+    subst P is st.room
+
+-- it is taken
+open_taken : (c mid : Conn) (s : machine.Conn) (id : ℕ) (goal : Goal) (waiting : List machine.Waiting) → c.first ≡ Some (first.Open id goal waiting) → mid ≡ record c { first = None } → Stands c s → Stands mid (record s { due = c.due })
+open_taken c mid s id goal waiting is mid_is st =
+    let P : Conn → Type 0 = λ k. Stands k (record s { due = c.due }) in
+    subst P (sym mid_is) (fronted c s (due.Do (act.Open id goal)) c.due (ap (λ (f : Option First). behind f c.due) is) st)
+
+udp_open : (s : machine.Conn) (id : ℕ) (goal : Goal) (rest : List Due) → IsLawful s → s.due ≡ due.Do (act.Open id goal) ∷ rest → IsUdp goal
+udp_open s id goal rest lawful is =
+    let P : List Due → Type 0 = λ ds. Follows (has_on s.tunnels) ds in
+    (subst P is lawful.loose.follows).1
+
+-- it opened
+pub hears_opened : (old mid acted e : Conn) (number id : ℕ) (goal : Goal) (waiting : List machine.Waiting) (routes : List Range) (said : Note) → old.first ≡ Some (first.Open id goal waiting) → mid ≡ record old { first = None }
+    → OpensOn mid acted number id goal waiting (Ok said) → ((x : machine.Conn) → Stands acted x → IsLoose x → Stands e (settle x)) → HearsOne old e (reply.Opened number routes) said
+hears_opened old mid acted e number id goal waiting routes said is mid_is opened_so ends s conn fresh some =
+    let due_so = open_due old s id goal waiting is conn.stands in
+    let none = not_over s (due.Do (act.Open id goal)) old.due conn.lawful due_so in
+    let x = record s { due = old.due } in
+    let room = open_room old s id goal waiting is conn.stands in
+    let r = opened_so x routes (open_taken old mid s id goal waiting is mid_is conn.stands) (ap (λ (k : Conn). k.first) mid_is) none room.0 (udp_open s id goal old.due conn.lawful due_so) in
+    let t = (opened x number id goal routes).1 in
+    leads e s (Replied (reply.Opened number routes)) said conn.lawful fresh (record {
+      x = t;
+      does = does_due s (act.Open id goal) old.due (Replied (reply.Opened number routes)) none due_so ∙ ap (λ (n : Note). Some (n, t)) (sym r.0);
+      stands = λ loose. ends t r.1 loose;
+    })
+
+wants_open : (s : machine.Conn) (id : ℕ) (goal : Goal) (rest : List Due) → s.ending ≡ None → s.due ≡ due.Do (act.Open id goal) ∷ rest → want_of s ≡ Ask (call.Open s.number id s.actor goal)
+wants_open s id goal rest none is = ap (λ (e : Option End). want_by s e) none ∙ ap (λ (ds : List Due). due_want s ds) is
+
+abbrev one_more : List machine.Tunnel → ℕ → ℕ → Goal → List machine.Waiting → List machine.Tunnel
+one_more ts number id goal waiting = ts ++ record { id = number; stream = id; goal = goal; waiting = waiting } ∷ []
+
+-- it opened, and no memory was left
+pub hears_no_open : (old mid acted : Conn) (number id : ℕ) (goal : Goal) (waiting : List machine.Waiting) (routes : List Range) (fault : NoMemory) (after : Conn) → old.first ≡ Some (first.Open id goal waiting) → mid ≡ record old { first = None }
+    → OpensOn mid acted number id goal waiting (Err fault) → GivesUp acted end.NoMemory after → HearsNone old after (reply.Opened number routes)
+hears_no_open old mid acted number id goal waiting routes fault after is mid_is opened_so gives s conn some =
+    let st = conn.stands in
+    let said = reply.Opened number routes in
+    let room = open_room old s id goal waiting is st in
+    let M : Conn → Type 0 = λ k. vec_len k.tunnels < vec_capacity k.tunnels in
+    let o = opened_so (subst M (sym mid_is) room.1) in
+    let ts = acted.tunnels in
+    let due_so = open_due old s id goal waiting is st in
+    let none = not_over s (due.Do (act.Open id goal)) old.due conn.lawful due_so in
+    let G : Conn → Conn = λ k. record k { front = None; first = None; due = []; ending = Some end.NoMemory } in
+    let H : Conn → Conn = λ k. record k { front = None; first = None; due = []; ending = Some end.NoMemory; tunnels = ts } in
+    let after_is : after ≡ H old = gives ∙ ap G o.0 ∙ ap H mid_is in
+    let T : Conn → List machine.Tunnel = λ k. one_more (tunnels_of k.tunnels.items) number id goal waiting in
+    let us = tunnels_of old.tunnels.items in
+    let same : tunnels_of ts.items ≡ tunnels_after (want_of s) (Replied said) s.tunnels =
+    o.1 ∙ ap T mid_is ∙ ap (λ (ws : List machine.Waiting). one_more us number id goal ws) room.0
+    ∙ ap (λ (vs : List machine.Tunnel). one_more vs number id goal []) (sym (tunnels_are old s st))
+    ∙ ap (λ (w : Want). tunnels_after w (Replied said) s.tunnels) (sym (wants_open s id goal old.due none due_so)) in
+    let P : Conn → Type 0 = λ k. Stands k (record (starved s) { tunnels = tunnels_of ts.items }) in
+    let Q : List machine.Tunnel → Type 0 = λ vs. Stands after (record (starved s) { tunnels = vs }) in (
+      (λ closed_so. absurd cc),
       record {
-        past = q;
-        is = refl;
-        read = stands.read;
-        owed = owed_more c.owed p text stands.owed stands.given;
-        given = given_more p text stands.given;
-        due = due_from c.ending p.front true None c.due b.acts.ending b.acts.front f.3;
-        udp = f.1;
-        begun = stands.begun;
+        stands = subst Q same (subst P (sym after_is) (gone old s end.NoMemory ts refl st));
+        lawful = heard_lawful s said conn.lawful some;
       },
-      done_acting c p d c.due (Replied (reply.Opened id routes)) b.acts
-          ∙ ap (λ (o : Option Tunnel). first_of (record (acting c p d c.due) { tunnels = tunnels_of o })) none
-          ∙ ap Z (ap (λ k. first_waiting k routes) udp)
-          ∙ ap Z (sym f.2)
-          ∙ ap (λ (z : machine.Conn). Some (said, settled z)) (passes true c.due (with waiting) f.3)
-          ∙ ap (λ (x : Option End). Some (said, record (with waiting) { ending = x })) (sym b.acts.ending)
-          ∙ ap (λ (g : machine.Front). Some (said, record (with waiting) { ending = c.ending; front = g })) (sym b.acts.front),
-    ))
-
--- ---- refused memory as it opens
-
-pub opened_none : (c : Conn) (id : ℕ) (goal : Goal) (waiting : List machine.Waiting) (routes : List Range) → c.first ≡ Some (first.Open goal waiting)
-    → HearsNone c (record (given_up c end.NoMemory) { tunnel = Some (tunnel_of id goal waiting) }) (reply.Opened id routes)
-opened_none c id goal waiting routes is s stands some =
-    let p = stands.past in
-    let b = begins c s (first.Open goal waiting) stands is in
-    let f = b.follows in
-    let d = due.Do (act.Open 0 goal) in
-    let none = none_live c.tunnel f.0 in
-    let e : Conn = record (given_up c end.NoMemory) { tunnel = Some (tunnel_of id goal waiting) } in
-    let q : Past = record p { streams = [] } in
-    let base : machine.Conn = starved (state c p) in
-    let P : machine.Conn → Type 0 = λ x. IsConn e (heard x (reply.Opened id routes)) in (
-      λ h. cc,
-      subst P (sym stands.is) (record {
-        past = q;
-        is = ap (λ (w : Want). record base { tunnels = tunnels_after w (Replied (reply.Opened id routes)) (tunnels_of c.tunnel) }) (want_acting c p d c.due b.acts)
-            ∙ ap (λ (o : Option Tunnel). record base { tunnels = tunnels_of o ++ record { id = id; stream = 0; goal = goal; waiting = [] } ∷ [] }) none
-            ∙ ap (λ (ws : List machine.Waiting). record base { tunnels = record { id = id; stream = 0; goal = goal; waiting = ws } ∷ [] }) (sym f.2);
-        read = shut end.NoMemory p.front (plain_front c s stands);
-        owed = stands.owed;
-        given = stands.given;
-        due = (refl, refl);
-        udp = f.1;
-        begun = stands.begun;
-      }),
     )
 
-pub open_hears : (c d e : Conn) (id : ℕ) (goal : Goal) (waiting : List machine.Waiting) (routes : List Range) (result : Result Note NoMemory) → d ≡ record c { first = None } → c.first ≡ Some (first.Open goal waiting)
-    → OnOk result (e ≡ record d { tunnel = Some (tunnel_of id goal waiting); owed = d.owed ++ success_text (kind_of goal) }) → IfOk result (λ n. n ≡ note.Opened id d.number 0 (kind_of goal))
-    → OnErr result (e ≡ record d { tunnel = Some (tunnel_of id goal waiting) }) → Hears c e (reply.Opened id routes) result
-open_hears c d e id goal waiting routes (Ok n) is opens ok told err =
-    let P : Conn → Type 0 = λ x. Does c x (Replied (reply.Opened id routes)) (note.Opened id c.number 0 (kind_of goal)) in
-    let Q : Note → Type 0 = λ m. Does c e (Replied (reply.Opened id routes)) m in
-    subst Q (sym (told ∙ ap (λ (x : Conn). note.Opened id x.number 0 (kind_of goal)) is))
-    (subst P (sym (ok ∙ ap (λ (x : Conn). record x { tunnel = Some (tunnel_of id goal waiting); owed = x.owed ++ success_text (kind_of goal) }) is)) (opened c id goal waiting routes opens))
-open_hears c d e id goal waiting routes (Err fault) is opens ok told err =
-    let P : Conn → Type 0 = λ x. HearsNone c (given_up x end.NoMemory) (reply.Opened id routes) in
-    subst P (sym (err ∙ ap (λ (x : Conn). record x { tunnel = Some (tunnel_of id goal waiting) }) is)) (opened_none c id goal waiting routes opens)
+-- the history had no place
+pub hears_full : (old mid acted e : Conn) (id : ℕ) (goal : Goal) (waiting : List machine.Waiting) (entries live : ℕ) (said : Note) → old.first ≡ Some (first.Open id goal waiting) → mid ≡ record old { first = None }
+    → ((s : machine.Conn) → Stands mid s → s.ending ≡ None → (said ≡ (refused s id 503 0).0) × Stands acted (refused s id 503 0).1)
+    → ((x : machine.Conn) → Stands acted x → IsLoose x → Stands e (settle x)) → HearsOne old e (reply.HistoryFull entries live) said
+hears_full old mid acted e id goal waiting entries live said is mid_is refuses ends s conn fresh some =
+    let due_so = open_due old s id goal waiting is conn.stands in
+    let none = not_over s (due.Do (act.Open id goal)) old.due conn.lawful due_so in
+    let x = record s { due = old.due } in
+    let r = refuses x (open_taken old mid s id goal waiting is mid_is conn.stands) none in
+    let t = (refused x id 503 0).1 in
+    leads e s (Replied (reply.HistoryFull entries live)) said conn.lawful tt (record {
+      x = t;
+      does = does_due s (act.Open id goal) old.due (Replied (reply.HistoryFull entries live)) none due_so ∙ ap (λ (n : Note). Some (n, t)) (sym r.0);
+      stands = λ loose. ends t r.1 loose;
+    })
 
--- no tunnel is to open
-pub none_hears : (c d : Conn) (id : ℕ) (routes : List Range) → ((goal : Goal) (waiting : List machine.Waiting) → c.first ≢ Some (first.Open goal waiting)) → HearsNone c (given_up d end.NoMemory) (reply.Opened id routes)
-none_hears c d id routes none s stands some = let o = opens c s id routes stands some in absurd (none o.0 o.1 o.2)
+pub hears_no_full : (old mid acted : Conn) (id : ℕ) (goal : Goal) (waiting : List machine.Waiting) (entries live : ℕ) (after : Conn) → old.first ≡ Some (first.Open id goal waiting) → mid ≡ record old { first = None }
+    → Leaves mid acted → GivesUp acted end.NoMemory after → HearsNone old after (reply.HistoryFull entries live)
+hears_no_full old mid acted id goal waiting entries live after is mid_is left gives s conn some =
+    let st = conn.stands in
+    let said = reply.HistoryFull entries live in
+    let due_so = open_due old s id goal waiting is st in
+    let none = not_over s (due.Do (act.Open id goal)) old.due conn.lawful due_so in
+    let all : Leaves old acted = record {
+      is = left.is ∙ ap (λ (k : Conn). record k { front = acted.front; first = acted.first; due = acted.due; ending = acted.ending; tunnels = acted.tunnels }) mid_is;
+      items = left.items ∙ ap (λ (k : Conn). k.tunnels.items) mid_is;
+    } in
+    let same : s.tunnels ≡ tunnels_after (want_of s) (Replied said) s.tunnels = ap (λ (w : Want). tunnels_after w (Replied said) s.tunnels) (sym (wants_open s id goal old.due none due_so)) in
+    let Q : List machine.Tunnel → Type 0 = λ vs. Stands after (record (starved s) { tunnels = vs }) in (
+      (λ closed_so. absurd cc),
+      record {
+        stands = subst Q same (gone_left old acted after s end.NoMemory refl all gives st);
+        lawful = heard_lawful s said conn.lawful some;
+      },
+    )
 
--- ---- replies that open nothing
+-- memory was refused
+pub hears_err : (old new : Conn) (said : Reply) (result : Result Note NoMemory) → IsErr result → ((after : Conn) → GivesUp new end.NoMemory after → HearsNone old after said) → Hears old new said result
+hears_err old new said (Ok note) is h = absurd cc
+hears_err old new said (Err fault) is h = h
 
-abbrev OpensNone : Reply → Type 0
-OpensNone (reply.Opened id routes) = ⊥
-OpensNone (reply.HistoryFull entries live) = Unit {0}
-OpensNone (reply.Assigned list at) = Unit {0}
-OpensNone (reply.Accepted accepts at) = Unit {0}
-OpensNone reply.Closed = Unit {0}
-
-same_open : (conn stream actor : ℕ) (goal : Goal) (said : Reply) (ts : List machine.Tunnel) → OpensNone said → tunnels_after (Ask (call.Open conn stream actor goal)) (Replied said) ts ≡ ts
-same_open conn stream actor goal (reply.Opened id routes) ts h = absurd h
-same_open conn stream actor goal (reply.HistoryFull entries live) ts h = refl
-same_open conn stream actor goal (reply.Assigned list at) ts h = refl
-same_open conn stream actor goal (reply.Accepted accepts at) ts h = refl
-same_open conn stream actor goal reply.Closed ts h = refl
-
-same_after : (w : Want) (said : Reply) (ts : List machine.Tunnel) → OpensNone said → tunnels_after w (Replied said) ts ≡ ts
-same_after Nothing said ts h = refl
-same_after Say said ts h = refl
-same_after (Bind stream goal) said ts h = refl
-same_after (Ask (call.Open conn stream actor goal)) said ts h = same_open conn stream actor goal said ts h
-same_after (Ask (call.Assign tunnel asked)) said ts h = refl
-same_after (Ask (call.Advertise tunnel ranges)) said ts h = refl
-same_after (Ask (call.Close tunnel)) said ts h = refl
-same_after (Judge tunnel n flow) said ts h = refl
-same_after (Push parcel) said ts h = refl
-same_after (Send tunnel n payload) said ts h = refl
-same_after (Over reason) said ts h = refl
-
--- refused memory for one of them, it keeps its tunnels
-pub hears_none : (c d : Conn) (said : Reply) → OpensNone said → said ≢ reply.Closed → Keeps c d → HearsNone c (given_up d end.NoMemory) said
-hears_none c d said opens open_not keeps s stands some =
-    let Q : Conn → Type 0 = λ x. IsConn x (heard s said) in
-    let P : List machine.Tunnel → Type 0 = λ ts. IsConn (given_up c end.NoMemory) (record (starved s) { tunnels = ts }) in
-    (open_not, subst Q (sym (ap (λ x. given_up x end.NoMemory) keeps)) (subst P (sym (same_after (want_of s) said s.tunnels opens)) (gives_up c end.NoMemory s stands)))
-
-pub full_hears : (c d e : Conn) (goal : Goal) (waiting : List machine.Waiting) (entries live : ℕ) (result : Result Note NoMemory) → d ≡ record c { first = None } → c.first ≡ Some (first.Open goal waiting)
-    → OnOk result (e ≡ refused_conn d 503) → IfOk result (λ n. n ≡ note.Refused d.number 0 503 0) → OnErr result (e ≡ d) → Hears c e (reply.HistoryFull entries live) result
-full_hears c d e goal waiting entries live (Ok n) is opens ok told err =
-    let P : Conn → Type 0 = λ x. Does c x (Replied (reply.HistoryFull entries live)) (note.Refused c.number 0 503 0) in
-    let Q : Note → Type 0 = λ m. Does c e (Replied (reply.HistoryFull entries live)) m in
-    subst Q (sym (told ∙ ap (λ (x : Conn). note.Refused x.number 0 503 0) is))
-    (subst P (sym (ok ∙ ap (λ (x : Conn). refused_conn x 503) is)) (history_full c goal waiting entries live opens))
-full_hears c d e goal waiting entries live (Err fault) is opens ok told err =
-    hears_none c e (reply.HistoryFull entries live) tt (λ h. cc) (let P : Conn → Type 0 = λ x. Keeps c x in subst P (sym (err ∙ is)) refl)
+-- the first of a list
+pub first_is : {A : Type 0} (xs : List A) (x : A) → slice_get xs 0 ≡ Some x → xs ≡ x ∷ drop 1 xs
+first_is [] x h = absurd cc
+first_is (y ∷ ys) x h = ap (λ o. unwrap_or o y ∷ ys) h

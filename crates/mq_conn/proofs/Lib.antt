@@ -1,12 +1,11 @@
-mod QueueLists
-pub mod Fronts
+pub mod Serving
+pub mod Places
+pub mod QueueLists
+pub mod Wanting
+pub mod Framing
+pub mod Feeding
+pub mod Parcels
 mod Standing
-mod Acting
+mod Answering
 mod Hearing
-mod Closed
-mod Feeds
-mod Heads
-mod Took
-mod Came
-mod Framing
-mod Sending
+mod Passing

@@ -1,13 +1,14 @@
 -- Packets that wait, and the sizes of their capsules.
-use Rattle.std.proofs.Common.{◌≡◌, ℕ, suc, ◌+◌, ◌≤◌, List, [], ◌∷◌, ◌++◌, length, refl, ap, ◌∙◌, arith}
+use Rattle.std.proofs.Common.{◌≡◌, ℕ, suc, ◌+◌, ◌≤◌, Bool, true, false, List, [], ◌∷◌, ◌++◌, length, nat_lt, refl, sym, ap, ◌∙◌, arith}
 use Rattle.std.specs.Prelude.{filter, map}
 use Rattle.std.proofs.lemmas.List.{length-append}
 use Rattle.std.proofs.lemmas.List.Sums.{sum_by-cons, sum_by_push}
 use Rattle.mq_capsule.specs.Writing.{capsule_text, datagram}
+use Rattle.mq_machine.specs.Done.{is_begun}
 use Rattle.mq_machine.specs.State.{is_packet, Waiting}
 use Rattle.mq_wire.specs.Integer.{spelling_of}
 use Rattle.mq_conn.specs.declared.queue.Packet.{Packet}
-use Rattle.mq_conn.specs.Queues.{waiting_of, size_of}
+use Rattle.mq_conn.specs.Queues.{behind, waiting_of, with_framed, size_of}
 
 -- all that waits are packets
 pub all_packets : (ps : List Packet) → filter is_packet (map waiting_of ps) ≡ map waiting_of ps
@@ -47,3 +48,50 @@ mapped_last p (q ∷ ps) = ap (λ (ws : List Waiting). waiting_of q ∷ ws) (map
 
 pub capsule_above : (payload : List ℕ) → length payload ≤ length (capsule_text (datagram payload))
 capsule_above payload = omega (arith, capsule_length payload)
+
+-- ---- the first, of which a part was framed
+
+pub framed_count : (framed : ℕ) (ps : List Packet) → length (filter is_packet (with_framed framed (map waiting_of ps))) ≡ length ps
+framed_count framed [] = refl
+framed_count framed (p ∷ ps) = ap suc (packet_count ps)
+
+pub framed_size : (framed : ℕ) (ws : List Waiting) → size_of (with_framed framed ws) ≡ size_of ws
+framed_size framed [] = refl
+framed_size framed (w ∷ ws) = size_first (record w { framed = framed }) ws ∙ sym (size_first w ws)
+
+pub begun_is : (framed : ℕ) (ps : List Packet) → (ps ≡ [] → framed ≡ 0) → nat_lt 0 framed ≡ is_begun (with_framed framed (map waiting_of ps))
+begun_is framed [] none = ap (λ (n : ℕ). nat_lt 0 n) (none refl)
+begun_is framed (p ∷ ps) none = refl
+
+pub framed_is : (framed : ℕ) (ps : List Packet) (w : Waiting) (rest : List Waiting) → with_framed framed (map waiting_of ps) ≡ w ∷ rest → framed ≡ w.framed
+framed_is framed [] w rest h = absurd cc
+framed_is framed (p ∷ ps) w rest h = let same : behind framed p ≡ w = (let e = h in cc) in ap (λ (v : Waiting). v.framed) same
+
+pub unframed : (ps : List Packet) → with_framed 0 (map waiting_of ps) ≡ map waiting_of ps
+unframed [] = refl
+unframed (p ∷ ps) = refl
+
+pub framed_last : (framed : ℕ) (ps : List Packet) (p : Packet) → (ps ≡ [] → framed ≡ 0) → with_framed framed (map waiting_of (ps ++ p ∷ [])) ≡ with_framed framed (map waiting_of ps) ++ waiting_of p ∷ []
+framed_last framed [] p none = ap (λ (n : ℕ). behind n p ∷ []) (none refl)
+framed_last framed (q ∷ ps) p none = ap (λ (ws : List Waiting). behind framed q ∷ ws) (mapped_last p ps)
+
+-- one more part of it
+pub framed_more : (framed count : ℕ) (ps : List Packet) (w : Waiting) (rest : List Waiting) → with_framed framed (map waiting_of ps) ≡ w ∷ rest
+    → with_framed (framed + count) (map waiting_of ps) ≡ record w { framed = w.framed + count } ∷ rest
+framed_more framed count [] w rest h = absurd cc
+framed_more framed count (p ∷ ps) w rest h =
+    let same : behind framed p ≡ w = (let e = h in cc) in
+    let others : map waiting_of ps ≡ rest = (let e = h in cc) in
+    ap (λ (v : Waiting). record v { framed = v.framed + count } ∷ map waiting_of ps) same ∙ ap (λ (ws : List Waiting). record w { framed = w.framed + count } ∷ ws) others
+
+-- what waits first is no longer than all
+pub first_within : (framed : ℕ) (ps : List Packet) (w : Waiting) (rest : List Waiting) → with_framed framed (map waiting_of ps) ≡ w ∷ rest → length w.capsule ≤ size_of (map waiting_of ps)
+first_within framed ps w rest h =
+    let e = ap size_of (sym h) in
+    let a = size_first w rest in
+    let b = framed_size framed (map waiting_of ps) in
+    omega (arith, e, a, b)
+
+pub not_empty : (ps : List Packet) (p : Packet) → ps ++ p ∷ [] ≡ [] → ⊥
+not_empty [] p h = cc
+not_empty (q ∷ ps) p h = cc

@@ -1,59 +1,56 @@
 -- What the core of a connection stands for.
-use Rattle.std.specs.Prelude.{◌≡◌, ◌≢◌, ℕ, ◌≤◌, ◌⊎◌, nat_lt, Bool, true, false, List, [], ◌∷◌, length, drop, Option, Some, None, Result, Ok, Err}
+use Rattle.std.specs.Prelude.{◌≡◌, ◌≢◌, ℕ, ◌==◌, ◌≤◌, ◌<◌, ◌⊎◌, nat_lt, Bool, true, false, List, [], ◌∷◌, length, drop, find, map, vec_len, vec_capacity, Option, Some, None, Result, Ok, Err}
 use Rattle.std.specs.Option.{is_some}
-use Rattle.mq_head.specs.Reader.{IsHeadOf}
-use Rattle.mq_talk.specs.declared.goal.Goal.{Goal}
-use Rattle.mq_talk.specs.declared.note.End.{End}
-use Rattle.mq_talk.specs.declared.note.Note.{Note}
-use Rattle.mq_talk.specs.declared.note.Why.TheVariants as why
-use Rattle.mq_wire.specs.declared.NoMemory.{NoMemory}
+use Rattle.mq_front.specs.declared.front.Front.{Front}
+use Rattle.mq_front.specs.Fronts.{IsFront}
 use Rattle.mq_machine.specs.declared.act.Act.{Act}
 use Rattle.mq_machine.specs.declared.act.Act.TheVariants as act
-use Rattle.mq_machine.specs.declared.act.StreamAct.{StreamAct}
 use Rattle.mq_machine.specs.declared.act.StreamAct.TheVariants as stream
 use Rattle.mq_machine.specs.declared.act.Due.{Due}
 use Rattle.mq_machine.specs.declared.act.Due.TheVariants as due
-use Rattle.mq_front.specs.declared.data.DataStream.{DataStream}
-use Rattle.mq_front.specs.Data.{IsStream}
-pub use Rattle.mq_front.specs.Data.{IsUdp}
+use Rattle.mq_machine.specs.Cores.{Answered, MayAnswer}
+use Rattle.mq_machine.specs.Done.{done, stream_done}
+use Rattle.mq_machine.specs.Lawful.{IsFresh, IsLawful, IsLoose, NoOpens}
+use Rattle.mq_machine.specs.Settle.{is_given_up}
+use Rattle.mq_machine.specs.Silent.{tunnels_after}
+use Rattle.mq_machine.specs.State as machine
+use Rattle.mq_machine.specs.State.{Stream, Head, OverHttp1, OverHttp2}
 use Rattle.mq_machine.specs.Steps.{starved}
+use Rattle.mq_machine.specs.Want.{Answer, Push, Put, Replied, Send, want_of}
 use Rattle.mq_outside.specs.declared.PortPut.{PortPut}
 use Rattle.mq_outside.specs.declared.PortPut.TheVariants as put
 use Rattle.mq_talk.specs.declared.book.Reply.{Reply}
 use Rattle.mq_talk.specs.declared.book.Reply.TheVariants as reply
+use Rattle.mq_talk.specs.declared.note.End.{End}
 use Rattle.mq_talk.specs.declared.note.End.TheVariants as end
-use Rattle.mq_machine.specs.Done.{done, stream_done}
-use Rattle.mq_machine.specs.Silent.{tunnels_after}
+use Rattle.mq_talk.specs.declared.note.Note.{Note}
 use Rattle.mq_talk.specs.declared.place.Parcel.{Parcel}
-use Rattle.mq_machine.specs.Want.{Answer, Push, Put, Replied, Send, want_of}
-use Rattle.mq_machine.specs.Cores.{Answered, MayAnswer}
-use Rattle.mq_machine.specs.State as machine
-use Rattle.mq_machine.specs.State.{Stream, Head as InHead, OverHttp1, OverHttp2}
+use Rattle.mq_wire.specs.declared.NoMemory.{NoMemory}
 use Rattle.mq_conn.specs.declared.conn.Conn.{Conn}
 use Rattle.mq_conn.specs.declared.conn.First.{First}
 use Rattle.mq_conn.specs.declared.conn.First.TheVariants as first
 use Rattle.mq_conn.specs.declared.conn.Tunnel.{Tunnel}
-use Rattle.mq_conn.specs.declared.front.Front.{Front}
-use Rattle.mq_conn.specs.declared.front.Front.TheVariants.{Head, Data, Shut}
 
 -- ---- what the fields stand for
 
 -- the act that stands in front
 abbrev pub act_of : First → Act
-act_of (first.Open goal waiting) = act.Open 0 goal
-act_of (first.Close reason) = act.OfStream 0 (stream.Close reason)
+act_of (first.Open id goal waiting) = act.Open id goal
+act_of (first.Close id reason) = act.OfStream id (stream.Close reason)
 
 abbrev pub behind : Option First → List Due → List Due
 behind None dues = dues
 behind (Some f) dues = due.Do (act_of f) ∷ dues
 
--- the live tunnel
-abbrev pub tunnels_of : Option Tunnel → List machine.Tunnel
-tunnels_of None = []
-tunnels_of (Some t) = record { id = t.id; stream = 0; goal = t.goal; waiting = t.waiting } ∷ []
-
 abbrev pub tunnel_is : Tunnel → machine.Tunnel
-tunnel_is t = record { id = t.id; stream = 0; goal = t.goal; waiting = t.waiting }
+tunnel_is t = record { id = t.id; stream = t.stream; goal = t.goal; waiting = t.waiting }
+
+abbrev pub tunnels_of : List Tunnel → List machine.Tunnel
+tunnels_of ts = map tunnel_is ts
+
+-- the live tunnel of a stream
+abbrev pub find_on : Conn → ℕ → Option machine.Tunnel
+find_on c id = find (λ (t : machine.Tunnel). t.stream == id) (tunnels_of c.tunnels.items)
 
 -- what the core doesn't keep: all bytes put for writing and how many were given, and the bytes that were read
 pub record Past : Type 0 where
@@ -73,102 +70,66 @@ state c past = record {
   given = past.given;
   is_finished = c.finished;
   ending = c.ending;
-  tunnels = tunnels_of c.tunnel;
+  tunnels = tunnels_of c.tunnels.items;
   next_tunnel = c.next_tunnel;
 }
 
 -- ---- what is true of them
 
-abbrev pub IsUdpTunnel : Option Tunnel → Type 0
-IsUdpTunnel None = Unit {0}
-IsUdpTunnel (Some t) = IsUdp t.goal
+-- nothing that was put stands in the front
+abbrev pub PutsNothing : machine.Front → Type 0
+PutsNothing (Head bytes) = Unit {0}
+PutsNothing OverHttp1 = Unit {0}
+PutsNothing (OverHttp2 h) = h.out ≡ []
 
--- the one data stream
-pub record InStream (streams : List Stream) (d : DataStream) : Type 0 where
-  pub goal : Goal
-  pub bytes : List ℕ
-  pub only : streams ≡ record { id = 0; goal = goal; bytes = bytes } ∷ []
-  pub stands : IsStream d (record { id = 0; goal = goal; bytes = bytes })
+-- how far the bytes were read, and what is owed; of a connection that was given up, nothing
+abbrev pub IsRead : Option Front → Option End → machine.Front → List Stream → List ℕ → Type 0
+IsRead None ending f streams owed = (is_given_up ending ≡ true) × PutsNothing f × (streams ≡ []) × (owed ≡ [])
+IsRead (Some front) ending f streams owed = (is_given_up ending ≡ false) × IsFront front f streams owed
 
--- how far the bytes were read; they are those of HTTP/1.1
-abbrev pub IsRead : Front → Option End → machine.Front → List Stream → Type 0
-IsRead (Head reader) ending (InHead bytes) streams = IsHeadOf reader bytes × (streams ≡ [])
-IsRead (Head reader) ending OverHttp1 streams = ⊥
-IsRead (Head reader) ending (OverHttp2 h) streams = ⊥
-IsRead (Data d) ending (InHead bytes) streams = ⊥
-IsRead (Data d) ending OverHttp1 streams = InStream streams d
-IsRead (Data d) ending (OverHttp2 h) streams = ⊥
-IsRead Shut None (InHead bytes) streams = ⊥
-IsRead Shut (Some why) (InHead bytes) streams = streams ≡ []
-IsRead Shut ending OverHttp1 streams = streams ≡ []
-IsRead Shut ending (OverHttp2 h) streams = ⊥
+-- there is room for the tunnel that is to open, in which nothing waits
+abbrev pub HasRoom : Option First → ℕ → ℕ → Type 0
+HasRoom None len capacity = Unit {0}
+HasRoom (Some (first.Open id goal waiting)) len capacity = (waiting ≡ []) × (len < capacity)
+HasRoom (Some (first.Close id reason)) len capacity = Unit {0}
 
--- what may be asked of a tunnel for UDP by its data stream
-abbrev pub IsAsked : StreamAct → Type 0
-IsAsked (stream.Payload n payload) = Unit {0}
-IsAsked (stream.Packet n packet flow) = ⊥
-IsAsked (stream.Push n to packet) = ⊥
-IsAsked (stream.Drop n cause) = Unit {0}
-IsAsked (stream.Assign asked) = ⊥
-IsAsked (stream.Advertise ranges) = ⊥
-IsAsked (stream.Close reason) = reason ≢ why.Conn
-
--- Acts come in this order: a request that is refused, alone; or one whose port is to be bound, and behind it, while its tunnel is
--- live, what is asked of that.
-abbrev pub Follows : Bool → List Due → Type 0
-Follows live [] = live ≡ true
-Follows live (due.Do (act.Bind id goal) ∷ rest) = (live ≡ false) × (id ≡ 0) × IsUdp goal × Follows true rest
-Follows live (due.Do (act.Open id goal) ∷ rest) = ⊥
-Follows live (due.Do (act.Refuse id status rule) ∷ rest) = (live ≡ false) × (id ≡ 0) × (rest ≡ [])
-Follows live (due.Do (act.Reset id code) ∷ rest) = ⊥
-Follows live (due.Do (act.OfStream id act) ∷ rest) = (live ≡ true) × (id ≡ 0) × IsAsked act × Follows true rest
-Follows live (due.Spend id size ∷ rest) = ⊥
-Follows live (due.Fault code ∷ rest) = ⊥
-
--- with the act that stands in front
-abbrev pub FollowsFirst : Bool → Option First → List Due → Type 0
-FollowsFirst live None dues = Follows live dues
-FollowsFirst live (Some (first.Open goal waiting)) dues = (live ≡ false) × IsUdp goal × (waiting ≡ []) × Follows true dues
-FollowsFirst live (Some (first.Close reason)) dues = (live ≡ true) × (reason ≢ why.Conn) × Follows true dues
-
--- before its head was read, and once it is ending, nothing is due
-abbrev pub IsDue : Option End → machine.Front → Bool → Option First → List Due → Type 0
-IsDue (Some why) front live first dues = (first ≡ None) × (dues ≡ [])
-IsDue None (InHead bytes) live first dues = (live ≡ false) × (first ≡ None) × (dues ≡ [])
-IsDue None OverHttp1 live first dues = FollowsFirst live first dues
-IsDue None (OverHttp2 h) live first dues = ⊥
-
--- whether a byte of the head was read
-abbrev pub IsBegun : Bool → machine.Front → Type 0
-IsBegun begun (InHead []) = begun ≡ false
-IsBegun begun (InHead (b ∷ bytes)) = begun ≡ true
-IsBegun begun OverHttp1 = Unit {0}
-IsBegun begun (OverHttp2 h) = Unit {0}
-
--- The core stands for this state: a connection of HTTP/1.1, whose tunnel is for UDP.
-pub record IsConn (c : Conn) (s : machine.Conn) : Type 0 where
+-- The core stands for this state, whatever is true of that.
+pub record Stands (c : Conn) (s : machine.Conn) : Type 0 where
   pub past : Past
   pub is : s ≡ state c past
-  pub read : IsRead c.front c.ending past.front past.streams
-  pub owed : c.owed ≡ drop past.given past.out
+  pub read : IsRead c.front c.ending past.front past.streams (drop past.given past.out)
   pub given : past.given ≤ length past.out
-  pub due : IsDue c.ending past.front (is_some c.tunnel) c.first c.due
-  pub udp : IsUdpTunnel c.tunnel
-  pub begun : IsBegun c.begun past.front
+  pub room : HasRoom c.first (vec_len c.tunnels) (vec_capacity c.tunnels)
+  pub opens : NoOpens c.due
+
+-- The core stands for this state of a connection whose tunnels are for UDP.
+pub record IsConn (c : Conn) (s : machine.Conn) : Type 0 where
+  pub stands : Stands c s
+  pub lawful : IsLawful s
+
+-- before the end of an act
+pub record IsActing (c : Conn) (s : machine.Conn) : Type 0 where
+  pub stands : Stands c s
+  pub loose : IsLoose s
 
 -- ---- what calls promise
 
--- nothing is due or read any more, and it is ending
-abbrev pub given_up : Conn → End → Conn
-given_up c why = record c { front = Shut; first = None; due = []; ending = Some why }
+-- nothing is due, read or owed any more, and it is ending
+abbrev pub GivesUp : Conn → End → Conn → Type 0
+GivesUp old why new = new ≡ record old { front = None; first = None; due = []; ending = Some why }
 
 -- refused memory, it stands for the connection that is ending with that
 abbrev pub Starves : Conn → Conn → Type 0
 Starves old new = (s : machine.Conn) → IsConn old s → IsConn new (starved s)
 
--- What a call leaves that was refused memory: all but what is read and due.
+-- What a call leaves that was refused memory: all but what is read, owed and due.
 abbrev pub Keeps : Conn → Conn → Type 0
 Keeps old new = new ≡ record old { front = new.front; first = new.first; due = new.due; ending = new.ending }
+
+-- that, and its tunnels, for which there may be more room
+pub record Leaves (old new : Conn) : Type 0 where
+  pub is : new ≡ record old { front = new.front; first = new.first; due = new.due; ending = new.ending; tunnels = new.tunnels }
+  pub items : new.tunnels.items ≡ old.tunnels.items
 
 abbrev pub Does : Conn → Conn → Answer → Note → Type 0
 Does old new answer note = Answered (IsConn old) (IsConn new) answer note
@@ -176,7 +137,7 @@ Does old new answer note = Answered (IsConn old) (IsConn new) answer note
 -- an answer that is tried
 abbrev pub Tries : Conn → Conn → Answer → Result Note NoMemory → Type 0
 Tries old new answer (Ok note) = Does old new answer note
-Tries old new answer (Err fault) = Keeps old new
+Tries old new answer (Err fault) = Leaves old new
 
 -- one that may be refused memory
 abbrev pub MayDo : Conn → Conn → Answer → Result Note NoMemory → Type 0
@@ -212,12 +173,17 @@ heard s said = record (starved s) { tunnels = tunnels_after (want_of s) (Replied
 abbrev pub HearsNone : Conn → Conn → Reply → Type 0
 HearsNone old new said = (s : machine.Conn) → IsConn old s → is_some (done s (Replied said)) ≡ true → (said ≢ reply.Closed) × IsConn new (heard s said)
 
--- The reply is heard. That its tunnel was closed takes no memory.
+-- The reply is heard, in which the number of a tunnel that opens is new.
+abbrev pub HearsOne : Conn → Conn → Reply → Note → Type 0
+HearsOne old new said note = (s : machine.Conn) → IsConn old s → IsFresh s.tunnels (Replied said) → is_some (done s (Replied said)) ≡ true
+    → (t : machine.Conn) × IsConn new t × (done s (Replied said) ≡ Some (note, t))
+
+-- That its tunnel was closed takes no memory.
 abbrev pub MayHear : Conn → Conn → Reply → Result Note NoMemory → Type 0
-MayHear old new said (Ok note) = Does old new (Replied said) note
+MayHear old new said (Ok note) = HearsOne old new said note
 MayHear old new said (Err fault) = HearsNone old new said
 
 -- that, before what is due is given up
 abbrev pub Hears : Conn → Conn → Reply → Result Note NoMemory → Type 0
-Hears old new said (Ok note) = Does old new (Replied said) note
-Hears old new said (Err fault) = HearsNone old (given_up new end.NoMemory) said
+Hears old new said (Ok note) = HearsOne old new said note
+Hears old new said (Err fault) = (after : Conn) → GivesUp new end.NoMemory after → HearsNone old after said

@@ -1,35 +1,18 @@
 -- What calls promise on capsules that wait.
-use Rattle.std.specs.Prelude.{◌≡◌, ℕ, ◌+◌, Bool, true, false, List, ◌∷◌, ◌++◌, Option, Some, None, if◌then◌else◌}
-use Rattle.mq_capsule.specs.Writing.{capsule_text, datagram}
+use Rattle.std.specs.Prelude.{◌≡◌, ◌≢◌, ℕ, ◌+◌, ◌<◌, ◌≤◌, Bool, true, false, List, ◌∷◌, [], length, take, drop, filter, find, nat_le, nat_lt, slice_get, slice_set, Option, Some, None, Result, Ok, Err}
 use Rattle.mq_talk.specs.declared.note.From.{From}
 use Rattle.mq_talk.specs.declared.note.Note.{Note}
 use Rattle.mq_talk.specs.declared.note.Note.TheVariants as note
 use Rattle.mq_talk.specs.declared.place.Cause.TheVariants as cause
-use Rattle.mq_front.specs.Data.{EndsAs as DataEndsAs}
-use Rattle.mq_talk.specs.declared.note.Why.{Why}
-use Rattle.mq_talk.specs.declared.note.Why.TheVariants as why
-use Rattle.mq_conn.specs.declared.front.Front.{Front}
-use Rattle.mq_conn.specs.declared.front.Front.TheVariants.{Head, Data, Shut}
+use Rattle.mq_wire.specs.declared.NoMemory.{NoMemory}
+use Rattle.mq_machine.specs.Putting.{putting}
 use Rattle.mq_machine.specs.State as machine
-use Rattle.mq_machine.specs.State.{tunnel_of}
-use Rattle.mq_machine.specs.Steps.{queued, settled_note, can_go_on}
-use Rattle.mq_machine.specs.Want.{Want, Nothing, Say, Bind, Ask, Judge, Push, Send, Over}
+use Rattle.mq_machine.specs.Reading.{EndsThere}
+use Rattle.mq_machine.specs.State.{Waiting, owed, tunnel_of}
+use Rattle.mq_machine.specs.Steps.{can_frame, can_read, finish_by, frame_size, framing, queued, settled_note, whole_note}
 use Rattle.mq_conn.specs.declared.conn.Conn.{Conn}
 use Rattle.mq_conn.specs.declared.conn.Tunnel.{Tunnel}
-use Rattle.mq_conn.specs.declared.queue.Packet.{Packet}
-use Rattle.mq_conn.specs.Conns.{IsConn}
-use Rattle.mq_conn.specs.Queues.{waiting_of}
-
--- it waits for its client, or may wait for its port
-abbrev pub waits : Want → Bool
-waits Nothing = true
-waits Say = false
-waits (Bind stream goal) = false
-waits (Ask call) = false
-waits (Judge tunnel n flow) = false
-waits (Push parcel) = false
-waits (Send tunnel n payload) = true
-waits (Over why) = false
+use Rattle.mq_conn.specs.Conns.{IsConn, Keeps, Stands, tunnel_is, tunnels_of}
 
 -- what comes to a tunnel: it is gone, or the packet waits there or is dropped
 abbrev pub Comes : Conn → machine.Conn → Option machine.Tunnel → From → ℕ → List ℕ → Note → Type 0
@@ -39,35 +22,68 @@ Comes new s (Some t) from n packet said = (said ≡ (settled_note (queued s t fr
 abbrev pub Delivers : Conn → Conn → From → ℕ → ℕ → List ℕ → Note → Type 0
 Delivers old new from n tunnel packet said = (s : machine.Conn) → IsConn old s → Comes new s (tunnel_of s tunnel) from n packet said
 
--- the capsule of the packet that waits first was put
-pub record PutsFirst (old new : Conn) : Type 0 where
+-- ---- only the crate's own functions cite these words
+
+-- the place is that of the first tunnel of this number
+pub record IsPlaceOf (tunnels : List Tunnel) (id place : ℕ) (t : Tunnel) : Type 0 where
+  pub at : slice_get tunnels place ≡ Some t
+  pub id_is : t.id ≡ id
+  pub first : (other : ℕ) (before : Tunnel) → other < place → slice_get tunnels other ≡ Some before → before.id ≢ id
+
+abbrev pub HasNone : List Tunnel → ℕ → Type 0
+HasNone tunnels id = (place : ℕ) (t : Tunnel) → slice_get tunnels place ≡ Some t → t.id ≢ id
+
+-- of the tunnels from the next number on, or of those before it
+abbrev pub on_side : Bool → ℕ → List machine.Tunnel → List machine.Tunnel
+on_side true from ts = filter (λ (t : machine.Tunnel). nat_le from t.id) ts
+on_side false from ts = filter (λ (t : machine.Tunnel). nat_lt t.id from) ts
+
+-- the first that can be framed, where the connection isn't ending
+abbrev pub IsFirst : Conn → machine.Conn → Bool → Option ℕ → Type 0
+IsFirst c s late None = find (can_frame s) (on_side late c.next_tunnel (tunnels_of c.tunnels.items)) ≡ None
+IsFirst c s late (Some place) =
+    (t : Tunnel) × (slice_get c.tunnels.items place ≡ Some t) × (find (can_frame s) (on_side late c.next_tunnel (tunnels_of c.tunnels.items)) ≡ Some (tunnel_is t))
+
+abbrev pub IsNext : Conn → Bool → Option ℕ → Type 0
+IsNext c late result = (s : machine.Conn) → IsConn c s → s.ending ≡ None → IsFirst c s late result
+
+-- so many bytes of what waits first in the tunnel at this place were put
+pub record PutFirst (old new : Conn) (place count : ℕ) : Type 0 where
   pub t : Tunnel
-  pub p : Packet
-  pub rest : List machine.Waiting
-  pub live : old.tunnel ≡ Some t
-  pub first : t.waiting ≡ waiting_of p ∷ rest
-  pub new_is : new ≡ record old { owed = old.owed ++ capsule_text (datagram p.packet) }
+  pub w : Waiting
+  pub rest : List Waiting
+  pub at : slice_get old.tunnels.items place ≡ Some t
+  pub waits : t.waiting ≡ w ∷ rest
+  pub keeps : new ≡ record old { front = new.front }
+  pub put : (s : machine.Conn) → Stands old s → (count ≡ frame_size s.front t.stream (length (drop w.framed w.capsule)))
+      × Stands new (putting s (framing s.front t.stream (take count (drop w.framed w.capsule))))
 
--- the packet that waited first was taken
-pub record PopsFirst (old new : Conn) (t : Tunnel) (id : ℕ) (p : Packet) : Type 0 where
-  pub rest : List machine.Waiting
-  pub id_is : id ≡ t.id
-  pub first : t.waiting ≡ waiting_of p ∷ rest
-  pub new_is : new ≡ record old { tunnel = Some (record t { waiting = rest }); next_tunnel = t.id + 1 }
+abbrev pub PutsFirst : Conn → Conn → ℕ → Result ℕ NoMemory → Type 0
+PutsFirst old new place (Ok count) = PutFirst old new place count
+PutsFirst old new place (Err fault) = Keeps old new
 
--- the packet that waited first was framed
-pub record Framed (old new : Conn) (said : Note) : Type 0 where
-  pub t : Tunnel
-  pub p : Packet
-  pub rest : List machine.Waiting
-  pub goes_on : (s : machine.Conn) → IsConn old s → can_go_on s ≡ true
-  pub live : old.tunnel ≡ Some t
-  pub first : t.waiting ≡ waiting_of p ∷ rest
-  pub said_is : said ≡ note.Delivered p.from p.n t.id p.packet
-  pub new_is : new ≡ record old { tunnel = Some (record t { waiting = rest }); owed = old.owed ++ capsule_text (datagram p.packet); next_tunnel = t.id + 1 }
+-- They are framed: all that was left, or a part of that.
+abbrev pub took_note : Bool → Tunnel → Waiting → ℕ → Note
+took_note true t w count = whole_note (tunnel_is t) w w.what
+took_note false t w count = note.Part t.id count
 
--- why the link's end closes the tunnel, by how far the bytes were read
-abbrev pub EndsAs : Front → Option Why → Type 0
-EndsAs (Head reader) ends = ends ≡ None
-EndsAs (Data d) ends = (end : Why) × (ends ≡ Some end) × DataEndsAs d end
-EndsAs Shut ends = ends ≡ Some why.End
+abbrev pub took_waiting : Bool → Waiting → List Waiting → ℕ → List Waiting
+took_waiting true w rest count = rest
+took_waiting false w rest count = record w { framed = w.framed + count } ∷ rest
+
+pub record Takes (old new : Conn) (place count : ℕ) (t : Tunnel) (w : Waiting) (rest : List Waiting) (said : Note) : Type 0 where
+  pub said_is : said ≡ took_note (nat_le (length w.capsule) (w.framed + count)) t w count
+  pub items : new.tunnels.items ≡ slice_set old.tunnels.items place (record t { waiting = took_waiting (nat_le (length w.capsule) (w.framed + count)) w rest count })
+  pub keeps : new ≡ record old { tunnels = new.tunnels; next_tunnel = t.id + 1 }
+
+abbrev pub TookFirst : Conn → Conn → ℕ → ℕ → Option Note → Type 0
+TookFirst old new place count None = (t : Tunnel) (w : Waiting) (rest : List Waiting) → slice_get old.tunnels.items place ≡ Some t → t.waiting ≡ w ∷ rest → ⊥
+TookFirst old new place count (Some said) = (t : Tunnel) (w : Waiting) (rest : List Waiting) → slice_get old.tunnels.items place ≡ Some t → t.waiting ≡ w ∷ rest → Takes old new place count t w rest said
+
+-- so many bytes were given to the link, before the end of the act
+abbrev pub Gives : Conn → Conn → ℕ → Type 0
+Gives old new count = (s : machine.Conn) → IsConn old s → count ≤ length (owed s) → Stands new (record s { given = s.given + count })
+
+-- the link has ended, before the end of the act
+abbrev pub LinkEnds : Conn → Conn → Type 0
+LinkEnds old new = (s : machine.Conn) → IsConn old s → can_read s ≡ true → (inside : Bool) × EndsThere s inside × Stands new (finish_by (record s { is_finished = true }) s.front inside)

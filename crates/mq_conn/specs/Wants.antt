@@ -24,7 +24,7 @@ is_taken (pushed.Full back) = false
 abbrev pub IsWant : Want → machine.Want → Type 0
 IsWant want.Nothing m = m ≡ machine.Nothing
 IsWant want.Say m = m ≡ machine.Say
-IsWant (want.Bind addr port) m = m ≡ machine.Bind 0 (goal.Udp addr port)
+IsWant (want.Bind addr port) m = (stream : ℕ) × (m ≡ machine.Bind stream (goal.Udp addr port))
 IsWant (want.Ask call) m = m ≡ machine.Ask call
 IsWant (want.SendUdp tunnel n) m = (payload : List ℕ) × (m ≡ machine.Send tunnel n payload)
 IsWant (want.Ended why) m = m ≡ machine.Over why

@@ -1,32 +1,42 @@
 //! What a connection does as it is answered: the first act that is due.
-ghost use Rattle.std.specs.Prelude.{◌≡◌, ◌≢◌, ℕ, MatchOption, [], ◌∷◌, ◌++◌, List, None, Some, IfSome, IfOk, OnOk, OnErr, is_ok, true, false};
-ghost use Rattle.mq_conn.specs.declared.conn.Tunnel.{Tunnel};
+ghost use Rattle.std.specs.Prelude.{◌≡◌, ◌≢◌, ◌==◌, not, ℕ, MatchOption, [], ◌∷◌, ◌++◌, filter, List, None, Some, IfSome, IfOk, OnOk, OnErr, is_ok, true, false};
 ghost use Rattle.mq_machine.specs.declared.act.Act.TheVariants as asks;
 ghost use Rattle.mq_machine.specs.declared.act.StreamAct.TheVariants as asked;
 ghost use Rattle.mq_machine.specs.declared.act.Due.TheVariants.{Do};
+ghost use Rattle.mq_machine.specs.Done.{before, refused, without};
+ghost use Rattle.mq_machine.specs.State as machine;
 ghost use Rattle.mq_machine.specs.Want.{Said, Bound, Put};
-ghost use Rattle.mq_head.specs.Answers.{refusal_text};
-ghost use Rattle.mq_conn.specs.Conns.{Does, IsPayload, MayDo, PutsNote, Refuses, Tries, given_up};
+ghost use Rattle.mq_conn.specs.Conns.{Does, IsPayload, MayDo, PutsNote, Refuses, Stands, Tries, find_on};
+ghost use Rattle.mq_conn.specs.Acts.{DoesAct, MayStep, saying_act};
 
 use crate::conn::{Conn, First};
 use crate::queue::Queue;
 use mq_machine::{Act, Due, StreamAct};
 use mq_outside::PortPut;
-use mq_talk::{Cause, End, From, Goal, Note};
+use mq_talk::{Cause, From, Goal, Note};
 use mq_wire::{Bytes, NoMemory};
 
-/// The goal of a request whose port is to be bound.
-fn bind_of_act(act: &Act) -> Option<Goal>
-    ensures { IfSome result (λ goal. (id : ℕ) × (act.now ≡ asks.Bind id goal)) }
+/// A request whose port is to be bound.
+#[derive(Clone, Copy)]
+struct Binding {
+    stream: u32,
+    goal: Goal,
+}
+
+fn bind_of_act(act: &Act) -> Option<Binding>
+    ensures { IfSome result (λ b. act.now ≡ asks.Bind b.stream b.goal) }
 {
     match act {
-        Act::Bind { goal, .. } => Some(*goal),
+        Act::Bind { stream, goal } => Some(Binding {
+            stream: *stream,
+            goal: *goal,
+        }),
         _ => None,
     }
 }
 
-fn bind_of(due: &Due) -> Option<Goal>
-    ensures { IfSome result (λ goal. (id : ℕ) × (due.now ≡ Do (asks.Bind id goal))) }
+fn bind_of(due: &Due) -> Option<Binding>
+    ensures { IfSome result (λ b. due.now ≡ Do (asks.Bind b.stream b.goal)) }
 {
     match due {
         Due::Do(act) => bind_of_act(act),
@@ -34,46 +44,23 @@ fn bind_of(due: &Due) -> Option<Goal>
     }
 }
 
-/// A refusal that is due.
+/// What is due and needs nothing of the outside.
 #[derive(Clone, Copy)]
-struct Refusal {
-    status: u16,
-    rule: u32,
+enum Saying {
+    /// A request is refused.
+    Refuse { stream: u32, status: u16, rule: u32 },
+    /// A stream without a tunnel was reset.
+    Reset { stream: u32, code: u32 },
+    /// A payload is dropped.
+    Drop { stream: u32, n: u64, cause: Cause },
 }
 
-fn refusal_of_act(act: &Act) -> Option<Refusal>
-    ensures { IfSome result (λ r. (id : ℕ) × (act.now ≡ asks.Refuse id r.status r.rule)) }
+fn saying_of_stream(stream: u32, act: &StreamAct) -> Option<Saying>
+    ensures { IfSome result (λ s. asks.OfStream stream act.now ≡ saying_act s) }
 {
     match act {
-        Act::Refuse { status, rule, .. } => Some(Refusal {
-            status: *status,
-            rule: *rule,
-        }),
-        _ => None,
-    }
-}
-
-fn refusal_of(due: &Due) -> Option<Refusal>
-    ensures { IfSome result (λ r. (id : ℕ) × (due.now ≡ Do (asks.Refuse id r.status r.rule))) }
-{
-    match due {
-        Due::Do(act) => refusal_of_act(act),
-        _ => None,
-    }
-}
-
-/// A payload that is to be dropped.
-#[derive(Clone, Copy)]
-struct Dropping {
-    n: u64,
-    cause: Cause,
-}
-
-fn drop_of_stream(act: &StreamAct) -> Option<Dropping>
-    ensures { IfSome result (λ d. act.now ≡ asked.Drop d.n d.cause) }
-{
-    match act {
-        StreamAct::Drop { n, cause } => Some(Dropping {
+        StreamAct::Drop { n, cause } => Some(Saying::Drop {
+            stream,
             n: *n,
             cause: *cause,
         }),
@@ -81,20 +68,33 @@ fn drop_of_stream(act: &StreamAct) -> Option<Dropping>
     }
 }
 
-fn drop_of_act(act: &Act) -> Option<Dropping>
-    ensures { IfSome result (λ d. (id : ℕ) × (act.now ≡ asks.OfStream id (asked.Drop d.n d.cause))) }
+fn saying_of_act(act: &Act) -> Option<Saying>
+    ensures { IfSome result (λ s. act.now ≡ saying_act s) }
 {
     match act {
-        Act::OfStream { act, .. } => drop_of_stream(act),
+        Act::Refuse {
+            stream,
+            status,
+            rule,
+        } => Some(Saying::Refuse {
+            stream: *stream,
+            status: *status,
+            rule: *rule,
+        }),
+        Act::Reset { stream, code } => Some(Saying::Reset {
+            stream: *stream,
+            code: *code,
+        }),
+        Act::OfStream { stream, act } => saying_of_stream(*stream, act),
         _ => None,
     }
 }
 
-fn drop_of(due: &Due) -> Option<Dropping>
-    ensures { IfSome result (λ d. (id : ℕ) × (due.now ≡ Do (asks.OfStream id (asked.Drop d.n d.cause)))) }
+fn saying_of(due: &Due) -> Option<Saying>
+    ensures { IfSome result (λ s. due.now ≡ Do (saying_act s)) }
 {
     match due {
-        Due::Do(act) => drop_of_act(act),
+        Due::Do(act) => saying_of_act(act),
         _ => None,
     }
 }
@@ -102,30 +102,31 @@ fn drop_of(due: &Due) -> Option<Dropping>
 /// A payload that is to go to the port.
 #[derive(Drop)]
 struct Sending {
+    stream: u32,
     n: u64,
     payload: Bytes,
 }
 
-fn payload_of_stream(act: StreamAct) -> Option<Sending>
-    ensures { MatchOption result ((n : ℕ) (payload : List ℕ) → act ≢ asked.Payload n payload) (λ p. act ≡ asked.Payload p.n p.payload) }
+fn payload_of_stream(stream: u32, act: StreamAct) -> Option<Sending>
+    ensures { MatchOption result ((n : ℕ) (payload : List ℕ) → act ≢ asked.Payload n payload) (λ p. (p.stream ≡ stream) × (act ≡ asked.Payload p.n p.payload)) }
 {
     match act {
-        StreamAct::Payload { n, payload } => Some(Sending { n, payload }),
+        StreamAct::Payload { n, payload } => Some(Sending { stream, n, payload }),
         _ => None,
     }
 }
 
 fn payload_of_act(act: Act) -> Option<Sending>
-    ensures { MatchOption result ((id n : ℕ) (payload : List ℕ) → act ≢ asks.OfStream id (asked.Payload n payload)) (λ p. (id : ℕ) × (act ≡ asks.OfStream id (asked.Payload p.n p.payload))) }
+    ensures { MatchOption result ((id n : ℕ) (payload : List ℕ) → act ≢ asks.OfStream id (asked.Payload n payload)) (λ p. act ≡ asks.OfStream p.stream (asked.Payload p.n p.payload)) }
 {
     match act {
-        Act::OfStream { act, .. } => payload_of_stream(act),
+        Act::OfStream { stream, act } => payload_of_stream(stream, act),
         _ => None,
     }
 }
 
 fn payload_of(due: Due) -> Option<Sending>
-    ensures { MatchOption result ((id n : ℕ) (payload : List ℕ) → due ≢ Do (asks.OfStream id (asked.Payload n payload))) (λ p. (id : ℕ) × (due ≡ Do (asks.OfStream id (asked.Payload p.n p.payload)))) }
+    ensures { MatchOption result ((id n : ℕ) (payload : List ℕ) → due ≢ Do (asks.OfStream id (asked.Payload n payload))) (λ p. due ≡ Do (asks.OfStream p.stream (asked.Payload p.n p.payload))) }
 {
     match due {
         Due::Do(act) => payload_of_act(act),
@@ -162,10 +163,9 @@ fn sent_by(due: &Due) -> Option<&Bytes>
 }
 
 /// The note of a payload that was given to the port of tunnel `id`, which takes at most `limit` bytes.
-fn put_note(id: u32, sending: Sending, outcome: PortPut, limit: u32) -> Note
-    ensures { PutsNote id sending.n sending.payload outcome limit result }
+fn put_note(id: u32, n: u64, payload: Bytes, outcome: PortPut, limit: u32) -> Note
+    ensures { PutsNote id n payload outcome limit result }
 {
-    let Sending { n, payload } = sending;
     let from = From::Tunnel(id);
     if payload.as_slice().len() > limit as usize {
         return Note::Dropped {
@@ -189,11 +189,11 @@ fn put_note(id: u32, sending: Sending, outcome: PortPut, limit: u32) -> Note
 }
 
 impl Conn {
-    /// The number of the live tunnel.
-    pub(crate) fn live(&self) -> Option<u32>
-        ensures { MatchOption result (self.now.tunnel ≡ None) (λ id. (t : Tunnel) × (self.now.tunnel ≡ Some t) × (t.id ≡ id)) }
+    /// The number of a stream's live tunnel.
+    pub(crate) fn live(&self, stream: u32) -> Option<u32>
+        ensures { MatchOption result (find_on self.now stream ≡ None) (λ id. (t : machine.Tunnel) × (find_on self.now stream ≡ Some t) × (t.id ≡ id)) }
     {
-        match &self.tunnel {
+        match self.on(stream) {
             None => None,
             Some(tunnel) => Some(tunnel.id),
         }
@@ -208,6 +208,16 @@ impl Conn {
             return None;
         }
         self.due.pop()
+    }
+
+    /// Nothing more is asked of a stream. Marks stay: its DATA is consumed in its turn.
+    pub(crate) fn forget(&mut self, stream: u32)
+        ensures { (s : machine.Conn) → self.old.first ≡ None → Stands self.old s → Stands self.new (without stream s) }
+    {
+        self.due.forget(stream);
+        if let Some(front) = &mut self.front {
+            front.forget(stream);
+        }
     }
 
     /// The note of an answer that was none.
@@ -236,41 +246,55 @@ impl Conn {
         let Some(due) = self.take() else {
             return Err(NoMemory);
         };
-        let Some(goal) = bind_of(&due) else {
+        let Some(binding) = bind_of(&due) else {
             return Err(NoMemory);
         };
-        if done {
-            self.ported(goal)
-        } else {
-            self.refuse(502, 0)
-        }
+        let note = self.bind(binding, done)?;
+        self.settle();
+        Ok(note)
     }
 
-    /// The port of its request is bound: the tunnel is to open, and has room for what will wait in it.
-    fn ported(&mut self, goal: Goal) -> Result<Note, NoMemory>
-        ensures ok { OnOk result (self.new ≡ record self.old { first = Some (First.Open goal []) }) }
-        ensures note { IfOk result (λ note. note ≡ Note.Ported self.old.number 0) }
-        ensures err { OnErr result (self.new ≡ self.old) }
+    /// A bind of the port of a request was tried.
+    fn bind(&mut self, binding: Binding, done: bool) -> Result<Note, NoMemory>
+        ensures { self.old.first ≡ None → DoesAct self.old self.new (asks.Bind binding.stream binding.goal) (Bound done) result }
+    {
+        if done {
+            return self.ported(binding.stream, binding.goal);
+        }
+        self.refuse(binding.stream, 502, 0)
+    }
+
+    /// The port of a request is bound: its tunnel is to open, and there is room for it and for what will wait in it.
+    fn ported(&mut self, stream: u32, goal: Goal) -> Result<Note, NoMemory>
+        ensures { self.old.first ≡ None → MayStep self.old self.new (λ s. (Note.Ported s.number stream, before (asks.Open stream goal) s)) result }
     {
         let waiting = Queue::new(self.alloc)?;
-        self.first = Some(First::Open { goal, waiting });
+        self.tunnels.reserve(1)?;
+        self.first = Some(First::Open {
+            stream,
+            goal,
+            waiting,
+        });
         Ok(Note::Ported {
             conn: self.number,
-            stream: 0,
+            stream,
         })
     }
 
-    /// Its request is refused: nothing more is read or due, and it is ending.
-    pub(crate) fn refuse(&mut self, status: u16, rule: u32) -> Result<Note, NoMemory>
-        ensures ok { OnOk result (self.new ≡ record (given_up self.old End.Refused) { owed = self.old.owed ++ refusal_text status }) }
-        ensures note { IfOk result (λ note. note ≡ Note.Refused self.old.number 0 status rule) }
-        ensures err { OnErr result (self.new ≡ self.old) }
+    /// A request is refused. Over HTTP/1.1 the connection ends with it.
+    pub(crate) fn refuse(&mut self, stream: u32, status: u16, rule: u32) -> Result<Note, NoMemory>
+        ensures { self.old.first ≡ None → MayStep self.old self.new (λ s. refused s stream status rule) result }
     {
-        self.owed.put_refusal(status)?;
-        self.give_up(End::Refused);
+        let Some(front) = &mut self.front else {
+            return Err(NoMemory);
+        };
+        let end = front.refusal_end();
+        front.refuse(self.alloc, stream, status)?;
+        self.ending = end;
+        self.forget(stream);
         Ok(Note::Refused {
             conn: self.number,
-            stream: 0,
+            stream,
             status,
             rule,
         })
@@ -297,20 +321,45 @@ impl Conn {
         let Some(due) = self.take() else {
             return Err(NoMemory);
         };
-        if let Some(refusal) = refusal_of(&due) {
-            return self.refuse(refusal.status, refusal.rule);
+        let Some(saying) = saying_of(&due) else {
+            return Err(NoMemory);
+        };
+        let note = self.say_so(saying)?;
+        self.settle();
+        Ok(note)
+    }
+
+    /// What is due and needs nothing of the outside is done.
+    fn say_so(&mut self, saying: Saying) -> Result<Note, NoMemory>
+        ensures { self.old.first ≡ None → DoesAct self.old self.new (saying_act saying) Said result }
+    {
+        match saying {
+            Saying::Refuse {
+                stream,
+                status,
+                rule,
+            } => self.refuse(stream, status, rule),
+            Saying::Reset { stream, code } => Ok(Note::Reset {
+                conn: self.number,
+                stream,
+                code,
+            }),
+            Saying::Drop { stream, n, cause } => self.dropped(stream, n, cause),
         }
-        let Some(dropping) = drop_of(&due) else {
-            return Err(NoMemory);
-        };
-        let Some(id) = self.live() else {
-            return Err(NoMemory);
-        };
-        Ok(Note::Dropped {
-            from: From::Tunnel(id),
-            n: dropping.n,
-            cause: dropping.cause,
-        })
+    }
+
+    /// A payload of a stream's live tunnel is dropped.
+    fn dropped(&self, stream: u32, n: u64, cause: Cause) -> Result<Note, NoMemory>
+        ensures { IfOk result (λ note. (t : machine.Tunnel) × (find_on self.now stream ≡ Some t) × (note ≡ Note.Dropped (From.Tunnel t.id) n cause)) }
+    {
+        match self.live(stream) {
+            None => Err(NoMemory),
+            Some(id) => Ok(Note::Dropped {
+                from: From::Tunnel(id),
+                n,
+                cause,
+            }),
+        }
     }
 
     /// The payload that is due first, where no act stands in front of it.
@@ -346,9 +395,12 @@ impl Conn {
         let Some(sending) = payload_of(due) else {
             return self.none();
         };
-        let Some(id) = self.live() else {
+        let Sending { stream, n, payload } = sending;
+        let Some(id) = self.live(stream) else {
             return self.none();
         };
-        put_note(id, sending, outcome, limit)
+        let note = put_note(id, n, payload, outcome, limit);
+        self.settle();
+        note
     }
 }

@@ -1,22 +1,19 @@
-//! What a connection does as the book answers it: its tunnel opens, or closes.
-ghost use Rattle.std.specs.Prelude.{◌≡◌, ◌≢◌, ◌++◌, ℕ, [], ◌∷◌, List, None, Some, length, filter, is_ok, MatchOption, IfOk, OnOk, OnErr};
-ghost use Rattle.mq_head.specs.Answers.{success_text};
+//! What a connection does as the book answers it: a tunnel opens, or closes.
+ghost use Rattle.std.specs.Prelude.{◌≡◌, ◌≢◌, ◌++◌, ℕ, [], ◌∷◌, List, None, Some, is_ok, IfOk, IfSome, OnOk, OnErr, MatchOption};
 ghost use Rattle.mq_addr.specs.declared.range.Range.{Range};
-ghost use Rattle.mq_talk.specs.declared.goal.Goal.{Goal};
-ghost use Rattle.mq_talk.specs.declared.note.Why.TheVariants as reasons;
-ghost use Rattle.mq_machine.specs.Done.{http1_end};
+ghost use Rattle.mq_machine.specs.Done.{without_tunnel};
+ghost use Rattle.mq_machine.specs.declared.act.Due.{Due};
 ghost use Rattle.mq_machine.specs.State as machine;
-ghost use Rattle.mq_machine.specs.State.{is_packet, kind_of};
+ghost use Rattle.mq_machine.specs.State.{kind_of};
 ghost use Rattle.mq_machine.specs.Want.{Replied};
-ghost use Rattle.mq_conn.specs.Conns.{Does, Hears, MayHear, Refuses, given_up};
-ghost use Rattle.mq_conn.specs.Closing.{close_first, close_due, close_act, close_stream, closing};
-ghost use Rattle.mq_conn.specs.declared.conn.Tunnel.{Tunnel};
+ghost use Rattle.mq_conn.specs.Conns.{Does, Hears, MayHear, Refuses, Stands, behind};
+ghost use Rattle.mq_conn.specs.Closing.{ClosesFront, ClosesOn, ClosesSo, OpensOn, closing, closes_first, closes_due, closes_act, closes_stream};
 
 use crate::conn::{Conn, First, Tunnel};
 use crate::queue::Queue;
 use mq_addr::Kind;
 use mq_machine::{Act, Due, StreamAct};
-use mq_talk::{End, Goal, Note, Reply, Why};
+use mq_talk::{Goal, Note, Reply, Why};
 use mq_wire::NoMemory;
 
 /// The kind of tunnel that leads to a goal.
@@ -29,51 +26,50 @@ fn kind_of(goal: Goal) -> Kind
     }
 }
 
-/// Why a connection of HTTP/1.1 is ending behind its tunnel.
-fn end_of(why: Why) -> End
-    ensures { why ≢ reasons.Conn → http1_end why ≡ Some result }
-{
-    match why {
-        Why::End => End::Done,
-        Why::Truncated => End::Truncated,
-        _ => End::Tunnel,
-    }
+/// The stream whose tunnel is to close, and why.
+#[derive(Clone, Copy)]
+struct Closing {
+    stream: u32,
+    why: Why,
 }
 
-/// Why the act in front closes the tunnel, where it does.
-fn close_first(first: &First) -> Option<Why>
-    ensures { result ≡ close_first first.now }
+/// What the act in front closes, if anything.
+fn closes_first(first: &First) -> Option<Closing>
+    ensures { result ≡ closes_first first.now }
 {
     match first {
         First::Open { .. } => None,
-        First::Close { why } => Some(*why),
+        First::Close { stream, why } => Some(Closing {
+            stream: *stream,
+            why: *why,
+        }),
     }
 }
 
-fn close_stream(act: &StreamAct) -> Option<Why>
-    ensures { result ≡ close_stream act.now }
+fn closes_stream(stream: u32, act: &StreamAct) -> Option<Closing>
+    ensures { result ≡ closes_stream stream act.now }
 {
     match act {
-        StreamAct::Close { why } => Some(*why),
+        StreamAct::Close { why } => Some(Closing { stream, why: *why }),
         _ => None,
     }
 }
 
-fn close_act(act: &Act) -> Option<Why>
-    ensures { result ≡ close_act act.now }
+fn closes_act(act: &Act) -> Option<Closing>
+    ensures { result ≡ closes_act act.now }
 {
     match act {
-        Act::OfStream { act, .. } => close_stream(act),
+        Act::OfStream { stream, act } => closes_stream(*stream, act),
         _ => None,
     }
 }
 
-/// Why what is due closes the tunnel, where it does.
-fn close_due(due: &Due) -> Option<Why>
-    ensures { result ≡ close_due due.now }
+/// What that which is due closes, if anything.
+fn closes_due(due: &Due) -> Option<Closing>
+    ensures { result ≡ closes_due due.now }
 {
     match due {
-        Due::Do(act) => close_act(act),
+        Due::Do(act) => closes_act(act),
         _ => None,
     }
 }
@@ -81,91 +77,164 @@ fn close_due(due: &Due) -> Option<Why>
 /// A tunnel that is to open, in which this will wait.
 #[derive(Drop)]
 struct Opening {
+    stream: u32,
     goal: Goal,
     waiting: Queue,
 }
 
 impl Conn {
-    /// Why its tunnel is to close now, where it is.
-    fn closing(&self) -> Option<Why>
-        ensures { result ≡ closing self.now.ending self.now.first self.now.due }
+    /// Which tunnel is to close now, while the connection isn't ending, and why.
+    fn closing(&self) -> Option<Closing>
+        ensures { result ≡ closing self.now.first self.now.due }
     {
-        if self.ending.is_some() {
-            return Some(Why::Conn);
-        }
         if let Some(first) = &self.first {
-            return close_first(first);
+            return closes_first(first);
         }
         match self.due.first() {
             None => None,
-            Some(due) => close_due(due),
+            Some(due) => closes_due(due),
         }
     }
 
-    /// Why it is ending behind its tunnel.
-    fn end_behind(&self, why: Why) -> End
-        ensures { MatchOption self.now.ending (why ≢ reasons.Conn → http1_end why ≡ Some result) (λ end. result ≡ end) }
+    /// Takes the act that stands in front, or what is due first.
+    fn take_front(&mut self)
+        ensures { (d : Due) (rest : List Due) → behind self.old.first self.old.due ≡ d ∷ rest → self.new ≡ record self.old { first = None; due = rest } }
     {
-        match self.ending {
-            Some(end) => end,
-            None => end_of(why),
+        if self.first.is_some() {
+            self.first = None;
+        } else {
+            let _ = self.due.pop();
         }
     }
 
-    /// Its tunnel closes, and with it the connection is ending.
-    fn close(&mut self, why: Why, end: End) -> Note
-        ensures closes { (t : Tunnel) → self.old.tunnel ≡ Some t → self.new ≡ record (given_up self.old end) { tunnel = None } }
-        ensures note { (t : Tunnel) → self.old.tunnel ≡ Some t → result ≡ Note.Closed t.id why (length (filter is_packet t.waiting)) }
+    /// The tunnel of a stream closes. Over HTTP/1.1 the connection ends with it.
+    fn close(&mut self, stream: u32, why: Why) -> Option<Note>
+        ensures { ClosesOn self.old self.new stream why result }
     {
-        match self.tunnel.take() {
+        let tunnel = self.on(stream)?;
+        let id = tunnel.id;
+        let begun = tunnel.waiting.is_begun();
+        let left = tunnel.waiting.len();
+        self.forget(stream);
+        self.drop_tunnel(id);
+        self.close_front(stream, begun, why);
+        Some(Note::Closed {
+            tunnel: id,
+            why,
+            left: left as u32,
+        })
+    }
+
+    /// What the stream of a closed tunnel gets is put, and the connection ends with it where it does.
+    fn close_front(&mut self, stream: u32, begun: bool, why: Why)
+        ensures { ClosesFront self.old self.new stream begun why }
+    {
+        let Some(front) = &mut self.front else {
+            return;
+        };
+        let end = front.close(stream, begun, why);
+        if self.ending.is_none() {
+            self.ending = end;
+        }
+    }
+
+    /// The tunnel of this number is live no more.
+    fn drop_tunnel(&mut self, id: u32)
+        ensures { (s : machine.Conn) → Stands self.old s → Stands self.new (without_tunnel id s) }
+    {
+        self.tunnels.retain(|tunnel| tunnel.id != id);
+    }
+
+    /// The book has closed a tunnel.
+    fn closed(&mut self) -> Note
+        ensures { Does self.old self.new (Replied Reply.Closed) result }
+    {
+        if self.ending.is_some() {
+            return self.closed_ending();
+        }
+        self.closed_due()
+    }
+
+    /// The first tunnel of an ending connection.
+    fn closed_ending(&mut self) -> Note
+        ensures { self.old.ending ≢ None → Does self.old self.new (Replied Reply.Closed) result }
+    {
+        let Some(tunnel) = self.tunnels.first() else {
+            return self.none();
+        };
+        let stream = tunnel.stream;
+        self.close_so(stream, Why::Conn)
+    }
+
+    /// The tunnel that was to close.
+    fn closed_due(&mut self) -> Note
+        ensures { self.old.ending ≡ None → Does self.old self.new (Replied Reply.Closed) result }
+    {
+        let Some(closing) = self.closing() else {
+            return self.none();
+        };
+        self.take_front();
+        self.close_so(closing.stream, closing.why)
+    }
+
+    /// The tunnel of a stream closes, and the act ends.
+    fn close_so(&mut self, stream: u32, why: Why) -> Note
+        ensures { ClosesSo self.old self.new stream why result }
+    {
+        match self.close(stream, why) {
             None => self.none(),
-            Some(tunnel) => {
-                self.give_up(end);
-                Note::Closed {
-                    tunnel: tunnel.id,
-                    why,
-                    left: tunnel.waiting.len() as u32,
-                }
+            Some(note) => {
+                self.settle();
+                note
             }
         }
     }
 
-    /// The book has closed its tunnel.
-    fn closed(&mut self) -> Note
-        ensures { Does self.old self.new (Replied Reply.Closed) result }
-    {
-        let Some(why) = self.closing() else {
-            return self.none();
-        };
-        let end = self.end_behind(why);
-        self.close(why, end)
-    }
-
     /// Takes the tunnel that is to open.
     fn take_open(&mut self) -> Option<Opening>
-        ensures took { MatchOption result ((goal : Goal) (waiting : List machine.Waiting) → self.old.first ≢ Some (First.Open goal waiting)) (λ o. self.old.first ≡ Some (First.Open o.goal o.waiting)) }
+        ensures took { MatchOption result ((stream : ℕ) (goal : Goal) (waiting : List machine.Waiting) → self.old.first ≢ Some (First.Open stream goal waiting)) (λ o. self.old.first ≡ Some (First.Open o.stream o.goal o.waiting)) }
         ensures keeps { self.new ≡ record self.old { first = None } }
     {
         match self.first.take() {
-            Some(First::Open { goal, waiting }) => Some(Opening { goal, waiting }),
+            Some(
+                First::Open {
+                    stream,
+                    goal,
+                    waiting,
+                },
+            ) => Some(Opening {
+                stream,
+                goal,
+                waiting,
+            }),
             _ => None,
         }
     }
 
     /// The tunnel is open, as tunnel `id`.
     fn put_open(&mut self, id: u32, opening: Opening) -> Result<Note, NoMemory>
-        ensures ok { OnOk result (self.new ≡ record self.old { tunnel = Some (record { id = id; goal = opening.goal; waiting = opening.waiting }); owed = self.old.owed ++ success_text (kind_of opening.goal) }) }
-        ensures note { IfOk result (λ note. note ≡ Note.Opened id self.old.number 0 (kind_of opening.goal)) }
-        ensures err { OnErr result (self.new ≡ record self.old { tunnel = Some (record { id = id; goal = opening.goal; waiting = opening.waiting }) }) }
+        ensures { OpensOn self.old self.new id opening.stream opening.goal opening.waiting result }
     {
-        let Opening { goal, waiting } = opening;
+        let Opening {
+            stream,
+            goal,
+            waiting,
+        } = opening;
         let kind = kind_of(goal);
-        self.tunnel = Some(Tunnel { id, goal, waiting });
-        self.owed.put_success(kind)?;
+        self.tunnels.push(Tunnel {
+            id,
+            stream,
+            goal,
+            waiting,
+        })?;
+        let Some(front) = &mut self.front else {
+            return Err(NoMemory);
+        };
+        front.grant(self.alloc, stream, kind)?;
         Ok(Note::Opened {
             tunnel: id,
             conn: self.number,
-            stream: 0,
+            stream,
             kind,
         })
     }
@@ -178,7 +247,9 @@ impl Conn {
         let Some(opening) = self.take_open() else {
             return Err(NoMemory);
         };
-        self.put_open(id, opening)
+        let note = self.put_open(id, opening)?;
+        self.settle();
+        Ok(note)
     }
 
     /// The history has no place for its tunnel.
@@ -186,10 +257,12 @@ impl Conn {
         ensures hears { (entries live : ℕ) → Hears self.old self.new (Reply.HistoryFull entries live) result }
         ensures spent { Refuses self.old (is_ok result) }
     {
-        let Some(_) = self.take_open() else {
+        let Some(opening) = self.take_open() else {
             return Err(NoMemory);
         };
-        self.refuse(503, 0)
+        let note = self.refuse(opening.stream, 503, 0)?;
+        self.settle();
+        Ok(note)
     }
 
     fn try_answer(&mut self, reply: Reply) -> Result<Note, NoMemory>

@@ -1,16 +1,13 @@
 //! One connection: its state, and what ends it.
-ghost use Rattle.std.specs.Prelude.{◌≡◌, [], None, Some, IfOk};
+ghost use Rattle.std.specs.Prelude.{◌≡◌, None, Some, MatchOption, IfOk};
+ghost use Rattle.mq_machine.specs.Settle.{is_given_up};
 ghost use Rattle.mq_machine.specs.State as machine;
 ghost use Rattle.mq_machine.specs.State.{new_conn};
 ghost use Rattle.mq_machine.specs.Steps.{failed, starved};
-ghost use Rattle.mq_conn.specs.Conns.{IsConn};
-ghost use Rattle.mq_conn.specs.Closing.{is_spent};
+ghost use Rattle.mq_conn.specs.Conns.{IsConn, GivesUp, find_on, tunnel_is};
 
-use crate::front::Front;
-use crate::owed::Owed;
 use crate::queue::Queue;
-use mq_front::Dues;
-use mq_head::HeadReader;
+use mq_front::{Dues, Front};
 use mq_talk::{End, Goal, Why};
 use mq_wire::NoMemory;
 use std::alloc::Global;
@@ -19,6 +16,7 @@ use std::alloc::Global;
 #[derive(Drop)]
 pub struct Tunnel {
     pub id: u32,
+    pub stream: u32,
     pub goal: Goal,
     pub waiting: Queue,
 }
@@ -26,30 +24,47 @@ pub struct Tunnel {
 /// An act that comes before all that is due.
 #[derive(Drop)]
 pub enum First {
-    /// The tunnel is to open, in which this will wait.
-    Open { goal: Goal, waiting: Queue },
-    /// The tunnel is to close.
-    Close { why: Why },
+    /// A tunnel is to open, in which this will wait.
+    Open {
+        stream: u32,
+        goal: Goal,
+        waiting: Queue,
+    },
+    /// The tunnel of a stream is to close.
+    Close {
+        stream: u32,
+        why: Why,
+    },
 }
 
-/// One connection. Over HTTP/1.1 it has one tunnel at most, on stream 0.
+/// One connection.
 #[derive(Drop)]
 pub struct Conn {
     pub(crate) alloc: Global,
     pub(crate) number: u32,
     pub(crate) actor: u32,
-    pub(crate) front: Front,
-    /// Whether a byte was read.
-    pub(crate) begun: bool,
+    /// How far its bytes were read, and what it owes; nothing where it was given up.
+    pub(crate) front: Option<Front>,
     /// What is due, of which one act may stand in front.
     pub(crate) first: Option<First>,
     pub(crate) due: Dues,
-    pub(crate) owed: Owed,
     pub(crate) finished: bool,
     pub(crate) ending: Option<End>,
-    pub(crate) tunnel: Option<Tunnel>,
+    /// Its live tunnels, as they opened.
+    pub(crate) tunnels: Vec<Tunnel>,
     /// The number from which the search for the next tunnel to frame begins.
     pub(crate) next_tunnel: u64,
+}
+
+/// Whether what is owed is given up at the end.
+pub fn gives_up(why: Option<End>) -> bool
+    ensures { result ≡ is_given_up why }
+{
+    match why {
+        Some(End::Link) => true,
+        Some(End::NoMemory) => true,
+        _ => false,
+    }
 }
 
 impl Conn {
@@ -61,23 +76,21 @@ impl Conn {
             alloc,
             number: id,
             actor,
-            front: Front::Head(HeadReader::new()),
-            begun: false,
+            front: Some(Front::new()),
             first: None,
             due: Dues::new(alloc),
-            owed: Owed::new(alloc),
             finished: false,
             ending: None,
-            tunnel: None,
+            tunnels: Vec::new(alloc),
             next_tunnel: 0,
         })
     }
 
-    /// What is due is given up, nothing more is read, and it is ending.
+    /// What is due and owed is given up, nothing more is read, and it is ending. `why` is `Link` or `NoMemory`.
     pub(crate) fn give_up(&mut self, why: End)
-        ensures { self.new ≡ record self.old { front = Front.Shut; first = None; due = []; ending = Some why } }
+        ensures { GivesUp self.old why self.new }
     {
-        self.front = Front::Shut;
+        self.front = None;
         self.first = None;
         self.due.clear();
         self.ending = Some(why);
@@ -91,20 +104,22 @@ impl Conn {
         self.give_up(why);
     }
 
-    /// Whether it was refused memory.
-    pub(crate) fn is_spent(&self) -> bool
-        ensures { result ≡ is_spent self.now.ending }
-    {
-        match self.ending {
-            Some(End::NoMemory) => true,
-            _ => false,
-        }
-    }
-
     /// It was refused memory.
     pub(crate) fn starve(&mut self)
-        ensures { self.new ≡ record self.old { front = Front.Shut; first = None; due = []; ending = Some End.NoMemory } }
+        ensures { GivesUp self.old End.NoMemory self.new }
     {
         self.give_up(End::NoMemory);
+    }
+
+    /// The live tunnel of a stream.
+    pub(crate) fn on(&self, stream: u32) -> Option<&Tunnel>
+        ensures { MatchOption result (find_on self.now stream ≡ None) (λ t. find_on self.now stream ≡ Some (tunnel_is t.now)) }
+    {
+        for tunnel in &self.tunnels {
+            if tunnel.stream == stream {
+                return Some(tunnel);
+            }
+        }
+        None
     }
 }

@@ -1,62 +1,91 @@
 //! What comes to a tunnel, and the capsules that it is framed in.
-ghost use Rattle.std.specs.Prelude.{◌≡◌, ℕ, ◌+◌, ◌<◌, ◌≤◌, ◌||◌, not, nat_le, nat_lt, List, [], length, filter, Some, IfOk, OnOk, OnErr, MatchOption, true, is_ok, is_some};
+ghost use Rattle.std.specs.Prelude.{◌≡◌, ℕ, ◌+◌, ◌≤◌, ◌||◌, min, not, nat_le, nat_lt, ◌^◌, ◌-◌, List, length, filter, sum_by, slice_get, find, Some, None, IfOk, IfSome, OnErr, MatchOption, true, is_ok, is_some};
 ghost use Rattle.mq_capsule.specs.Writing.{capsule_text, datagram};
 ghost use Rattle.mq_machine.specs.Cores.{Frames};
+ghost use Rattle.mq_machine.specs.Lawful.{waits};
 ghost use Rattle.mq_machine.specs.State as machine;
 ghost use Rattle.mq_machine.specs.State.{is_packet};
 ghost use Rattle.mq_machine.specs.Steps as steps;
 ghost use Rattle.mq_machine.specs.Want.{want_of};
-ghost use Rattle.mq_conn.specs.Conns.{IsConn, Keeps, Refuses, Starves};
-ghost use Rattle.mq_conn.specs.Frames.{Delivers, Framed, PutsFirst, PopsFirst, waits};
+ghost use Rattle.mq_conn.specs.Conns.{IsConn, Keeps, Refuses, Starves, tunnel_is};
+ghost use Rattle.mq_conn.specs.Frames.{Delivers, IsNext, IsPlaceOf, HasNone, PutsFirst, TookFirst};
 ghost use Rattle.mq_conn.specs.Queues.{size_of};
 ghost use Rattle.mq_conn.specs.declared.conn.Tunnel.{Tunnel};
 
-use crate::conn::{Conn, First};
-use crate::queue::{MOST_PACKETS, Packet, Queue, capsule_size};
+use crate::capsule::{behind, capsule_size, header_of};
+use crate::conn::{Conn, First, Tunnel};
+use crate::queue::{MOST_PACKETS, Packet};
 use mq_talk::{Cause, From, Note, Why};
 use mq_wire::{Bytes, NoMemory};
 
 /// The bytes of whole capsules that may wait in a connection.
 const MOST_WAITING: usize = 1_048_576;
 
-/// Whether a payload of this length may wait behind those that do.
-fn has_room(waiting: &Queue, payload: usize) -> bool
-    ensures room { result ≡ true → (length (filter is_packet waiting.now) < 64) × (payload ≤ 1048576) }
-    ensures is { (packet : List ℕ) → payload ≡ length packet → result ≡ not (nat_le 64 (length (filter is_packet waiting.now)) || nat_lt 1048576 (size_of waiting.now + length (capsule_text (datagram packet)))) }
+/// How many bytes the capsules have that wait in these tunnels.
+fn waiting_in(tunnels: &[Tunnel]) -> usize
+    ensures { result ≡ min (sum_by (λ (t : Tunnel). size_of t.waiting) tunnels.now) (2 ^ 64 - 1) }
 {
-    waiting.len() < MOST_PACKETS
-        && payload <= MOST_WAITING
-        && waiting.size() + capsule_size(payload) <= MOST_WAITING
-}
-
-/// A packet that is framed, and its tunnel.
-#[derive(Drop)]
-struct Popped {
-    id: u32,
-    packet: Packet,
-}
-
-/// The note of a packet whose capsule was framed whole.
-fn delivered(popped: Popped) -> Note
-    ensures { result ≡ Note.Delivered popped.packet.from popped.packet.n popped.id popped.packet.packet }
-{
-    let Popped { id, packet } = popped;
-    let Packet { from, n, packet } = packet;
-    Note::Delivered {
-        from,
-        n,
-        to: id,
-        packet,
+    let mut sum = 0usize;
+    for tunnel in tunnels {
+        sum = sum.saturating_add(tunnel.waiting.size());
     }
+    sum
+}
+
+/// The number behind this one.
+fn next_number(id: u32) -> u64
+    ensures { result ≡ id + 1 }
+{
+    u64::from(id) + 1
+}
+
+/// The place of the tunnel of this number.
+fn place_of(tunnels: &[Tunnel], id: u32) -> Option<usize>
+    ensures { MatchOption result (HasNone tunnels.now id) (λ place. (t : Tunnel) × IsPlaceOf tunnels.now id place t) }
+{
+    for place in 0..tunnels.len() {
+        if tunnels[place].id == id {
+            return Some(place);
+        }
+    }
+    None
 }
 
 impl Conn {
-    /// The port of its tunnel failed: the tunnel is to close, before all that is due. It waits for its client, or for the port.
+    /// The port of its tunnel failed: the tunnel is to close, before all that is due. It waits for its client, or for a port.
     pub fn shut(&mut self, tunnel: u32)
         ensures { (s : machine.Conn) → IsConn self.old s → (t : machine.Tunnel) → machine.tunnel_of s tunnel ≡ Some t → waits (want_of s) ≡ true → IsConn self.new (steps.port_failed s t) }
     {
-        if self.live() == Some(tunnel) {
-            self.first = Some(First::Close { why: Why::Port });
+        if let Some(place) = place_of(self.tunnels.as_slice(), tunnel) {
+            let stream = self.tunnels[place].stream;
+            self.first = Some(First::Close {
+                stream,
+                why: Why::Port,
+            });
+        }
+    }
+
+    /// Whether a payload of this length may wait in the tunnel at this place.
+    fn has_room(&self, place: usize, payload: usize) -> bool
+        ensures is { (t : Tunnel) → slice_get self.now.tunnels.items place ≡ Some t → (packet : List ℕ) → payload ≡ length packet
+            → result ≡ not (nat_le 64 (length (filter is_packet t.waiting)) || nat_lt 1048576 (sum_by (λ (u : Tunnel). size_of u.waiting) self.now.tunnels.items + length (capsule_text (datagram packet)))) }
+        ensures short { result ≡ true → payload ≤ 1048576 }
+    {
+        match self.tunnels.get(place) {
+            None => false,
+            Some(tunnel) => {
+                if tunnel.waiting.len() >= MOST_PACKETS {
+                    return false;
+                }
+                if payload > MOST_WAITING {
+                    return false;
+                }
+                let waiting = waiting_in(self.tunnels.as_slice());
+                if waiting > MOST_WAITING {
+                    return false;
+                }
+                waiting + capsule_size(payload) <= MOST_WAITING
+            }
         }
     }
 
@@ -64,42 +93,82 @@ impl Conn {
     pub fn deliver(&mut self, from: From, n: u64, tunnel: u32, packet: Bytes) -> Note
         ensures { Delivers self.old self.new from n tunnel packet result }
     {
-        match &mut self.tunnel {
-            Some(live) if live.id == tunnel => {
-                if has_room(&live.waiting, packet.as_slice().len()) {
-                    live.waiting.push(Packet { from, n, packet });
-                    Note::Queued {
-                        from,
-                        n,
-                        to: tunnel,
-                    }
-                } else {
-                    Note::Dropped {
-                        from,
-                        n,
-                        cause: Cause::QueueFull,
-                    }
-                }
-            }
-            _ => Note::Dropped {
+        let Some(place) = place_of(self.tunnels.as_slice(), tunnel) else {
+            return Note::Dropped {
                 from,
                 n,
                 cause: Cause::Gone,
-            },
+            };
+        };
+        if !self.has_room(place, packet.as_slice().len()) {
+            self.settle();
+            return Note::Dropped {
+                from,
+                n,
+                cause: Cause::QueueFull,
+            };
+        }
+        self.tunnels[place].waiting.push(Packet { from, n, packet });
+        self.settle();
+        Note::Queued {
+            from,
+            n,
+            to: tunnel,
         }
     }
 
-    /// Whether a capsule can be framed now.
+    /// Whether a part of what waits in the tunnel at this place can be framed now.
+    fn can_frame_at(&self, place: usize) -> bool
+        ensures { (s : machine.Conn) → IsConn self.now s → s.ending ≡ None → (t : Tunnel) → slice_get self.now.tunnels.items place ≡ Some t → result ≡ steps.can_frame s (tunnel_is t) }
+    {
+        let Some(tunnel) = self.tunnels.get(place) else {
+            return false;
+        };
+        let Some(first) = tunnel.waiting.first() else {
+            return false;
+        };
+        let size = capsule_size(first.packet.as_slice().len());
+        let left = size.saturating_sub(tunnel.waiting.framed());
+        match &self.front {
+            None => false,
+            Some(front) => front.room(tunnel.stream, left) > 0,
+        }
+    }
+
+    /// The place of the first tunnel that can be framed, of those whose numbers begin at `next_tunnel`, or of the others.
+    fn next_of(&self, late: bool) -> Option<usize>
+        ensures { IsNext self.now late result }
+    {
+        for place in 0..self.tunnels.len() {
+            let is_late = u64::from(self.tunnels[place].id) >= self.next_tunnel;
+            if is_late == late && self.can_frame_at(place) {
+                return Some(place);
+            }
+        }
+        None
+    }
+
+    /// The place of the tunnel whose turn it is to be framed.
+    fn next_framed(&self) -> Option<usize>
+        ensures { (s : machine.Conn) → IsConn self.now s → MatchOption result (steps.next_framed s ≡ None) (λ place. (t : Tunnel) × (slice_get self.now.tunnels.items place ≡ Some t) × (steps.next_framed s ≡ Some (tunnel_is t))) }
+    {
+        if !self.can_go_on() {
+            return None;
+        }
+        match self.next_of(true) {
+            Some(place) => Some(place),
+            None => self.next_of(false),
+        }
+    }
+
+    /// Whether a capsule can be framed now, or a part of one.
     pub fn can_frame(&self) -> bool
         ensures { (s : machine.Conn) → IsConn self.now s → result ≡ is_some (steps.framed s) }
     {
-        match &self.tunnel {
-            None => false,
-            Some(tunnel) => self.can_go_on() && tunnel.waiting.first().is_some(),
-        }
+        self.next_framed().is_some()
     }
 
-    /// Frames the capsule that waits first.
+    /// Frames the capsule whose turn it is, or as much of it as there is room for.
     pub fn frame(&mut self) -> Result<Note, NoMemory>
         ensures frames { Frames (IsConn self.old) (IsConn self.new) (Starves self.old self.new) result }
         ensures spent { Refuses self.old (is_ok result) }
@@ -113,45 +182,64 @@ impl Conn {
         }
     }
 
-    /// Puts the capsule of the packet that waits first.
-    fn put_first(&mut self) -> Result<(), NoMemory>
-        ensures ok { OnOk result (PutsFirst self.old self.new) }
-        ensures err { OnErr result (self.new ≡ self.old) }
+    /// Puts as much of what waits first in the tunnel at this place as there is room for, and answers how many bytes.
+    fn put_first(&mut self, place: usize) -> Result<usize, NoMemory>
+        ensures { PutsFirst self.old self.new place result }
     {
-        let Some(tunnel) = &self.tunnel else {
+        let Some(tunnel) = self.tunnels.get(place) else {
             return Err(NoMemory);
         };
         let Some(first) = tunnel.waiting.first() else {
             return Err(NoMemory);
         };
-        self.owed.put_datagram(first.packet.as_slice())
+        let Some(front) = &mut self.front else {
+            return Err(NoMemory);
+        };
+        let packet = first.packet.as_slice();
+        let header = header_of(packet.len());
+        let (begin, rest) = behind(header.as_slice(), packet, tunnel.waiting.framed());
+        front.frame(tunnel.stream, begin, rest)
     }
 
-    /// Takes the packet that waits first, whose tunnel is then the last that was framed.
-    fn pop_first(&mut self) -> Option<Popped>
-        ensures { (t : Tunnel) → self.old.tunnel ≡ Some t → MatchOption result (t.waiting ≡ []) (λ p. PopsFirst self.old self.new t p.id p.packet) }
+    /// So many bytes of what waits first in the tunnel at this place were framed.
+    fn took(&mut self, place: usize, count: usize) -> Option<Note>
+        ensures { TookFirst self.old self.new place count result }
     {
-        let mut tunnel = self.tunnel.take()?;
-        let packet = tunnel.waiting.pop();
+        let tunnel = self.tunnels.get_mut(place)?;
         let id = tunnel.id;
-        self.tunnel = Some(tunnel);
-        self.next_tunnel = u64::from(id) + 1;
-        let packet = packet?;
-        Some(Popped { id, packet })
+        self.next_tunnel = next_number(id);
+        let size = capsule_size(tunnel.waiting.first()?.packet.as_slice().len());
+        if size.saturating_sub(tunnel.waiting.framed()) <= count {
+            let Packet { from, n, packet } = tunnel.waiting.pop()?;
+            return Some(Note::Delivered {
+                from,
+                n,
+                to: id,
+                packet,
+            });
+        }
+        tunnel.waiting.advance(count);
+        Some(Note::Part {
+            tunnel: id,
+            count: count as u32,
+        })
     }
 
     fn try_frame(&mut self) -> Result<Note, NoMemory>
-        ensures framed { IfOk result (λ note. Framed self.old self.new note) }
+        ensures framed { IfOk result (λ note. (s : machine.Conn) → IsConn self.old s → (t : machine.Conn) × IsConn self.new t × (steps.framed s ≡ Some (note, t))) }
         ensures keeps { OnErr result (Keeps self.old self.new) }
         ensures spent { Refuses self.old (is_ok result) }
     {
-        if !self.can_go_on() {
+        let Some(place) = self.next_framed() else {
             return Err(NoMemory);
-        }
-        self.put_first()?;
-        match self.pop_first() {
+        };
+        let count = self.put_first(place)?;
+        match self.took(place, count) {
             None => unreachable!(),
-            Some(popped) => Ok(delivered(popped)),
+            Some(note) => {
+                self.settle();
+                Ok(note)
+            }
         }
     }
 }

@@ -4,14 +4,14 @@
 
 mod acts;
 mod answer;
+mod capsule;
 mod conn;
 mod feed;
 mod frame;
-mod front;
 mod next;
-mod owed;
 mod packets;
 mod queue;
+mod settle;
 mod want;
 
 pub use conn::Conn;

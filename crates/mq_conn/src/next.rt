@@ -1,18 +1,20 @@
 //! What a connection wants, and what it can do beside that.
-ghost use Rattle.std.specs.Prelude.{◌≡◌, ◌≤◌, ◌∷◌, Some, None, not, true, List, length, is_ok, IfOk};
+ghost use Rattle.std.specs.Prelude.{◌≡◌, ◌≤◌, ◌∷◌, Some, None, not, true, ℕ, List, length, is_ok, IfOk};
 ghost use Rattle.mq_machine.specs.State as machine;
-ghost use Rattle.mq_machine.specs.Settle.{gives_up};
 ghost use Rattle.mq_machine.specs.Steps as steps;
 ghost use Rattle.mq_machine.specs.Steps.{is_nothing};
+ghost use Rattle.mq_machine.specs.Lawful.{IsUdp, IsAsked};
+ghost use Rattle.mq_machine.specs.Want as machine_want;
+ghost use Rattle.mq_machine.specs.Want.{want_of, want_by, due_want, act_want, stream_want, tunnel_want};
+ghost use Rattle.mq_machine.specs.declared.act.StreamAct.TheVariants as asked;
 ghost use Rattle.mq_machine.specs.declared.act.Due.{Due};
 ghost use Rattle.mq_machine.specs.declared.act.Due.TheVariants.{Do};
-ghost use Rattle.mq_machine.specs.Want as machine_want;
-ghost use Rattle.mq_machine.specs.Want.{want_of, stream_want};
-ghost use Rattle.mq_conn.specs.declared.conn.Tunnel.{Tunnel};
-ghost use Rattle.mq_conn.specs.Conns.{IsConn, IsUdp, IsAsked, tunnel_is};
+ghost use Rattle.mq_conn.specs.Conns.{IsConn, find_on, tunnel_is};
+ghost use Rattle.mq_conn.specs.Frames.{Gives};
 ghost use Rattle.mq_conn.specs.Wants.{IsWant};
+ghost use Rattle.mq_talk.specs.declared.note.Why.{Why};
 
-use crate::conn::{Conn, First};
+use crate::conn::{Conn, First, Tunnel, gives_up};
 use crate::want::Want;
 use mq_machine::{Act, Due, StreamAct};
 use mq_talk::{Call, End, Goal};
@@ -21,35 +23,31 @@ use mq_wire::NoMemory;
 /// Bytes owed above which nothing is read or framed.
 const MOST_OWED: usize = 65_535;
 
-/// Whether what is owed is given up at the end.
-fn gives_up(why: End) -> bool
-    ensures { result ≡ gives_up why }
-{
-    match why {
-        End::Link => true,
-        End::NoMemory => true,
-        End::Done => false,
-        End::Truncated => false,
-        End::Protocol { .. } => false,
-        End::Refused => false,
-        End::Tunnel => false,
-    }
-}
-
 impl Conn {
     /// The bytes that are owed to the link.
     pub fn owed(&self) -> &[u8]
         ensures { (s : machine.Conn) → IsConn self.now s → result.now ≡ machine.owed s }
     {
-        self.owed.as_slice()
+        match &self.front {
+            Some(front) => front.owed(),
+            None => &[],
+        }
     }
 
     /// So many of them were given to the link.
     pub fn wrote(&mut self, count: u32)
         ensures { (s : machine.Conn) → IsConn self.old s → count ≤ length (machine.owed s) → IsConn self.new (steps.wrote s count).1 }
     {
-        let owed = self.owed.as_slice().len();
-        self.owed.give(owed.min(count as usize));
+        self.give(count);
+        self.settle();
+    }
+
+    fn give(&mut self, count: u32)
+        ensures { Gives self.old self.new count }
+    {
+        if let Some(front) = &mut self.front {
+            front.wrote(count);
+        }
     }
 
     /// Whether it wants something of the outside.
@@ -58,7 +56,10 @@ impl Conn {
     {
         match self.ending {
             None => self.first.is_some() || !self.due.is_empty(),
-            Some(why) => self.tunnel.is_some() || self.owed.as_slice().is_empty() || gives_up(why),
+            Some(why) => match self.want_ending(why) {
+                Want::Nothing => false,
+                _ => true,
+            },
         }
     }
 
@@ -66,7 +67,13 @@ impl Conn {
     pub(crate) fn can_go_on(&self) -> bool
         ensures { (s : machine.Conn) → IsConn self.now s → result ≡ steps.can_go_on s }
     {
-        !self.wants() && self.owed.as_slice().len() <= MOST_OWED && self.ending.is_none()
+        if self.wants() {
+            return false;
+        }
+        if self.ending.is_some() {
+            return false;
+        }
+        self.owed().len() <= MOST_OWED
     }
 
     /// Whether it takes bytes of its client now.
@@ -76,7 +83,7 @@ impl Conn {
         self.can_go_on() && !self.finished
     }
 
-    /// What it wants next. Over HTTP/1.1 with a tunnel for UDP that takes no memory, so that it is never refused.
+    /// What it wants next. With tunnels for UDP that takes no memory, so that it is never refused.
     pub fn next(&self) -> Result<Want, NoMemory>
         ensures wants { IfOk result (λ w. (s : machine.Conn) → IsConn self.now s → IsWant w (want_of s)) }
         ensures granted { is_ok result ≡ true }
@@ -87,18 +94,20 @@ impl Conn {
         }
     }
 
-    /// An ending connection closes its tunnel, and is then over once nothing is owed.
+    /// An ending connection closes its tunnels, and is then over once nothing is owed.
     fn want_ending(&self, why: End) -> Want
         ensures { (s : machine.Conn) → IsConn self.now s → self.now.ending ≡ Some why → IsWant result (want_of s) }
     {
-        match &self.tunnel {
+        match self.tunnels.first() {
             Some(tunnel) => Want::Ask(Call::Close { tunnel: tunnel.id }),
             None => {
-                if self.owed.as_slice().is_empty() || gives_up(why) {
-                    Want::Ended(why)
-                } else {
-                    Want::Nothing
+                if self.owed().is_empty() {
+                    return Want::Ended(why);
                 }
+                if gives_up(Some(why)) {
+                    return Want::Ended(why);
+                }
+                Want::Nothing
             }
         }
     }
@@ -115,45 +124,39 @@ impl Conn {
         }
     }
 
+    /// The opening of a tunnel.
+    fn want_open(&self, stream: u32, goal: Goal) -> Want
+        ensures { result ≡ Want.Ask (Call.Open self.now.number stream self.now.actor goal) }
+    {
+        Want::Ask(Call::Open {
+            conn: self.number,
+            stream,
+            actor: self.actor,
+            goal,
+        })
+    }
+
     fn want_first(&self, first: &First) -> Want
-        ensures { (s : machine.Conn) → IsConn self.now s → self.now.first ≡ Some first.now → IsWant result (want_of s) }
+        ensures { (s : machine.Conn) → IsConn self.now s → self.now.ending ≡ None → self.now.first ≡ Some first.now → IsWant result (want_of s) }
     {
         match first {
-            First::Open { goal, .. } => Want::Ask(Call::Open {
-                conn: self.number,
-                stream: 0,
-                actor: self.actor,
-                goal: *goal,
-            }),
-            First::Close { .. } => self.want_close(),
+            First::Open { stream, goal, .. } => self.want_open(*stream, *goal),
+            First::Close { stream, .. } => self.want_close(*stream),
         }
     }
 
-    /// The close of its live tunnel.
-    fn want_close(&self) -> Want
-        ensures { (t : Tunnel) → self.now.tunnel ≡ Some t → result ≡ Want.Ask (Call.Close t.id) }
+    /// The close of a stream's live tunnel.
+    fn want_close(&self, stream: u32) -> Want
+        ensures { (why : Why) → IsWant result (tunnel_want (find_on self.now stream) (asked.Close why)) }
     {
-        match &self.tunnel {
+        match self.on(stream) {
             None => Want::Nothing,
             Some(tunnel) => Want::Ask(Call::Close { tunnel: tunnel.id }),
         }
     }
 
-    /// A send of its payload.
-    fn want_send(&self, n: u64) -> Want
-        ensures { (t : Tunnel) → self.now.tunnel ≡ Some t → result ≡ Want.SendUdp t.id n }
-    {
-        match &self.tunnel {
-            None => Want::Nothing,
-            Some(tunnel) => Want::SendUdp {
-                tunnel: tunnel.id,
-                n,
-            },
-        }
-    }
-
     fn want_of_due(&self, due: &Due) -> Want
-        ensures { (s : machine.Conn) → IsConn self.now s → self.now.first ≡ None → (rest : List Due) → self.now.due ≡ due.now ∷ rest → IsWant result (want_of s) }
+        ensures { (s : machine.Conn) → IsConn self.now s → self.now.ending ≡ None → self.now.first ≡ None → (rest : List Due) → self.now.due ≡ due.now ∷ rest → IsWant result (want_of s) }
     {
         match due {
             Due::Do(act) => self.want_of_act(act),
@@ -162,31 +165,45 @@ impl Conn {
     }
 
     fn want_of_act(&self, act: &Act) -> Want
-        ensures { (s : machine.Conn) → IsConn self.now s → self.now.first ≡ None → (rest : List Due) → self.now.due ≡ Do act.now ∷ rest → IsWant result (want_of s) }
+        ensures { (s : machine.Conn) → IsConn self.now s → self.now.ending ≡ None → self.now.first ≡ None → (rest : List Due) → self.now.due ≡ Do act.now ∷ rest → IsWant result (want_of s) }
     {
         match act {
             Act::Bind { goal, .. } => want_bind(*goal),
-            Act::Refuse { .. } => Want::Say,
-            Act::OfStream { act, .. } => self.want_of_stream(act),
-            _ => Want::Nothing,
+            Act::Open { stream, goal } => self.want_open(*stream, *goal),
+            Act::Refuse { .. } | Act::Reset { .. } => Want::Say,
+            Act::OfStream { stream, act } => self.want_of_stream(*stream, act),
         }
     }
 
-    fn want_of_stream(&self, act: &StreamAct) -> Want
-        ensures { (t : Tunnel) → self.now.tunnel ≡ Some t → IsAsked act.now → IsWant result (stream_want (tunnel_is t) act.now) }
+    /// What is asked of a stream's live tunnel.
+    fn want_of_stream(&self, stream: u32, act: &StreamAct) -> Want
+        ensures { IsAsked act.now → IsWant result (tunnel_want (find_on self.now stream) act.now) }
     {
-        match act {
-            StreamAct::Payload { n, .. } => self.want_send(*n),
-            StreamAct::Drop { .. } => Want::Say,
-            StreamAct::Close { .. } => self.want_close(),
-            _ => Want::Nothing,
+        match self.on(stream) {
+            None => Want::Nothing,
+            Some(tunnel) => want_of(tunnel, act),
         }
+    }
+}
+
+/// What is asked of this tunnel.
+fn want_of(tunnel: &Tunnel, act: &StreamAct) -> Want
+    ensures { IsAsked act.now → IsWant result (stream_want (tunnel_is tunnel.now) act.now) }
+{
+    match act {
+        StreamAct::Payload { n, .. } => Want::SendUdp {
+            tunnel: tunnel.id,
+            n: *n,
+        },
+        StreamAct::Drop { .. } => Want::Say,
+        StreamAct::Close { .. } => Want::Ask(Call::Close { tunnel: tunnel.id }),
+        _ => Want::Nothing,
     }
 }
 
 /// A UDP port towards a goal.
 fn want_bind(goal: Goal) -> Want
-    ensures { IsUdp goal → IsWant result (machine_want.Bind 0 goal) }
+    ensures { IsUdp goal → (id : ℕ) → IsWant result (machine_want.Bind id goal) }
 {
     match goal {
         Goal::Udp { addr, port } => Want::Bind { addr, port },

@@ -1,10 +1,11 @@
 //! What waits in a tunnel until it is framed.
-ghost use Rattle.std.specs.Prelude.{◌≡◌, ◌≢◌, ℕ, ◌+◌, ◌<◌, ◌≤◌, ◌^◌, List, [], ◌∷◌, ◌++◌, length, filter, sum_by, IfOk, MatchOption};
+ghost use Rattle.std.specs.Prelude.{◌≡◌, ◌≢◌, ℕ, ◌+◌, ◌<◌, ◌≤◌, List, [], ◌∷◌, ◌++◌, length, filter, IfOk, MatchOption};
 ghost use Rattle.mq_capsule.specs.Writing.{capsule_text, datagram};
-ghost use Rattle.mq_wire.specs.Integer.{spelling_of};
+ghost use Rattle.mq_machine.specs.Done.{is_begun};
 ghost use Rattle.mq_machine.specs.State.{is_packet, Waiting};
-ghost use Rattle.mq_conn.specs.Queues.{waiting_of, size_of};
+ghost use Rattle.mq_conn.specs.Queues.{waiting_of, with_framed, size_of, behind};
 
+use crate::capsule::capsule_size;
 use mq_talk::From;
 use mq_wire::{Bytes, NoMemory};
 use std::alloc::Global;
@@ -22,24 +23,26 @@ pub struct Packet {
     pub packet: Bytes,
 }
 
-/// The packets that wait, oldest first, with room for as many as may. `size` counts the bytes of their capsules.
+/// The packets that wait, oldest first, with room for as many as may. `size` counts the bytes of their capsules, and `framed`
+/// those of the first that were framed.
 #[derive(Drop)]
 pub struct Queue {
     packets: VecDeque<Packet>,
     size: usize,
+    framed: usize,
 }
 
 impl Model for Queue {
-    ghost use Rattle.std.specs.Prelude.{List, map, ◌≡◌, ◌≤◌, length};
+    ghost use Rattle.std.specs.Prelude.{List, [], map, ◌≡◌, ◌≤◌, length};
     ghost use Rattle.std.specs.VecDeque.{deque_capacity};
     ghost use Rattle.mq_machine.specs.State.{Waiting};
-    ghost use Rattle.mq_conn.specs.Queues.{waiting_of, size_of};
+    ghost use Rattle.mq_conn.specs.Queues.{waiting_of, with_framed, size_of};
 
     ghost Value = { List Waiting };
 
-    ghost view = { λ s. map waiting_of s.packets.items };
+    ghost view = { λ s. with_framed s.framed (map waiting_of s.packets.items) };
 
-    ghost invariant = { λ s. (64 ≤ deque_capacity s.packets) × (s.size ≡ size_of (map waiting_of s.packets.items)) × (s.size ≤ 1048576) × (length s.packets.items ≤ 64) };
+    ghost invariant = { λ s. (64 ≤ deque_capacity s.packets) × (s.size ≡ size_of (map waiting_of s.packets.items)) × (s.size ≤ 1048576) × (length s.packets.items ≤ 64) × (s.packets.items ≡ [] → s.framed ≡ 0) };
 }
 
 impl Queue {
@@ -49,6 +52,7 @@ impl Queue {
         Ok(Queue {
             packets: VecDeque::with_capacity(alloc, MOST_PACKETS)?,
             size: 0,
+            framed: 0,
         })
     }
 
@@ -68,20 +72,44 @@ impl Queue {
         self.size
     }
 
+    /// Whether a part of the first capsule was framed.
+    pub fn is_begun(&self) -> bool
+        ensures { result ≡ is_begun self.now }
+    {
+        self.framed > 0
+    }
+
+    /// How many bytes of the first capsule were framed.
+    pub fn framed(&self) -> usize
+        ensures { (w : Waiting) (rest : List Waiting) → self.now ≡ w ∷ rest → result ≡ w.framed }
+    {
+        self.framed
+    }
+
     /// The packet that waits first.
     pub fn first(&self) -> Option<&Packet>
-        ensures { MatchOption result (self.now ≡ []) (λ p. (rest : List Waiting) × (self.now ≡ waiting_of p.now ∷ rest)) }
+        ensures { MatchOption result (self.now ≡ []) (λ p. (framed : ℕ) × (rest : List Waiting) × (self.now ≡ behind framed p.now ∷ rest) × (length p.now.packet ≤ 1048576)) }
     {
         self.packets.front()
     }
 
     /// Takes the packet that waits first.
     pub fn pop(&mut self) -> Option<Packet>
-        ensures { MatchOption result ((self.old ≡ []) × (self.new ≡ [])) (λ p. self.old ≡ waiting_of p ∷ self.new) }
+        ensures { MatchOption result ((self.old ≡ []) × (self.new ≡ [])) (λ p. (framed : ℕ) × (self.old ≡ behind framed p ∷ self.new)) }
     {
         let packet = self.packets.pop_front()?;
         self.size -= capsule_size(packet.packet.as_slice().len());
+        self.framed = 0;
         Some(packet)
+    }
+
+    /// So many more bytes of the first capsule were framed.
+    pub fn advance(&mut self, count: usize)
+        ensures { (w : Waiting) (rest : List Waiting) → self.old ≡ w ∷ rest → w.framed + count ≤ length w.capsule → self.new ≡ record w { framed = w.framed + count } ∷ rest }
+    {
+        if !self.packets.is_empty() {
+            self.framed = self.framed.saturating_add(count);
+        }
     }
 
     /// A packet waits last.
@@ -93,30 +121,4 @@ impl Queue {
         self.size += capsule_size(packet.packet.as_slice().len());
         self.packets.push_back_reserved(packet);
     }
-}
-
-/// How many bytes an integer has in its shortest form (RFC 9000, section 16).
-#[tactic(auto, unfolding(mq_wire::specs::Integer::spelling_of))]
-fn spelled_size(value: usize) -> usize
-    ensures is { result ≡ length (spelling_of value) }
-    ensures short { result ≤ 8 }
-{
-    if value < 0x40 {
-        1
-    } else if value < 0x4000 {
-        2
-    } else if value < 0x4000_0000 {
-        4
-    } else {
-        8
-    }
-}
-
-/// How many bytes the capsule of a payload of this length has.
-pub fn capsule_size(payload: usize) -> usize
-    requires { payload ≤ 1048576 }
-    ensures is { (packet : List ℕ) → payload ≡ length packet → result ≡ length (capsule_text (datagram packet)) }
-    ensures short { result ≤ payload + 10 }
-{
-    1 + spelled_size(1 + payload) + 1 + payload
 }

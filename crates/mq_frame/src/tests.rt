@@ -487,7 +487,7 @@ fn frames_with_bytes_are_written_as_the_standard_lays_them_out(
 #[test]
 fn borrowed_bytes_are_written_behind_what_stands_there(rt: HostRuntime) -> Result<(), Fail> {
     let mut out = Vec::from_slice(rt.alloc(), &[0xff])?;
-    write_data(&mut out, 1, &[0x61, 0x62], false)?;
+    write_data(&mut out, 1, &[0x61], &[0x62], false)?;
     write_headers(&mut out, 5, &[0x88], true)?;
     write_headers(&mut out, 7, &[0x88], false)?;
     assert_eq!(rt;

@@ -71,16 +71,28 @@ pub fn write_frame(out: &mut Vec<u8>, frame: &Frame) -> Result<(), NoMemory>
     }
 }
 
-/// Writes a DATA frame with these bytes at the end, which aren't copied before. An `Err` changes nothing.
+/// Writes a DATA frame at the end, whose contents are these two slices, which aren't copied before. An `Err` changes
+/// nothing.
 #[tactic(auto, unfolding(crate::specs::Writing::spelling_of))]
-pub fn write_data(out: &mut Vec<u8>, stream: u32, bytes: &[u8], end: bool) -> Result<(), NoMemory>
-    requires { length bytes.now ≤ max_frame_size }
-    ensures ok { OnOk result (out.new.items ≡ out.old.items ++ spelling_of (Content stream bytes.now (length bytes.now) end)) }
+pub fn write_data(
+    out: &mut Vec<u8>,
+    stream: u32,
+    front: &[u8],
+    rest: &[u8],
+    end: bool,
+) -> Result<(), NoMemory>
+    requires { length front.now + length rest.now ≤ max_frame_size }
+    ensures ok { OnOk result (out.new.items ≡ out.old.items ++ spelling_of (Content stream (front.now ++ rest.now) (length (front.now ++ rest.now)) end)) }
     ensures err { OnErr result (out.new.items ≡ out.old.items) }
-    ensures succeeds { vec_len out.old + (9 + length bytes.now) ≤ vec_capacity out.old → IsOk result }
+    ensures succeeds { vec_len out.old + (9 + length (front.now ++ rest.now)) ≤ vec_capacity out.old → IsOk result }
     ensures capacity { vec_capacity out.old ≤ vec_capacity out.new }
 {
-    put(out, Kind::Data, flag(end, END_STREAM), stream, bytes)
+    let length = front.len() + rest.len();
+    out.reserve(9 + length)?;
+    out.extend_from_slice(&header_bytes(length, Kind::Data, flag(end, END_STREAM), stream))?;
+    out.extend_from_slice(front)?;
+    out.extend_from_slice(rest)?;
+    Ok(())
 }
 
 /// Writes a HEADERS frame with a whole header block at the end, which isn't copied before. An `Err` changes nothing.

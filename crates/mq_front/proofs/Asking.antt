@@ -1,5 +1,5 @@
 -- What the events of a read ask for, one after the other.
-use Rattle.std.proofs.Common.{◌≡◌, ◌==◌, inl, inr, ℕ, Bool, true, false, cond, List, [], ◌∷◌, ◌++◌, Option, Some, None, Result, Ok, Err, slice_set, refl, sym, ap, ◌∙◌, subst, append_assoc, append-nil}
+use Rattle.std.proofs.Common.{◌≡◌, ◌==◌, inl, inr, ℕ, Bool, true, false, cond, List, [], ◌∷◌, ◌++◌, Option, Some, Result, Ok, Err, slice_set, refl, sym, ap, ◌∙◌, subst, append_assoc, append-nil}
 use Rattle.std.specs.Prelude.{find, OnOk}
 use Rattle.std.specs.Option.{is_some}
 use Rattle.mq_wire.specs.declared.NoMemory.{NoMemory}
@@ -23,7 +23,7 @@ use Rattle.mq_machine.specs.State.{Stream, Tunnel}
 use Rattle.mq_front.specs.declared.data.DataStream.{DataStream}
 use Rattle.mq_front.specs.declared.http2.Http2.{Http2}
 use Rattle.mq_front.specs.Data.{IsUdp, IsStream, Takes}
-use Rattle.mq_front.specs.Events.{Contains, Leads, error_dues, reset_dues, PutsEvent, EventTo, EventsTo, ReadsFrames}
+use Rattle.mq_front.specs.Events.{Contains, Leads, PutsEvent, EventTo, EventsTo, ReadsFrames}
 use Rattle.mq_front.specs.Streams.{AreStreams, HasNone, IsPlaceOf}
 use Rattle.mq_front.proofs.Tables.{found, missing, added}
 
@@ -130,16 +130,8 @@ refuses setup ts id fields status rule ends before after old new means after_is 
 
 -- ---- errors and resets
 
-error_is : (id code : ℕ) (o : Option Tunnel) → error_acts id code o ≡ error_dues id code (is_some o)
-error_is id code None = refl
-error_is id code (Some t) = refl
-
-reset_is : (id : ℕ) (o : Option Tunnel) → reset_acts id o ≡ reset_dues id (is_some o)
-reset_is id None = refl
-reset_is id (Some t) = refl
-
 fails : (setup : Setup) (ts : List Tunnel) (id code : ℕ) (has : Bool) (before after : List Due) (old new : List DataStream) → has ≡ is_some (find (λ (t : Tunnel). t.stream == id) ts)
-    → after ≡ before ++ error_dues id code has → new ≡ old → EventTo setup ts (told.Malformed id code) before after old new
+    → ((t : Option Tunnel) → has ≡ is_some t → after ≡ before ++ error_acts id code t) → new ≡ old → EventTo setup ts (told.Malformed id code) before after old new
 fails setup ts id code has before after old new has_is after_is same udp streams are =
     let o = find (λ (t : Tunnel). t.stream == id) ts in
     let Q : List DataStream → Type 0 = λ ds. AreStreams ds streams in
@@ -149,12 +141,12 @@ fails setup ts id code has before after old new has_is after_is same udp streams
       others = streams;
       brings = refl;
       asks = (refl, refl);
-      after_is = after_is ∙ ap (λ (b : Bool). before ++ error_dues id code b) has_is ∙ ap (λ (ds : List Due). before ++ ds) (sym (error_is id code o));
+      after_is = after_is o has_is;
       stand = subst Q (sym same) are;
     }
 
 was_reset : (setup : Setup) (ts : List Tunnel) (id code : ℕ) (has : Bool) (before after : List Due) (old new : List DataStream) → has ≡ is_some (find (λ (t : Tunnel). t.stream == id) ts)
-    → after ≡ before ++ reset_dues id has → new ≡ old → EventTo setup ts (told.Reset id code) before after old new
+    → ((t : Option Tunnel) → has ≡ is_some t → after ≡ before ++ reset_acts id t) → new ≡ old → EventTo setup ts (told.Reset id code) before after old new
 was_reset setup ts id code has before after old new has_is after_is same udp streams are =
     let o = find (λ (t : Tunnel). t.stream == id) ts in
     let Q : List DataStream → Type 0 = λ ds. AreStreams ds streams in
@@ -164,7 +156,7 @@ was_reset setup ts id code has before after old new has_is after_is same udp str
       others = streams;
       brings = refl;
       asks = (refl, refl);
-      after_is = after_is ∙ ap (λ (b : Bool). before ++ reset_dues id b) has_is ∙ ap (λ (ds : List Due). before ++ ds) (sym (reset_is id o));
+      after_is = after_is o has_is;
       stand = subst Q (sym same) are;
     }
 
@@ -192,12 +184,12 @@ refuses_all setup id fields status rule ends before after old (Err refused) mean
 refuses_all setup id fields status rule ends before after old (Ok done) means h = λ ts. refuses setup ts id fields status rule ends before after old old means h refl
 
 pub fails_all : (setup : Setup) (ts : List Tunnel) (id code : ℕ) (has : Bool) (before after : List Due) (old : List DataStream) (result : Result (Unit {0}) NoMemory) → has ≡ is_some (find (λ (t : Tunnel). t.stream == id) ts)
-    → OnOk result (after ≡ before ++ error_dues id code has) → OnOk result (EventTo setup ts (told.Malformed id code) before after old old)
+    → OnOk result ((t : Option Tunnel) → has ≡ is_some t → after ≡ before ++ error_acts id code t) → OnOk result (EventTo setup ts (told.Malformed id code) before after old old)
 fails_all setup ts id code has before after old (Err refused) has_is h = tt
 fails_all setup ts id code has before after old (Ok done) has_is h = fails setup ts id code has before after old old has_is h refl
 
 pub reset_all : (setup : Setup) (ts : List Tunnel) (id code : ℕ) (has : Bool) (before after : List Due) (old : List DataStream) (result : Result (Unit {0}) NoMemory) → has ≡ is_some (find (λ (t : Tunnel). t.stream == id) ts)
-    → OnOk result (after ≡ before ++ reset_dues id has) → OnOk result (EventTo setup ts (told.Reset id code) before after old old)
+    → OnOk result ((t : Option Tunnel) → has ≡ is_some t → after ≡ before ++ reset_acts id t) → OnOk result (EventTo setup ts (told.Reset id code) before after old old)
 reset_all setup ts id code has before after old (Err refused) has_is h = tt
 reset_all setup ts id code has before after old (Ok done) has_is h = was_reset setup ts id code has before after old old has_is h refl
 

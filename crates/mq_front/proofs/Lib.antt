@@ -3,4 +3,8 @@ pub mod Values
 pub mod Tables
 pub mod UdpPaths
 mod Asking
-pub mod Over
+mod OneStream
+mod Starts
+mod Sizes
+mod Apart
+mod Fronts

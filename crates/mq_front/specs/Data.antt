@@ -3,19 +3,14 @@ use Rattle.std.specs.Prelude.{◌≡◌, ℕ, Bool, true, false, List, ◌++◌,
 use Rattle.mq_capsule.specs.declared.item.Item.{Item}
 use Rattle.mq_capsule.specs.Items.{ItemsOf}
 use Rattle.mq_capsule.specs.Readers.{Stands, TellsBegun}
-use Rattle.mq_talk.specs.declared.goal.Goal.{Goal}
-use Rattle.mq_talk.specs.declared.goal.Goal.TheVariants as goal
 use Rattle.mq_talk.specs.declared.note.Why.{Why}
 use Rattle.mq_talk.specs.declared.note.Why.TheVariants as why
 use Rattle.mq_machine.specs.declared.act.Due.{Due}
 use Rattle.mq_machine.specs.declared.act.StreamAct.{StreamAct}
+pub use Rattle.mq_machine.specs.Lawful.{IsUdp}
 use Rattle.mq_machine.specs.Reading.{BytesAsk, on_stream, payload_count}
 use Rattle.mq_machine.specs.State.{Stream}
 use Rattle.mq_front.specs.declared.data.DataStream.{DataStream}
-
-abbrev pub IsUdp : Goal → Type 0
-IsUdp (goal.Udp addr port) = Unit {0}
-IsUdp (goal.Ip area protocol) = ⊥
 
 -- the data stream of a tunnel for UDP, whose bytes the reader was fed, and the number of its next payload
 pub record IsStream (d : DataStream) (s : Stream) : Type 0 where

@@ -1,14 +1,12 @@
 -- What the events of a read of HTTP/2 ask for, as it is put into the list of what is due.
-use Rattle.std.specs.Prelude.{◌≡◌, ◌⊎◌, ℕ, Bool, true, false, slice_set, List, [], ◌∷◌, ◌++◌}
+use Rattle.std.specs.Prelude.{◌≡◌, ◌⊎◌, ℕ, Bool, slice_set, List, [], ◌∷◌, ◌++◌}
 use Rattle.mq_addr.specs.declared.kind.Kind.TheVariants as kind
 use Rattle.mq_h2.specs.declared.event.StreamEvent as http2
 use Rattle.mq_h2.specs.Reading.{ReadTo}
 use Rattle.mq_h2.specs.Stand.{IsH2}
 use Rattle.mq_h2.specs.State as h2
 use Rattle.mq_talk.specs.declared.goal.Goal.{Goal}
-use Rattle.mq_talk.specs.declared.note.Why.TheVariants as why
 use Rattle.mq_machine.specs.declared.act.Act.TheVariants as act
-use Rattle.mq_machine.specs.declared.act.StreamAct.TheVariants as stream
 use Rattle.mq_machine.specs.declared.act.Due.{Due}
 use Rattle.mq_machine.specs.declared.act.Due.TheVariants as due
 use Rattle.mq_machine.specs.declared.setup.Setup.{Setup}
@@ -31,15 +29,6 @@ Contains id bytes ends before after old new =
 pub record Leads (id : ℕ) (goal : Goal) (ends : Bool) (before after : List Due) (old new : List DataStream) : Type 0 where
   pub after_is : after ≡ before ++ due.Do (act.Bind id goal) ∷ ended_acts id ends
   pub stand : (streams : List Stream) → IsUdp goal → AreStreams old streams → AreStreams new (streams ++ record { id = id; goal = goal; bytes = [] } ∷ [])
-
--- an error of a stream, with a tunnel or without, and its reset
-abbrev pub error_dues : ℕ → ℕ → Bool → List Due
-error_dues id code false = due.Do (act.Reset id code) ∷ []
-error_dues id code true = due.Do (act.OfStream id (stream.Close why.Malformed)) ∷ []
-
-abbrev pub reset_dues : ℕ → Bool → List Due
-reset_dues id false = []
-reset_dues id true = due.Do (act.OfStream id (stream.Close why.Reset)) ∷ []
 
 -- ---- what events ask for
 
@@ -73,7 +62,7 @@ EventsTo setup ts told before after old new =
     setup.udp.kind ≡ kind.Udp → (streams : List Stream) → AreStreams old streams → PutsAll setup ts told streams before after new
 
 -- the core's state and the data streams that a front stands for
-pub record IsFront (f : Http2) (h : h2.State) (streams : List Stream) : Type 0 where
+pub record IsHttp2 (f : Http2) (h : h2.State) (streams : List Stream) : Type 0 where
   pub core : IsH2 f.h2 h
   pub streams_are : AreStreams f.streams.items streams
 
@@ -87,4 +76,4 @@ pub record ReadsTo (setup : Setup) (ts : List Tunnel) (h : h2.State) (streams : 
 
 abbrev pub ReadsFrames : Setup → List Tunnel → List ℕ → List Due → List Due → Http2 → Http2 → Type 0
 ReadsFrames setup ts piece before after old new =
-    setup.udp.kind ≡ kind.Udp → (h : h2.State) (streams : List Stream) → IsFront old h streams → ReadsTo setup ts h streams piece before after new
+    setup.udp.kind ≡ kind.Udp → (h : h2.State) (streams : List Stream) → IsHttp2 old h streams → ReadsTo setup ts h streams piece before after new

@@ -1,12 +1,33 @@
 //! What is due, in order.
-ghost use Rattle.std.specs.Prelude.{◌≡◌, List, [], ◌∷◌, ◌++◌, ◌==◌, length, MatchOption, OnOk};
+ghost use Rattle.std.specs.Prelude.{◌≡◌, List, [], ◌∷◌, ◌++◌, ◌==◌, not, filter, length, MatchOption, OnOk};
+ghost use Rattle.mq_machine.specs.Done.{is_on};
 ghost use Rattle.mq_machine.specs.declared.act.Due.{Due};
+ghost use Rattle.mq_machine.specs.declared.act.Due.TheVariants.{Do};
 
-use mq_machine::Due;
+use mq_machine::{Act, Due};
 use mq_wire::NoMemory;
 use std::alloc::Global;
 use std::collections::VecDeque;
 use std::marker::Model;
+
+fn is_act_on(act: &Act, stream: u32) -> bool
+    ensures { result ≡ is_on stream (Do act.now) }
+{
+    match act {
+        Act::OfStream { stream: on, .. } => *on == stream,
+        _ => false,
+    }
+}
+
+/// Whether this is asked of the data stream of a stream.
+fn is_on(due: &Due, stream: u32) -> bool
+    ensures { result ≡ is_on stream due.now }
+{
+    match due {
+        Due::Do(act) => is_act_on(act, stream),
+        _ => false,
+    }
+}
 
 /// What the bytes of a connection ask for and isn't done.
 #[derive(Drop)]
@@ -60,6 +81,13 @@ impl Dues {
     {
         self.items.push_back(due)?;
         Ok(())
+    }
+
+    /// Nothing more is asked of a stream. Marks stay. Takes no memory.
+    pub fn forget(&mut self, stream: u32)
+        ensures { self.new ≡ filter (λ d. not (is_on stream d)) self.old }
+    {
+        self.items.retain(|due| !is_on(due, stream));
     }
 
     /// Nothing is due any more. Takes no memory.

@@ -1,10 +1,12 @@
 //! What an event of a connection of HTTP/2 asks for.
-ghost use Rattle.std.specs.Prelude.{◌≡◌, ◌++◌, List, OnOk, MatchOption};
+ghost use Rattle.std.specs.Prelude.{◌≡◌, ◌++◌, List, Option, OnOk, MatchOption};
+ghost use Rattle.std.specs.Option.{is_some};
 ghost use Rattle.mq_h2.specs.declared.event.StreamEvent.TheVariants as told;
 ghost use Rattle.mq_machine.specs.declared.setup.Setup.{Setup as Rules};
+ghost use Rattle.mq_machine.specs.Reading.{error_acts, reset_acts};
 ghost use Rattle.mq_machine.specs.State.{Tunnel};
 ghost use Rattle.mq_front.specs.declared.data.DataStream.{DataStream as Data};
-ghost use Rattle.mq_front.specs.Events.{Contains, EventTo, Leads, error_dues, reset_dues};
+ghost use Rattle.mq_front.specs.Events.{Contains, EventTo, Leads};
 ghost use Rattle.mq_front.specs.Streams.{HasNone, IsPlaceOf};
 
 use crate::data::DataStream;
@@ -120,7 +122,7 @@ fn request(
 
 /// An error of a stream: it closes the stream's tunnel, or is told where there is none.
 fn malformed(id: u32, code: u32, has_tunnel: bool, due: &mut Dues) -> Result<(), NoMemory>
-    ensures { OnOk result (due.new ≡ due.old ++ error_dues id code has_tunnel) }
+    ensures { OnOk result ((t : Option Tunnel) → has_tunnel ≡ is_some t → due.new ≡ due.old ++ error_acts id code t) }
 {
     let act = if has_tunnel {
         Act::OfStream {
@@ -137,7 +139,7 @@ fn malformed(id: u32, code: u32, has_tunnel: bool, due: &mut Dues) -> Result<(),
 
 /// The client reset a stream: its tunnel is to close.
 fn reset(id: u32, has_tunnel: bool, due: &mut Dues) -> Result<(), NoMemory>
-    ensures { OnOk result (due.new ≡ due.old ++ reset_dues id has_tunnel) }
+    ensures { OnOk result ((t : Option Tunnel) → has_tunnel ≡ is_some t → due.new ≡ due.old ++ reset_acts id t) }
 {
     if !has_tunnel {
         return Ok(());

@@ -1,14 +1,20 @@
 //! The front end of a connection of HTTP/2: its core, and the data streams of its requests.
-ghost use Rattle.std.specs.Prelude.{◌≡◌, ◌==◌, not, List, [], filter, OnOk, IfOk};
+ghost use Rattle.std.specs.Prelude.{◌≡◌, ◌==◌, ℕ, not, List, [], filter, OnOk, IfOk};
 ghost use Rattle.mq_h2.specs.State.{State, new_state};
+ghost use Rattle.mq_machine.specs.Http2.{grants, refuses, closes};
 ghost use Rattle.mq_machine.specs.State.{Stream};
-ghost use Rattle.mq_front.specs.Events.{IsFront, ReadsFrames, EventsTo};
+ghost use Rattle.mq_front.specs.Events.{IsHttp2, ReadsFrames, EventsTo};
+ghost use Rattle.mq_front.specs.Fronts.{OverFrames};
+ghost use Rattle.mq_front.specs.Parts.{PutsFrames, HasPutFrames};
 
 use crate::data::DataStream;
 use crate::dues::Dues;
 use crate::event::{Tunnels, ask};
-use mq_h2::{H2, StreamEvent};
+use crate::fields::{grant_fields, refusal_fields};
+use mq_h2::{CANCEL, CONNECT_ERROR, ENHANCE_YOUR_CALM, H2, PROTOCOL_ERROR, StreamEvent};
+use mq_hpack::{is_no_longer, is_one_text};
 use mq_machine::Setup;
+use mq_talk::Why;
 use mq_wire::NoMemory;
 use std::alloc::Global;
 
@@ -40,7 +46,7 @@ fn ask_all<T: Tunnels>(
 impl Http2 {
     /// A connection of which nothing behind the preface was read. It owes the server's SETTINGS (RFC 9113, section 3.4).
     pub fn new(alloc: Global) -> Result<Http2, NoMemory>
-        ensures { IfOk result (λ f. IsFront f new_state []) }
+        ensures { IfOk result (λ f. IsHttp2 f new_state []) }
     {
         Ok(Http2 {
             h2: H2::new(alloc)?,
@@ -74,15 +80,43 @@ impl Http2 {
 
     /// Nothing more is asked for by a data stream: its request was refused, or its tunnel closed. Takes no memory.
     pub fn forget(&mut self, stream: u32)
-        ensures { (h : State) (streams : List Stream) → IsFront self.old h streams → IsFront self.new h (filter (λ (s : Stream). not (s.id == stream)) streams) }
+        ensures { (h : State) (streams : List Stream) → IsHttp2 self.old h streams → IsHttp2 self.new h (filter (λ (s : Stream). not (s.id == stream)) streams) }
     {
         self.streams.retain(|d| d.id != stream);
     }
 
-    /// Nothing more is asked for by any: the connection is given up. Takes no memory.
-    pub fn forget_all(&mut self)
-        ensures { (h : State) (streams : List Stream) → IsFront self.old h streams → IsFront self.new h [] }
+    /// Puts the answer to a request that is granted (RFC 9298, section 3.5).
+    pub fn grant(&mut self, alloc: Global, stream: u32) -> Result<(), NoMemory>
+        ensures { (h : State) (streams : List Stream) (owed : List ℕ) → OverFrames self.old h streams owed → PutsFrames self.new result h (grants stream h) streams owed }
     {
-        self.streams.clear();
+        is_no_longer();
+        is_one_text();
+        let fields = grant_fields(alloc)?;
+        self.h2.respond(stream, fields.as_slice(), false)
+    }
+
+    /// Puts the answer to a request that is refused, which ends its stream.
+    pub fn refuse(&mut self, alloc: Global, stream: u32, status: u16) -> Result<(), NoMemory>
+        ensures { (h : State) (streams : List Stream) (owed : List ℕ) → OverFrames self.old h streams owed → PutsFrames self.new result h (refuses stream status h) streams owed }
+    {
+        is_no_longer();
+        is_one_text();
+        let fields = refusal_fields(alloc, status)?;
+        self.h2.respond(stream, fields.as_slice(), true)
+    }
+
+    /// Puts what the stream of a closed tunnel gets, of whose first capsule a part was framed or wasn't: its end, or its reset
+    /// with the error code of the reason (RFC 9113, section 7).
+    pub fn close(&mut self, stream: u32, begun: bool, why: Why)
+        ensures { (h : State) (streams : List Stream) (owed : List ℕ) → OverFrames self.old h streams owed → HasPutFrames self.new (closes stream begun why h) streams owed }
+    {
+        match why {
+            Why::End if !begun => self.h2.end_stream(stream),
+            Why::End => self.h2.reset(stream, CANCEL),
+            Why::Malformed | Why::Truncated => self.h2.reset(stream, PROTOCOL_ERROR),
+            Why::Port => self.h2.reset(stream, CONNECT_ERROR),
+            Why::Full => self.h2.reset(stream, ENHANCE_YOUR_CALM),
+            Why::Reset | Why::Conn => {}
+        }
     }
 }

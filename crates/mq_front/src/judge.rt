@@ -12,6 +12,7 @@ use mq_wire::NoMemory;
 use std::alloc::Global;
 
 /// What a request means.
+#[derive(Clone, Copy, Debug, PartialEq, Eq)]
 pub enum Verdict {
     /// A tunnel that leads there.
     Leads(Goal),
@@ -34,7 +35,7 @@ fn decided(decision: Decision) -> Verdict
 }
 
 /// What the path of a request for a UDP tunnel means.
-pub fn judge_udp(alloc: Global, setup: &Setup, path: &[u8]) -> Result<Verdict, NoMemory>
+fn judge_udp(alloc: Global, setup: &Setup, path: &[u8]) -> Result<Verdict, NoMemory>
     ensures { IfOk result (λ verdict. PathMeans setup.now Kind.Udp path.now (meaning_of verdict)) }
 {
     match setup.udp.matches(alloc, path)? {

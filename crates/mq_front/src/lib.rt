@@ -4,16 +4,21 @@
 mod data;
 mod dues;
 mod event;
+mod fields;
+mod finish;
+mod front;
+mod http1;
 mod http2;
 mod items;
 mod judge;
+mod opening;
+mod owed;
 mod request;
 
-pub use data::DataStream;
 pub use dues::Dues;
 pub use event::Tunnels;
-pub use http2::Http2;
-pub use judge::{Verdict, judge_path};
+pub use finish::Finish;
+pub use front::Front;
 
 #[cfg(test)]
 mod tests;

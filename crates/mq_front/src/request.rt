@@ -1,45 +1,17 @@
 //! What a request of HTTP/2 asks for: an extended CONNECT to a tunnel, or something that isn't served (RFC 8441, section 4; RFC
 //! 9298, section 3.4).
 ghost use Rattle.std.specs.Prelude.{◌≡◌, IfOk, option_map};
-ghost use Rattle.mq_h2.specs.Fields.{is_text, is_value, value_of};
 ghost use Rattle.mq_machine.specs.Http2.{kind_by, kind_of, path_of};
 ghost use Rattle.mq_machine.specs.Reading.{FieldsMean};
 ghost use Rattle.mq_front.specs.Meanings.{meaning_of};
 
 use crate::judge::{Verdict, judge_path};
 use mq_addr::Kind;
+use mq_h2::{is_connect, is_value, value_of};
 use mq_hpack::Field;
 use mq_machine::Setup;
 use mq_wire::NoMemory;
 use std::alloc::Global;
-
-#[tactic(auto, unfolding(mq_h2::specs::Fields::is_text))]
-fn is_text(text: &[u8], word: &[u8]) -> bool
-    ensures { result ≡ is_text text.now word.now }
-{
-    text == word
-}
-
-/// The value of the first field of a name.
-fn value_of<'a>(fields: &'a [Field], name: &[u8]) -> Option<&'a [u8]>
-    ensures { option_map (λ v. v.now) result ≡ value_of name.now fields.now }
-{
-    for field in fields {
-        if is_text(field.name.as_slice(), name) {
-            return Some(field.value.as_slice());
-        }
-    }
-    None
-}
-
-fn is_value(value: Option<&[u8]>, word: &[u8]) -> bool
-    ensures { result ≡ is_value (option_map (λ v. v.now) value.entry) word.now }
-{
-    match value {
-        Some(value) => is_text(value, word),
-        None => false,
-    }
-}
 
 /// The tunnel that a protocol is.
 fn kind_by(protocol: Option<&[u8]>) -> Option<Kind>
@@ -58,7 +30,7 @@ fn kind_by(protocol: Option<&[u8]>) -> Option<Kind>
 fn kind_of(fields: &[Field]) -> Option<Kind>
     ensures { result ≡ kind_of fields.now }
 {
-    if is_value(value_of(fields, b":method"), b"CONNECT") {
+    if is_connect(fields) {
         kind_by(value_of(fields, b":protocol"))
     } else {
         None

@@ -1,10 +1,11 @@
 //! What the frames of a client ask for, written as lines.
 
-use crate::{Dues, Http2, Tunnels};
+use crate::http2::Http2;
+use crate::{Dues, Finish, Front, Tunnels};
 use mq_addr::{Addr, Kind};
 use mq_machine::{Act, Due, Setup, StreamAct};
 use mq_policy::Policy;
-use mq_talk::Goal;
+use mq_talk::{End, Goal};
 use mq_target::Template;
 use std::alloc::Global;
 use std::test::Fail;
@@ -98,6 +99,24 @@ fn bytes(alloc: Global, hexed: &str) -> Result<Vec<u8>, Fail> {
     }
 }
 
+/// The lines of what is due.
+fn lines(alloc: Global, dues: &mut Dues) -> Result<String, Fail> {
+    let mut text = String::new(alloc);
+    for _ in 0..100 {
+        if let Some(due) = dues.pop() {
+            text.push_str(due_line(alloc, &due)?.as_str())?;
+        }
+    }
+    Ok(text)
+}
+
+/// What a piece asks for at a front.
+fn asked_of(alloc: Global, front: &mut Front, piece: &[u8]) -> Result<String, Fail> {
+    let mut dues = Dues::new(alloc);
+    front.read(alloc, &setup(alloc)?, &NoTunnel, piece, &mut dues)?;
+    lines(alloc, &mut dues)
+}
+
 /// What a piece asks for.
 fn told<T: Tunnels>(
     alloc: Global,
@@ -107,13 +126,7 @@ fn told<T: Tunnels>(
 ) -> Result<String, Fail> {
     let mut dues = Dues::new(alloc);
     front.read(alloc, &setup(alloc)?, tunnels, piece, &mut dues)?;
-    let mut text = String::new(alloc);
-    for _ in 0..100 {
-        if let Some(due) = dues.pop() {
-            text.push_str(due_line(alloc, &due)?.as_str())?;
-        }
-    }
-    Ok(text)
+    lines(alloc, &mut dues)
 }
 
 /// What a piece, given in hex, asks for.
@@ -263,6 +276,54 @@ fn every_cut_asks_for_the_same(rt: HostRuntime) -> Result<(), Fail> {
         let rest = told(alloc, &mut front, &NoTunnel, after)?;
         text.push_str(rest.as_str())?;
         assert_eq!(rt; text, format!(in alloc; "{want}")?);
+    }
+    Ok(())
+}
+
+/// The client's preface (RFC 9113, section 3.4).
+const PREFACE: &[u8; 24] = b"PRI * HTTP/2.0\r\n\r\nSM\r\n\r\n";
+
+/// The SETTINGS that a server owes at first: no more than 100 streams, no header list above 16,384 bytes, and extended CONNECT.
+const OWED: &str = "000012040000000000000300000064000600004000000800000001";
+
+#[test]
+fn preface_comes_in_any_two_pieces(rt: HostRuntime) -> Result<(), Fail> {
+    let alloc = rt.alloc();
+    let want = bytes(alloc, OWED)?;
+    for cut in 0..=PREFACE.len() {
+        let (before, after) = PREFACE.split_at(cut);
+        let mut front = Front::new();
+        let first = asked_of(alloc, &mut front, before)?;
+        assert_eq!(rt; first, String::new(alloc));
+        if cut < PREFACE.len() {
+            assert_eq!(rt; front.owed().len(), 0);
+        }
+        let second = asked_of(alloc, &mut front, after)?;
+        assert_eq!(rt; second, String::new(alloc));
+        assert_eq!(rt; front.owed(), want.as_slice());
+        assert_eq!(rt; front.finish(), Finish::Ends(End::Done));
+    }
+    Ok(())
+}
+
+#[test]
+fn other_requests_of_http1_are_refused(rt: HostRuntime) -> Result<(), Fail> {
+    let alloc = rt.alloc();
+    let rows = [
+        // the preface up to its version
+        ("PRI * HTTP/1.1\r\n\r\n", "0 refuse 400 0\n"),
+        ("GET / HTTP/1.1\r\nHost: a\r\n\r\n", "0 refuse 501 0\n"),
+    ];
+    for (head, want) in rows {
+        for cut in 0..head.len() {
+            let (before, after) = head.as_bytes().split_at(cut);
+            let mut front = Front::new();
+            let first = asked_of(alloc, &mut front, before)?;
+            assert_eq!(rt; first, String::new(alloc));
+            let second = asked_of(alloc, &mut front, after)?;
+            assert_eq!(rt; second, format!(in alloc; "{want}")?);
+            assert_eq!(rt; front.refusal_end(), Some(End::Refused));
+        }
     }
     Ok(())
 }

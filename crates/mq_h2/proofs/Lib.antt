@@ -7,6 +7,8 @@ pub mod Draining
 pub mod Search
 pub mod Telling
 pub mod Whole
+pub mod Apart
+pub mod AskedOnce
 pub mod Phases
 pub mod Rooms
 pub mod OneRead

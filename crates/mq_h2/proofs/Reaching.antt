@@ -1,15 +1,15 @@
 -- What each call leads to is reached.
-use Rattle.std.proofs.Common.{◌≡◌, ℕ, ◌+◌, ◌^◌, ◌<◌, ◌≤◌, List, length, true}
-use Rattle.mq_streams.specs.History.{total, arrived_on, consumed_on, is_live}
+use Rattle.std.proofs.Common.{◌≡◌, ℕ, ◌+◌, ◌^◌, ◌<◌, ◌≤◌, List, length, take}
+use Rattle.mq_streams.specs.History.{total, arrived_on, consumed_on}
 use Rattle.mq_h2.specs.State.{State, new_state, owed}
-use Rattle.mq_h2.specs.Acts.{SendsData, ends_stream, resets_stream, where_live, consumes, ends_act, writes}
+use Rattle.mq_h2.specs.Acts.{data_room, sends, ends_stream, resets_stream, where_live, consumes, ends_act, writes}
 use Rattle.mq_h2.specs.Reached.{IsReached, when_new, by_sending, by_ending, by_resetting, by_consuming, by_ending_act, by_writing}
 
 pub as_new : IsReached new_state
 as_new = when_new
 
-pub sent : (id : ℕ) (bytes : List ℕ) (count : ℕ) (s t : State) → IsReached s → is_live id s.history ≡ true → SendsData id bytes count s t → IsReached t
-sent id bytes count s t is lives does = by_sending id bytes count s t is lives does
+pub sent : (id : ℕ) (bytes : List ℕ) (count : ℕ) (s : State) → IsReached s → count ≡ data_room id (length bytes) s → IsReached (where_live id (sends id (take count bytes)) s)
+sent id bytes count s is few = by_sending id bytes count s is few
 
 pub ended : (id : ℕ) (s : State) → IsReached s → IsReached (where_live id (ends_stream id) s)
 ended id s is = by_ending id s is

@@ -1,20 +1,21 @@
 -- What a response leads to is stood for.
-use Rattle.std.proofs.Common.{◌≡◌, ℕ, Bool, true, false, List, ◌++◌, None, Result, Ok, Err, refl, sym, ap, subst, ◌∙◌}
-use Rattle.std.specs.Prelude.{MatchResult, IsTrue}
+use Rattle.std.proofs.Common.{◌≡◌, ℕ, Bool, true, false, cond, List, ◌++◌, None, Result, Ok, Err, refl, sym, ap, subst, ◌∙◌}
+use Rattle.std.specs.Prelude.{MatchResult}
 use Rattle.mq_wire.specs.declared.NoMemory as wire
 use Rattle.mq_frame.specs.Readers.{Stands}
 use Rattle.mq_frame.specs.declared.frame.Frame.TheVariants as frame
 use Rattle.mq_frame.specs.Writing.{spelling_of}
 use Rattle.mq_hpack.specs.declared.field.Field.{Field}
 use Rattle.mq_hpack.specs.Table.{Table}
+use Rattle.mq_hpack.specs.Writing.{block_text}
 use Rattle.mq_streams.specs.History.{is_live}
 use Rattle.mq_h2.specs.declared.parts.Core.{Core}
 use Rattle.mq_h2.specs.declared.h2.H2.{H2}
 use Rattle.mq_h2.specs.declared.h2.Phase.{Phase}
 use Rattle.mq_h2.specs.declared.h2.Phase.TheVariants.{Reading, Ended, Spent}
-use Rattle.mq_h2.specs.Acts.{ends_if, Responds, FitsFrame}
+use Rattle.mq_h2.specs.Acts.{ends_if, responds, where_live, FitsFrame}
 use Rattle.mq_h2.specs.Doing.{Keeps, IsReady, Responded}
-use Rattle.mq_h2.specs.Reached.{by_responding}
+use Rattle.mq_h2.specs.Reached.{IsReached, by_responding}
 use Rattle.mq_h2.specs.Stand.{Serves, IsPhase, IsH2}
 use Rattle.mq_h2.specs.State.{State}
 use Rattle.mq_h2.proofs.Phases.{serves_of}
@@ -55,21 +56,26 @@ ends_alike : (end : Bool) (id : ℕ) (s : State) → ReadsAlike s (ends_if end i
 ends_alike true id s = record { read = refl; table = refl; block = refl; ended = refl }
 ends_alike false id s = record { read = refl; table = refl; block = refl; ended = refl }
 
+live_alike : (lives : Bool) (s t : State) → ReadsAlike s t → ReadsAlike s (cond lives t s)
+live_alike true s t alike = alike
+live_alike false s t alike = record { read = refl; table = refl; block = refl; ended = refl }
+
+live_reached : (lives : Bool) (id : ℕ) (fields : List Field) (end : Bool) (s : State) → is_live id s.history ≡ lives → IsReached s → FitsFrame fields s → IsReached (cond lives (responds id fields end s) s)
+live_reached true id fields end s lives is few = by_responding id fields end s is lives few
+live_reached false id fields end s lives is few = is
+
 pub responded : (v : H2) (core : Core) (id : ℕ) (fields : List Field) (end : Bool) (s : State) (r : Result (Unit {0}) wire.NoMemory)
-    → IsH2 v s → IsTrue (is_live id s.history) → FitsFrame fields s → Keeps v.core core → Responded id fields end s r core
-    → MatchResult r (λ _. (t : State) × Responds id fields end s t × IsH2 (record v { core = core }) t) (λ _. IsH2 (record v { core = core }) s)
-responded v core id fields end s (Ok done) is lives few keeps now =
-    let t : State = now.0 in
-    let block : List ℕ = now.1.0 in
+    → IsH2 v s → FitsFrame fields s → Keeps v.core core → Responded id fields end s r core
+    → MatchResult r (λ _. IsH2 (record v { core = core }) (where_live id (responds id fields end) s)) (λ _. IsH2 (record v { core = core }) s)
+responded v core id fields end s (Ok done) is few keeps now =
+    let block : List ℕ = block_text s.owes_limit fields in
+    let t : State = where_live id (responds id fields end) s in
     let m : State = record s { out = s.out ++ spelling_of (frame.Headers id block end true); owes_limit = false } in
     let same = ends_alike end id m in
-    let alike : ReadsAlike s t = subst (λ (u : State). ReadsAlike s u) (sym now.1.2) (record { read = same.read; table = same.table; block = same.block; ended = same.ended }) in (
-      t,
-      now.1,
-      record {
-        phase = phase_kept v.phase v core s t is.phase keeps now.2.serves alike;
-        room = now.2.room;
-        reached = by_responding id fields end s t is.reached lives few now.1;
-      },
-    )
-responded v core id fields end s (Err refused) is lives few keeps now = h2_kept v core s is keeps now
+    let alike : ReadsAlike s t = live_alike (is_live id s.history) s (responds id fields end s) (record { read = same.read; table = same.table; block = same.block; ended = same.ended }) in
+    record {
+      phase = phase_kept v.phase v core s t is.phase keeps now.serves alike;
+      room = now.room;
+      reached = live_reached (is_live id s.history) id fields end s refl is.reached few;
+    }
+responded v core id fields end s (Err refused) is few keeps now = h2_kept v core s is keeps now

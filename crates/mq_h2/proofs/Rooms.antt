@@ -142,10 +142,11 @@ pub data_len : (id : ℕ) (bytes : List ℕ) → length (spelling_of (frame.Cont
 unfolding spelling_of
 data_len id bytes = length-append (header_text (length bytes) kinds.Data 0 id) bytes
 
--- the least of four numbers
-least : (count n m a b : ℕ) → count ≡ min (min n m) (min a b) → (count ≤ a) × (count ≤ b) × (count ≤ m) × (count ≤ n)
-least count n m a b e = (omega arith, omega arith, omega arith, omega arith)
+-- the least of four numbers, or 0
+least : (lives : Bool) (n m a b : ℕ) → let count = cond lives (min (min n m) (min a b)) 0 in (count ≤ a) × (count ≤ b) × (count ≤ m) × (count ≤ n)
+least true n m a b = (omega arith, omega arith, omega arith, omega arith)
+least false n m a b = (omega arith, omega arith, omega arith, omega arith)
 
 -- DATA that is sent is within its rooms
 pub sends_within : SendsWithin
-sends_within id bytes count s t is = least count (length bytes) 16384 (send_window id s.history) (connection_send_window s.history) is.0
+sends_within id size s = least (is_live id s.history) size 16384 (send_window id s.history) (connection_send_window s.history)

@@ -1,5 +1,5 @@
 -- In each state that reads and acts lead to, the frames that were put are read back.
-use Rattle.std.proofs.Common.{◌≡◌, ℕ, ◌+◌, ◌^◌, ◌<◌, ◌≤◌, Bool, true, false, cond, eqb, ltb, List, [], ◌∷◌, ◌++◌, length, take, Option, Some, None, Result, Ok, Err, refl, sym, ap, subst, ◌∙◌, inl, inr, arith}
+use Rattle.std.proofs.Common.{◌≡◌, ℕ, ◌+◌, ◌^◌, ◌<◌, ◌≤◌, Bool, true, false, cond, eqb, ltb, List, [], ◌∷◌, ◌++◌, length, take, Option, Some, None, Result, Ok, Err, refl, sym, subst, inl, inr, arith}
 use Rattle.std.specs.Prelude.{find, option_map, nat_le}
 use Rattle.std.specs.List.{All, AllByRecursion}
 use Rattle.std.proofs.lemmas.Bool.{eq-eqb, eqb-false, leb-true}
@@ -16,6 +16,7 @@ use Rattle.mq_hpack.specs.declared.field.Field.{Field}
 use Rattle.mq_hpack.specs.declared.fault.HpackFault.{HpackFault}
 use Rattle.mq_hpack.specs.declared.fault.HpackFault.TheVariants as fault
 use Rattle.mq_hpack.specs.Table.{Table}
+use Rattle.mq_hpack.specs.Writing.{block_text}
 use Rattle.mq_streams.specs.History.{Event, History, Opened, TurnedAway, Consumed, GivenBack, Extended, Shifted, Sent, Finished, Dropped, total, arrived_on, arrived, consumed_on, consumed, highest, live, is_live, has_finished}
 use Rattle.mq_streams.specs.Stand.{ConsumesWhatCame}
 use Rattle.mq_streams.specs.Answers.{begun, is_idle, count_of, after_count, grant_of, next_update, to_give_back, connection_to_give_back, can_shift}
@@ -28,7 +29,7 @@ use Rattle.mq_streams.specs.declared.answers.Granted.TheVariants as granted
 use Rattle.mq_h2.specs.declared.block.OpenBlock.{OpenBlock}
 use Rattle.mq_h2.specs.declared.event.StreamEvent.{StreamEvent}
 use Rattle.mq_h2.specs.declared.event.StreamEvent.TheVariants.{Request, Malformed, Content, Reset, ConnectionError}
-use Rattle.mq_h2.specs.Acts.{ending_text, ends, ends_if, FitsFrame, Responds, SendsData, ends_stream, resets_stream, where_live, consumes, gives_back, updates, ends_act, writes}
+use Rattle.mq_h2.specs.Acts.{ending_text, ends, ends_if, FitsFrame, responds, data_room, sends, ends_stream, resets_stream, where_live, consumes, gives_back, updates, ends_act, writes}
 use Rattle.mq_h2.specs.Codes.{max_block, fault_code, own_settings}
 use Rattle.mq_h2.specs.Fields.{is_malformed}
 use Rattle.mq_h2.specs.State.{State, new_state, put, owed}
@@ -298,28 +299,28 @@ ends_if_sound : (end : Bool) (id : ℕ) (s : State) → IsStream id → Sound s 
 ends_if_sound true id s on is = ends_sound id s on is
 ends_if_sound false id s on is = is
 
-respond_sound : (id : ℕ) (fields : List Field) (end : Bool) (s t : State) → IsStream id → FitsFrame fields s → Sound s → Responds id fields end s t → Sound t
-respond_sound id fields end s t on few is does =
-    let block : List ℕ = does.0 in
+respond_sound : (id : ℕ) (fields : List Field) (end : Bool) (s : State) → IsStream id → FitsFrame fields s → Sound s → Sound (responds id fields end s)
+respond_sound id fields end s on few is =
+    let block : List ℕ = block_text s.owes_limit fields in
     let m : State = record s { out = s.out ++ spelling_of (frame.Headers id block end true); owes_limit = false } in
-    subst (λ (u : State). Sound u) (sym does.2)
-    (ends_if_sound end id m on (puts (frame.Headers id block end true) s.history s.block s.out is (own_headers id block end on (few block does.1))))
+    ends_if_sound end id m on (puts (frame.Headers id block end true) s.history s.block s.out is (own_headers id block end on few))
 
 if_sound : (b : Bool) (x y : State) → (b ≡ true → Sound x) → Sound y → Sound (cond b x y)
 if_sound true x y a c = a refl
 if_sound false x y a c = c
 
-send_sound : (within : SendsWithin) (id : ℕ) (bytes : List ℕ) (count : ℕ) (s t : State) → IsStream id → Sound s → SendsData id bytes count s t → Sound t
-send_sound within id bytes count s t on is does =
-    let rooms = within id bytes count s t does in
+send_sound : (within : SendsWithin) (id : ℕ) (bytes : List ℕ) (count : ℕ) (s : State) → IsStream id → Sound s → count ≡ data_room id (length bytes) s → Sound (sends id (take count bytes) s)
+send_sound within id bytes count s on is room =
+    let rooms = within id (length bytes) s in
     let piece : List ℕ = take count bytes in
-    let len : length piece ≡ count = length-take-le count bytes rooms.3 in
-    let few : length piece ≤ max_frame_size = omega (arith, len, rooms.2) in
+    let fits : count ≤ length bytes = subst (λ (n : ℕ). n ≤ length bytes) (sym room) rooms.3 in
+    let small : count ≤ max_frame_size = subst (λ (n : ℕ). n ≤ max_frame_size) (sym room) rooms.2 in
+    let len : length piece ≡ count = length-take-le count bytes fits in
+    let few : length piece ≤ max_frame_size = omega (arith, len, small) in
     let f : Frame = frame.Content id piece (length piece) false in
     let put : AreSound s.history s.block (s.out ++ spelling_of f) = puts f s.history s.block s.out is (own_data id piece false on few) in
-    subst (λ (u : State). Sound u) (sym does.1)
-    (if_sound (ltb 0 (length piece)) _ s
-    (λ some. happened (Sent id (length piece)) s.history s.block _ put tt (without_data (Sent id (length piece)) s.history refl (λ n. refl) is.flow.came is.flow)) is)
+    if_sound (ltb 0 (length piece)) _ s
+    (λ some. happened (Sent id (length piece)) s.history s.block _ put tt (without_data (Sent id (length piece)) s.history refl (λ n. refl) is.flow.came is.flow)) is
 
 end_sound : (id : ℕ) (s : State) → Sound s → Sound (where_live id (ends_stream id) s)
 end_sound id s is =
@@ -424,14 +425,16 @@ module _ (bounds : StaysBounded) (fields : FitsFields) (all_within : (h : Histor
   reached_sound : {s : State} → IsReached s → IsSound s
   reached_sound when_new = record { bytes = All-nil (λ b. b < 2 ^ 8); sound = new_sound }
   reached_sound (by_reading s piece events t is bytes does) = while_sound s.ended s piece events t bytes (reached_sound is) does
-  reached_sound (by_responding id asked end s t is lives few does) =
+  reached_sound (by_responding id asked end s is lives few) =
       let was = reached_sound is in
-      let m : State = record s { out = s.out ++ spelling_of (frame.Headers id does.0 end true); owes_limit = false } in
-      acted s t (ap (λ (u : State). u.read) does.2 ∙ ends_if_read end id m) was (respond_sound id asked end s t (live_stream id s.history was.sound.ids lives) few was.sound does)
-  reached_sound (by_sending id bytes count s t is lives does) =
+      let m : State = record s { out = s.out ++ spelling_of (frame.Headers id (block_text s.owes_limit asked) end true); owes_limit = false } in
+      acted s (responds id asked end s) (ends_if_read end id m) was (respond_sound id asked end s (live_stream id s.history was.sound.ids lives) few was.sound)
+  reached_sound (by_sending id bytes count s is room) =
       let was = reached_sound is in
-      acted s t (ap (λ (u : State). u.read) does.1 ∙ read_if (ltb 0 (length (take count bytes))) s _ s refl refl) was
-      (send_sound sends_within id bytes count s t (live_stream id s.history was.sound.ids lives) was.sound does)
+      let t : State = sends id (take count bytes) s in
+      acted s (where_live id (sends id (take count bytes)) s)
+      (read_if (is_live id s.history) s t s (read_if (ltb 0 (length (take count bytes))) s _ s refl refl) refl) was
+      (if_sound (is_live id s.history) t s (λ lives. send_sound sends_within id bytes count s (live_stream id s.history was.sound.ids lives) was.sound room) was.sound)
   reached_sound (by_ending id s is) =
       let was = reached_sound is in
       acted s (where_live id (ends_stream id) s) (read_if (is_live id s.history) s (ends_stream id s) s refl refl) was (end_sound id s was.sound)

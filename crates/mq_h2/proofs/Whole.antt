@@ -1,5 +1,5 @@
 -- What each thing that is done puts for writing is whole frames.
-use Rattle.std.proofs.Common.{◌≡◌, ℕ, Bool, true, false, cond, eqb, ltb, List, [], ◌∷◌, ◌++◌, length, take, Option, Some, None, Result, Ok, Err, refl, sym, ap, subst, ◌∙◌, inl, inr}
+use Rattle.std.proofs.Common.{◌≡◌, ℕ, Bool, true, false, cond, eqb, ltb, List, [], ◌∷◌, ◌++◌, length, Option, Some, None, Result, Ok, Err, refl, sym, ap, subst, ◌∙◌, inl, inr}
 use Rattle.std.specs.List.{flat_map}
 use Rattle.std.proofs.lemmas.List.{append-nil, append_assoc}
 use Rattle.std.proofs.lemmas.Grind.{flat_map-append}
@@ -10,6 +10,7 @@ use Rattle.mq_frame.specs.Writing.{spelling_of}
 use Rattle.mq_hpack.specs.declared.field.Field.{Field}
 use Rattle.mq_hpack.specs.declared.fault.HpackFault.{HpackFault}
 use Rattle.mq_hpack.specs.Table.{Table}
+use Rattle.mq_hpack.specs.Writing.{block_text}
 use Rattle.mq_streams.specs.History.{History, is_live, has_finished, Dropped, Opened, TurnedAway}
 use Rattle.mq_streams.specs.Answers.{is_idle, begun, count_of, after_count, grant_of, next_update}
 use Rattle.mq_streams.specs.declared.answers.Began.{Began}
@@ -21,7 +22,7 @@ use Rattle.mq_streams.specs.declared.answers.Granted.TheVariants as granted
 use Rattle.mq_h2.specs.declared.block.OpenBlock.{OpenBlock}
 use Rattle.mq_h2.specs.declared.event.StreamEvent.{StreamEvent}
 use Rattle.mq_h2.specs.declared.event.StreamEvent.TheVariants.{Request, Reset}
-use Rattle.mq_h2.specs.Acts.{ending_text, ends, ends_if, Responds, sends, SendsData, ends_stream, resets_stream, where_live, gives_back, updates, ends_act}
+use Rattle.mq_h2.specs.Acts.{ending_text, ends, ends_if, responds, sends, ends_stream, resets_stream, where_live, gives_back, updates, ends_act}
 use Rattle.mq_h2.specs.Codes.{max_block, fault_code}
 use Rattle.mq_h2.specs.Fields.{is_malformed}
 use Rattle.mq_h2.specs.State.{State, put, owed}
@@ -174,12 +175,12 @@ ends_if_put : (end : Bool) (id : ℕ) (s : State) → PutsFrames s (ends_if end 
 ends_if_put true id s = ends_put id s
 ends_if_put false id s = none s s refl
 
-pub respond_puts : (id : ℕ) (fields : List Field) (end : Bool) (s t : State) → Responds id fields end s t → PutsFrames s t
-respond_puts id fields end s t is =
-    let block : List ℕ = is.0 in
+pub respond_puts : (id : ℕ) (fields : List Field) (end : Bool) (s : State) → PutsFrames s (responds id fields end s)
+respond_puts id fields end s =
+    let block : List ℕ = block_text s.owes_limit fields in
     let f : Frame = frame.Headers id block end true in
     let m : State = record s { out = s.out ++ spelling_of f; owes_limit = false } in
-    subst (λ (u : State). PutsFrames s u) (sym is.2) (both s m (ends_if end id m) (one f s m refl) (ends_if_put end id m))
+    both s m (ends_if end id m) (one f s m refl) (ends_if_put end id m)
 
 if_state : (b : Bool) (s x y : State) → PutsFrames s x → PutsFrames s y → PutsFrames s (cond b x y)
 if_state true s x y a c = a
@@ -190,8 +191,8 @@ sends_put id bytes s =
     let f : Frame = frame.Content id bytes (length bytes) false in
     if_state (ltb 0 (length bytes)) s _ s (one f s _ refl) (none s s refl)
 
-pub send_puts : (id : ℕ) (bytes : List ℕ) (count : ℕ) (s t : State) → SendsData id bytes count s t → PutsFrames s t
-send_puts id bytes count s t is = subst (λ (u : State). PutsFrames s u) (sym is.1) (sends_put id (take count bytes) s)
+pub send_puts : (id : ℕ) (bytes : List ℕ) (s : State) → PutsFrames s (where_live id (sends id bytes) s)
+send_puts id bytes s = if_state (is_live id s.history) s (sends id bytes s) s (sends_put id bytes s) (none s s refl)
 
 pub end_puts : (id : ℕ) (s : State) → PutsFrames s (where_live id (ends_stream id) s)
 end_puts id s =

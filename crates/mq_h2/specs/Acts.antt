@@ -1,10 +1,10 @@
 -- What the server does on a connection of HTTP/2 beside reading.
-use Rattle.std.specs.Prelude.{◌≡◌, ℕ, ◌+◌, ◌≤◌, List, [], ◌∷◌, ◌++◌, length, take, min, Option, Some, None, Bool, true, false, nat_lt, if◌then◌else◌}
+use Rattle.std.specs.Prelude.{ℕ, ◌+◌, ◌≤◌, List, [], ◌∷◌, ◌++◌, length, min, Option, Some, None, Bool, true, false, nat_lt, if◌then◌else◌}
 use Rattle.mq_frame.specs.declared.frame.Frame.TheVariants as frame
 use Rattle.mq_frame.specs.Numbers.{max_frame_size}
 use Rattle.mq_frame.specs.Writing.{spelling_of}
 use Rattle.mq_hpack.specs.declared.field.Field.{Field}
-use Rattle.mq_hpack.specs.Encoder.{IsEncoded}
+use Rattle.mq_hpack.specs.Writing.{block_text}
 use Rattle.mq_streams.specs.History.{Sent, Consumed, GivenBack, Dropped, is_live, has_finished}
 use Rattle.mq_streams.specs.Answers.{room_of, next_update}
 use Rattle.mq_h2.specs.Codes.{no_error}
@@ -28,16 +28,20 @@ with_headers id block end s =
     ends_if end id (record s { out = s.out ++ spelling_of (frame.Headers id block end true); owes_limit = false })
 
 -- a response, whose block is that of these fields (section 8.1)
-abbrev pub Responds : ℕ → List Field → Bool → State → State → Type 0
-Responds id fields end s t = (block : List ℕ) × IsEncoded s.owes_limit fields block × (t ≡ with_headers id block end s)
+abbrev pub responds : ℕ → List Field → Bool → State → State
+responds id fields end s = with_headers id (block_text s.owes_limit fields) end s
 
 -- the block fits a frame
 abbrev pub FitsFrame : List Field → State → Type 0
-FitsFrame fields s = (block : List ℕ) → IsEncoded s.owes_limit fields block → length block ≤ max_frame_size
+FitsFrame fields s = length (block_text s.owes_limit fields) ≤ max_frame_size
 
--- how many of so many bytes the next DATA frame has
+-- how many of so many bytes the next DATA frame of a live stream has
 abbrev pub frame_room : ℕ → ℕ → State → ℕ
 frame_room id count s = min (min count max_frame_size) (room_of id s.history)
+
+-- how many of so many bytes one DATA frame of this stream can have now
+abbrev pub data_room : ℕ → ℕ → State → ℕ
+data_room id size s = if is_live id s.history then frame_room id size s else 0
 
 -- DATA with these bytes, where there are some
 abbrev pub sends : ℕ → List ℕ → State → State
@@ -45,9 +49,6 @@ sends id bytes s =
     if nat_lt 0 (length bytes)
     then record s { out = s.out ++ spelling_of (frame.Content id bytes (length bytes) false); history = Sent id (length bytes) ∷ s.history }
     else s
-
-abbrev pub SendsData : ℕ → List ℕ → ℕ → State → State → Type 0
-SendsData id bytes count s t = (count ≡ frame_room id (length bytes) s) × (t ≡ sends id (take count bytes) s)
 
 -- empty DATA with END_STREAM
 abbrev pub ends_stream : ℕ → State → State

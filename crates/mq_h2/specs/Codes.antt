@@ -16,8 +16,14 @@ flow_control_error = 3
 abbrev pub refused_stream : ℕ
 refused_stream = 7
 
+abbrev pub cancel : ℕ
+cancel = 8
+
 abbrev pub compression_error : ℕ
 compression_error = 9
+
+abbrev pub connect_error : ℕ
+connect_error = 10
 
 abbrev pub enhance_your_calm : ℕ
 enhance_your_calm = 11

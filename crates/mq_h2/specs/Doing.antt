@@ -1,5 +1,5 @@
 -- What the functions that do what frames do answer.
-use Rattle.std.specs.Prelude.{◌≡◌, ℕ, ◌+◌, ◌*◌, ◌≤◌, ◌==◌, List, [], ◌∷◌, ◌++◌, length, vec_len, vec_capacity, Option, Some, None, Result, Ok, Err, Bool, true, false}
+use Rattle.std.specs.Prelude.{◌≡◌, ℕ, ◌+◌, ◌*◌, ◌≤◌, ◌==◌, List, [], ◌∷◌, ◌++◌, length, take, vec_len, vec_capacity, Option, Some, None, Result, Ok, Err, Bool, true, false}
 use Rattle.std.specs.List.{list_any}
 use Rattle.mq_hpack.specs.declared.fault.HpackFault.{HpackFault}
 use Rattle.mq_hpack.specs.declared.fault.HpackFault.TheVariants as fault
@@ -15,7 +15,7 @@ use Rattle.mq_h2.specs.declared.h2.Phase.TheVariants.{Reading, Ended}
 use Rattle.mq_h2.specs.declared.read.Read.{Read}
 use Rattle.mq_h2.specs.declared.stop.Stop.{Stop}
 use Rattle.mq_h2.specs.declared.stop.Stop.TheVariants.{Connection, NoMemory}
-use Rattle.mq_h2.specs.Acts.{Responds, SendsData}
+use Rattle.mq_h2.specs.Acts.{responds, data_room, sends, where_live}
 use Rattle.mq_h2.specs.Codes.{fault_code}
 use Rattle.mq_h2.specs.State.{State, with_history}
 use Rattle.mq_h2.specs.Frames.{Did, breaks, DoAll}
@@ -114,14 +114,14 @@ pub record CanClose (id : ℕ) (c : Core) (s : State) : Type 0 where
   pub room : vec_len c.owed.bytes + 13 + end_room * length (live (Dropped id ∷ s.history)) ≤ vec_capacity c.owed.bytes
   pub least : least_room ≤ vec_capacity c.owed.bytes
 
--- a response was put, or not
+-- a response was put where the stream is live, or not
 abbrev pub Responded : ℕ → List Field → Bool → State → Result (Unit {0}) wire.NoMemory → Core → Type 0
-Responded id fields end s (Ok done) c = (t : State) × Responds id fields end s t × IsReady c t
+Responded id fields end s (Ok done) c = IsReady c (where_live id (responds id fields end) s)
 Responded id fields end s (Err refused) c = IsReady c s
 
 -- DATA was put, or not
 abbrev pub SentData : ℕ → List ℕ → State → Result ℕ wire.NoMemory → Core → Type 0
-SentData id bytes s (Ok count) c = (t : State) × SendsData id bytes count s t × IsReady c t
+SentData id bytes s (Ok count) c = (count ≡ data_room id (length bytes) s) × IsReady c (where_live id (sends id (take count bytes)) s)
 SentData id bytes s (Err refused) c = IsReady c s
 
 -- the frames of a read were done, and what they told that lasts; there is room for the end of each stream

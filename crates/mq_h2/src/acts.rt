@@ -1,10 +1,11 @@
 //! What the server does beside reading.
-ghost use Rattle.std.specs.Prelude.{◌≡◌, ◌≤◌, ◌+◌, length, true, false, vec_len, vec_capacity, IsTrue};
+ghost use Rattle.std.specs.Prelude.{◌≡◌, ◌≤◌, ◌+◌, ◌++◌, length, take, true, false, vec_len, vec_capacity, IsTrue, if◌then◌else◌};
 ghost use Rattle.mq_frame.specs.declared.frame.Frame.TheVariants.{Content, Headers};
 ghost use Rattle.mq_frame.specs.Numbers.{max_frame_size};
 ghost use Rattle.mq_frame.specs.Writing.{spelling_of};
+ghost use Rattle.mq_streams.specs.Answers.{room_of};
 ghost use Rattle.mq_streams.specs.History.{total, arrived_on, consumed_on, is_live, has_finished};
-ghost use Rattle.mq_h2.specs.Acts.{ending_text, ends, ends_stream, resets_stream, where_live, FitsFrame, consumes, ends_act, writes};
+ghost use Rattle.mq_h2.specs.Acts.{ending_text, ends, data_room, ends_stream, resets_stream, where_live, FitsFrame, consumes, ends_act, writes};
 ghost use Rattle.mq_h2.specs.State.{State, owed};
 ghost use Rattle.mq_h2.specs.Stand.{Serves};
 ghost use Rattle.mq_h2.specs.Doing.{Keeps, PutsWithin, CanClose, IsReady, Responded, SentData};
@@ -23,13 +24,27 @@ const MAX_FRAME: usize = 16_384;
 /// The bytes of a frame's header.
 const HEADER: usize = 9;
 
+/// The first so many bytes of two slices that lie one behind the other.
+fn first_of<'a>(front: &'a [u8], rest: &'a [u8], count: usize) -> (&'a [u8], &'a [u8])
+    ensures { result.0.now ++ result.1.now ≡ take count (front.now ++ rest.now) }
+{
+    let of_front = count.min(front.len());
+    let of_rest = (count - of_front).min(rest.len());
+    let (front, _) = front.split_at(of_front);
+    let (rest, _) = rest.split_at(of_rest);
+    (front, rest)
+}
+
 impl Core {
-    /// Puts a response on a live stream. With `end` the stream is closed.
+    /// Puts a response on a stream, where it is live. With `end` it is closed.
     pub fn respond(&mut self, stream: u32, fields: &[Field], end: bool) -> Result<(), NoMemory>
-        ensures acts { (s : State) → IsReady self.old s → IsTrue (is_live stream s.history) → FitsFrame fields.now s → Responded stream fields.now end s result self.new }
+        ensures acts { (s : State) → IsReady self.old s → FitsFrame fields.now s → Responded stream fields.now end s result self.new }
         ensures keeps { Keeps self.old self.new }
     {
         few_are_live();
+        if !self.streams.is_live(stream) {
+            return Ok(());
+        }
         self.owed.reserve(HEADER + MAX_FRAME + FOR_ENDS)?;
         let block = self.encoder.block(fields)?;
         self.put_headers(stream, block.as_slice(), end);
@@ -53,13 +68,13 @@ impl Core {
     }
 
     /// Puts DATA with these bytes, for which there is room.
-    fn put_data(&mut self, stream: u32, bytes: &[u8])
-        requires { length bytes.now ≤ max_frame_size }
-        ensures puts { vec_len self.old.owed.bytes + (9 + length bytes.now) ≤ vec_capacity self.old.owed.bytes
-            → PutsWithin (spelling_of (Content stream bytes.now (length bytes.now) false)) self.old self.new }
+    fn put_data(&mut self, stream: u32, front: &[u8], rest: &[u8])
+        requires { length front.now + length rest.now ≤ max_frame_size }
+        ensures puts { vec_len self.old.owed.bytes + (9 + length (front.now ++ rest.now)) ≤ vec_capacity self.old.owed.bytes
+            → PutsWithin (spelling_of (Content stream (front.now ++ rest.now) (length (front.now ++ rest.now)) false)) self.old self.new }
         ensures keeps { Keeps self.old self.new }
     {
-        let _ = self.owed.put_data(stream, bytes);
+        let _ = self.owed.put_data(stream, front, rest);
     }
 
     /// Closes a live stream whose server side has ended: where the client hasn't ended its own, it is asked to send no
@@ -84,21 +99,39 @@ impl Core {
         self.put_reserved(&reset_text(stream, NO_ERROR));
     }
 
-    /// Puts as many of the bytes as a DATA frame on a live stream may have now, and answers how many.
-    pub fn send_data(&mut self, stream: u32, bytes: &[u8]) -> Result<u32, NoMemory>
-        ensures acts { (s : State) → IsReady self.old s → IsTrue (is_live stream s.history) → SentData stream bytes.now s result self.new }
+    /// How many bytes may be sent on a stream, which are none where it isn't live.
+    pub fn room(&self, stream: u32) -> u32
+        ensures { (s : State) → Serves self.now s → result ≡ (if is_live stream s.history then room_of stream s.history else 0) }
+    {
+        if !self.streams.is_live(stream) {
+            return 0;
+        }
+        self.streams.room(stream)
+    }
+
+    /// How many of so many bytes one DATA frame on a stream may have now.
+    pub fn data_room(&self, stream: u32, size: usize) -> u32
+        ensures room { (s : State) → Serves self.now s → result ≡ data_room stream size s }
+        ensures fits { result ≤ max_frame_size }
+    {
+        let most = size.min(MAX_FRAME);
+        self.room(stream).min(most as u32)
+    }
+
+    /// Puts as many of the bytes of `front` and then `rest` as one DATA frame on a stream may have now, and answers how many.
+    pub fn send_parts(&mut self, stream: u32, front: &[u8], rest: &[u8]) -> Result<u32, NoMemory>
+        ensures acts { (s : State) → IsReady self.old s → SentData stream (front.now ++ rest.now) s result self.new }
         ensures keeps { Keeps self.old self.new }
     {
         few_are_live();
-        let most = bytes.len().min(MAX_FRAME);
-        let count = self.streams.room(stream).min(most as u32);
+        let count = self.data_room(stream, front.len() + rest.len());
         if count == 0 {
             return Ok(0);
         }
-        let (front, _) = bytes.split_at(count as usize);
-        self.owed.reserve(HEADER + front.len() + FOR_ENDS)?;
+        self.owed.reserve(HEADER + count as usize + FOR_ENDS)?;
+        let (front, rest) = first_of(front, rest, count as usize);
         let taken = self.streams.take_room(stream, count);
-        self.put_data(stream, front);
+        self.put_data(stream, front, rest);
         Ok(taken)
     }
 

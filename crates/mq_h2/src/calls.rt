@@ -194,7 +194,12 @@ fn done_on(
         "respond" => respond(alloc, h2, stream, rest)?,
         "send" => {
             let piece = bytes(alloc, rest)?;
-            return Ok(format!(in alloc; "{}", h2.send_data(stream, piece.as_slice())?)?);
+            let (front, rest) = piece.as_slice().split_at(piece.len() / 2);
+            return Ok(format!(in alloc; "{}", h2.send_parts(stream, front, rest)?)?);
+        }
+        "fits" => {
+            let size = number(rest) as usize;
+            return Ok(format!(in alloc; "{}", h2.data_room(stream, size))?);
         }
         "room" => return Ok(format!(in alloc; "{}", h2.room(stream))?),
         "live" => return Ok(format!(in alloc; "{}", u8::from(h2.is_live(stream)))?),

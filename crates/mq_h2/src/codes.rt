@@ -8,6 +8,10 @@ pub const FLOW_CONTROL_ERROR: u32 = 3;
 
 pub const REFUSED_STREAM: u32 = 7;
 
+pub const CANCEL: u32 = 8;
+
 pub const COMPRESSION_ERROR: u32 = 9;
+
+pub const CONNECT_ERROR: u32 = 10;
 
 pub const ENHANCE_YOUR_CALM: u32 = 11;

@@ -142,7 +142,7 @@ fn is_repeated(fields: &[Field], name: &[u8]) -> bool
 }
 
 /// The value of the first field of a name.
-fn value_of<'a>(fields: &'a [Field], name: &[u8]) -> Option<&'a [u8]>
+pub fn value_of<'a>(fields: &'a [Field], name: &[u8]) -> Option<&'a [u8]>
     ensures { option_map (λ v. v.now) result ≡ value_of name.now fields.now }
 {
     for field in fields {
@@ -153,7 +153,8 @@ fn value_of<'a>(fields: &'a [Field], name: &[u8]) -> Option<&'a [u8]>
     None
 }
 
-fn is_value(value: Option<&[u8]>, word: &[u8]) -> bool
+/// Whether there is a value, and it is this word.
+pub fn is_value(value: Option<&[u8]>, word: &[u8]) -> bool
     ensures { result ≡ is_value (option_map (λ v. v.now) value.entry) word.now }
 {
     match value {
@@ -181,7 +182,8 @@ fn repeats_pseudo(fields: &[Field]) -> bool
         || is_repeated(fields, b":protocol")
 }
 
-fn is_connect(fields: &[Field]) -> bool
+/// Whether the method is CONNECT.
+pub fn is_connect(fields: &[Field]) -> bool
     ensures { result ≡ is_connect fields.now }
 {
     is_value(value_of(fields, b":method"), b"CONNECT")

@@ -1,9 +1,9 @@
 //! The core of one connection.
-ghost use Rattle.std.specs.Prelude.{◌≡◌, ◌↔◌, ◌≤◌, ◌+◌, ℕ, IfOk, OnOk, OnErr, MatchResult, IsErr, IsTrue, List, true, false, length, if◌then◌else◌};
+ghost use Rattle.std.specs.Prelude.{◌≡◌, ◌↔◌, ◌≤◌, ◌+◌, ◌++◌, ℕ, IfOk, OnOk, OnErr, MatchResult, IsErr, IsTrue, List, true, false, length, take, if◌then◌else◌};
 ghost use Rattle.mq_streams.specs.History.{total, arrived_on, consumed_on, is_live};
 ghost use Rattle.mq_streams.specs.Answers.{room_of};
 ghost use Rattle.mq_h2.specs.State.{State, new_state, owed};
-ghost use Rattle.mq_h2.specs.Acts.{Responds, SendsData, ends_stream, resets_stream, where_live, FitsFrame, consumes, ends_act, writes};
+ghost use Rattle.mq_h2.specs.Acts.{responds, data_room, sends, ends_stream, resets_stream, where_live, FitsFrame, consumes, ends_act, writes};
 ghost use Rattle.mq_h2.specs.Laws.{IsReadBack};
 ghost use Rattle.mq_h2.specs.Stand.{IsH2, IsSpent, IsBegun, Feeds};
 ghost use Rattle.mq_h2.specs.Doing.{phase_behind};
@@ -99,29 +99,48 @@ impl H2 {
         self.core.streams.is_live(stream)
     }
 
-    /// Puts a response on a live stream, whose block fits a frame. With `end` the stream is closed: where the client hasn't
-    /// ended its side, it is asked to send no more.
+    /// Puts a response on a stream, whose block fits a frame, where the stream is live. With `end` it is closed: where the
+    /// client hasn't ended its side, it is asked to send no more.
     pub fn respond(&mut self, stream: u32, fields: &[Field], end: bool) -> Result<(), NoMemory>
-        ensures { (s : State) → IsH2 self.old s → IsTrue (is_live stream s.history) → FitsFrame fields.now s
-            → MatchResult result (λ _. (t : State) × Responds stream fields.now end s t × IsH2 self.new t) (λ _. IsH2 self.new s) }
+        ensures { (s : State) → IsH2 self.old s → FitsFrame fields.now s
+            → MatchResult result (λ _. IsH2 self.new (where_live stream (responds stream fields.now end) s)) (λ _. IsH2 self.new s) }
     {
         self.core.respond(stream, fields, end)
     }
 
-    /// How many bytes may be sent on a live stream.
+    /// How many bytes may be sent on a stream, which are none where it isn't live.
     pub fn room(&self, stream: u32) -> u32
-        ensures { (s : State) → IsH2 self.now s → IsTrue (is_live stream s.history) → result ≡ room_of stream s.history }
+        ensures { (s : State) → IsH2 self.now s → result ≡ (if is_live stream s.history then room_of stream s.history else 0) }
     {
-        self.core.streams.room(stream)
+        self.core.room(stream)
     }
 
-    /// Puts as many of the bytes as a DATA frame on a live stream may have now, and answers how many.
-    #[tactic(auto, using(crate::proofs::Reaching::sent))]
-    pub fn send_data(&mut self, stream: u32, bytes: &[u8]) -> Result<u32, NoMemory>
-        ensures { (s : State) → IsH2 self.old s → IsTrue (is_live stream s.history)
-            → MatchResult result (λ count. (t : State) × SendsData stream bytes.now count s t × IsH2 self.new t) (λ _. IsH2 self.new s) }
+    /// How many of so many bytes one DATA frame on a stream may have now.
+    pub fn data_room(&self, stream: u32, size: usize) -> u32
+        ensures { (s : State) → IsH2 self.now s → result ≡ data_room stream size s }
     {
-        self.core.send_data(stream, bytes)
+        self.core.data_room(stream, size)
+    }
+
+    /// Puts as many of the bytes of `front` and then `rest` as one DATA frame on a stream may have now, and answers how many.
+    #[tactic(auto, using(crate::proofs::Reaching::sent))]
+    pub fn send_parts(&mut self, stream: u32, front: &[u8], rest: &[u8]) -> Result<u32, NoMemory>
+        ensures { (s : State) → IsH2 self.old s
+            → MatchResult result
+            (λ count. (count ≡ data_room stream (length (front.now ++ rest.now)) s) × IsH2 self.new (where_live stream (sends stream (take count (front.now ++ rest.now))) s))
+            (λ _. IsH2 self.new s) }
+    {
+        self.core.send_parts(stream, front, rest)
+    }
+
+    /// The same, of bytes that stand in one slice.
+    pub fn send_data(&mut self, stream: u32, bytes: &[u8]) -> Result<u32, NoMemory>
+        ensures { (s : State) → IsH2 self.old s
+            → MatchResult result
+            (λ count. (count ≡ data_room stream (length bytes.now) s) × IsH2 self.new (where_live stream (sends stream (take count bytes.now)) s))
+            (λ _. IsH2 self.new s) }
+    {
+        self.send_parts(stream, bytes, &[])
     }
 
     /// Ends the server's side of a stream, where it is live, and closes it.

@@ -1,5 +1,5 @@
 //! Laws of the definitions that the core goes by. The functions do nothing.
-ghost use Rattle.mq_h2.specs.Laws.{IsOneRead, HasOutcome, SendsWithin, IsTold, PutsWholeFrames, ReadsBack};
+ghost use Rattle.mq_h2.specs.Laws.{IsOneRead, HasOutcome, SendsWithin, IsTold, PutsWholeFrames, ReadsBack, ReadsApart, IsAskedOnce, KeepsAsked};
 
 use mq_frame::{are_read_back, fits_fields, is_read_once, is_readable, stays_bounded, stays_read};
 use mq_hpack::has_one_reading;
@@ -35,6 +35,17 @@ pub fn what_is_told_is_held()
 /// What a read or an act puts for writing is whole frames.
 pub fn what_is_put_is_whole_frames()
     ensures { PutsWholeFrames }
+{}
+
+/// A read tells at most one request of a stream, only where it may still come, and no act changes whether it may.
+pub fn is_asked_once()
+    ensures reads { IsAskedOnce }
+    ensures acts { KeepsAsked }
+{}
+
+/// What a read does and puts is the same whatever was put for writing before.
+pub fn reads_stand_apart()
+    ensures { ReadsApart }
 {}
 
 /// Whatever was read and done, all that was put for writing is read back as the frames that it was put as.

@@ -108,6 +108,34 @@ owed => 00000403000000000900000001
 live 9 => 0";
 
 #[test]
+fn nothing_is_done_on_a_stream_that_is_not_live(rt: HostRuntime) -> Result<(), Fail> {
+    check(
+        &rt,
+        rt.alloc(),
+        NOTHING_IS_DONE_ON_A_STREAM_THAT_IS_NOT_LIVE,
+    )
+}
+
+const NOTHING_IS_DONE_ON_A_STREAM_THAT_IS_NOT_LIVE: &str = "\
+begin =>
+feed H1 => Q 1 0 B
+room 1 => 65535
+fits 1 20000 => 16384
+fits 1 20 => 20
+room 3 => 0
+fits 3 20 => 0
+respond 3 200 =>
+send 3 6162 => 0
+end 3 =>
+reset 3 8 =>
+owed =>
+reset 1 8 =>
+owed => 00000403000000000100000008
+room 1 => 0
+send 1 6162 => 0
+owed =>";
+
+#[test]
 fn errors_of_the_connection_end_it(rt: HostRuntime) -> Result<(), Fail> {
     check(&rt, rt.alloc(), ERRORS_OF_THE_CONNECTION_END_IT)
 }

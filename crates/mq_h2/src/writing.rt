@@ -41,14 +41,14 @@ impl Owed {
         Ok(())
     }
 
-    /// Puts DATA with these bytes.
-    pub fn put_data(&mut self, stream: u32, bytes: &[u8]) -> Result<(), NoMemory>
-        requires { length bytes.now ≤ max_frame_size }
-        ensures ok { OnOk result (Appends (spelling_of (Content stream bytes.now (length bytes.now) false)) self.old self.new) }
-        ensures succeeds { vec_len self.old.bytes + (9 + length bytes.now) ≤ vec_capacity self.old.bytes → IsOk result }
+    /// Puts DATA with the bytes of `front` and then `rest`.
+    pub fn put_data(&mut self, stream: u32, front: &[u8], rest: &[u8]) -> Result<(), NoMemory>
+        requires { length front.now + length rest.now ≤ max_frame_size }
+        ensures ok { OnOk result (Appends (spelling_of (Content stream (front.now ++ rest.now) (length (front.now ++ rest.now)) false)) self.old self.new) }
+        ensures succeeds { vec_len self.old.bytes + (9 + length (front.now ++ rest.now)) ≤ vec_capacity self.old.bytes → IsOk result }
         ensures capacity { vec_capacity self.old.bytes ≤ vec_capacity self.new.bytes }
     {
-        write_data(&mut self.bytes, stream, bytes, false)
+        write_data(&mut self.bytes, stream, front, rest, false)
     }
 
     /// Puts HEADERS with a whole block.

@@ -30,7 +30,7 @@ use Rattle.mq_machine.specs.Steps.{starved}
 use Rattle.mq_conn.specs.declared.conn.Conn.{Conn as Core}
 use Rattle.mq_conn.specs.Conns.{IsConn}
 use Rattle.mq_held.specs.declared.ask.Heard.{Heard}
-use Rattle.mq_held.specs.Answers.{IsPlain, BindGives, AskGives, HearGives}
+use Rattle.mq_held.specs.Answers.{IsPlain, BindGives, OpensFresh, AskGives, HearGives}
 
 -- the first act, and what is behind it
 pub done_first : (s : Conn) (a : Act) (rest : List Due) (answer : Answer) → s.ending ≡ None → s.due ≡ due.Do a ∷ rest
@@ -208,12 +208,12 @@ bound_false W N before after s (Ok said) was b some may = let d = may s b some i
 bound_false W N before after s (Err refused) was b some may = may s b
 
 pub hears : (actor : ℕ) (old : Seen) (asked : Call) (new : Seen) (c d : Core) (s : Conn) (said : Reply) (result : Result Heard NoMemory) → IsConn c s → IsPlain asked → want_of s ≡ Ask asked
-    → CallOk actor old asked said new → HearGives c d said result → AskGives actor old asked new (IsConn d) s result
-hears actor old asked new c d s said (Ok h) stands plain w ok gives =
+    → OpensFresh actor old asked new s.tunnels → CallOk actor old asked said new → HearGives c d said result → AskGives actor old asked new (IsConn d) s result
+hears actor old asked new c d s said (Ok h) stands plain w fresh ok gives =
     let some = ask_some s asked old.config ok.book said plain w ok.reply_is in
-    let t = gives.1 s stands some in
+    let t = gives.1 s stands (fresh said ok) some in
     (t.0, record { said = said; replied = ok; does = t.2; opened = gives.0 }, t.1)
-hears actor old asked new c d s said (Err refused) stands plain w ok gives =
+hears actor old asked new c d s said (Err refused) stands plain w fresh ok gives =
     let some = ask_some s asked old.config ok.book said plain w ok.reply_is in
     let t = gives s stands some in
     let P : Call → Type 0 = λ a. IsAnswer old.config ok.book a said in (

@@ -1,5 +1,5 @@
 -- What a connection does as a bind and the book answer it.
-use Rattle.std.specs.Prelude.{◌≡◌, ◌≢◌, ⊤, ◌⊎◌, ℕ, true, false, Option, Some, None, Result, Ok, Err}
+use Rattle.std.specs.Prelude.{◌≡◌, ◌≢◌, ⊤, ◌⊎◌, ℕ, true, false, List, Option, Some, None, Result, Ok, Err}
 use Rattle.slab.specs.Slab.{Slab, get}
 use Rattle.mq_wire.specs.declared.NoMemory.{NoMemory}
 use Rattle.mq_addr.specs.declared.addr.Addr.{Addr}
@@ -11,7 +11,8 @@ use Rattle.mq_talk.specs.declared.book.Reply.{Reply}
 use Rattle.mq_talk.specs.declared.book.Reply.TheVariants as reply
 use Rattle.mq_talk.specs.declared.note.Note.{Note}
 use Rattle.mq_talk.specs.Offices.{Seen, CallOk, CallGives}
-use Rattle.mq_machine.specs.State.{Conn}
+use Rattle.mq_machine.specs.Lawful as lawful
+use Rattle.mq_machine.specs.State.{Conn, Tunnel}
 use Rattle.mq_machine.specs.Steps.{starved}
 use Rattle.mq_machine.specs.Want.{Bound, Replied}
 use Rattle.mq_machine.specs.Acting.{Binder, Binds}
@@ -74,6 +75,10 @@ opened_by (reply.HistoryFull entries live) = None
 opened_by (reply.Assigned list at) = None
 opened_by (reply.Accepted accepts at) = None
 opened_by reply.Closed = None
+
+-- a tunnel that the book opens has a number that none of these has
+abbrev pub OpensFresh : ℕ → Seen → Call → Seen → List Tunnel → Type 0
+OpensFresh actor old asked new tunnels = (said : Reply) → CallOk actor old asked said new → lawful.IsFresh tunnels (Replied said)
 
 -- what the book was asked and replied, and the note of the connection behind it
 pub record Hears (actor : ℕ) (old : Seen) (asked : Call) (new : Seen) (s : Conn) (h : Heard) (t : Conn) : Type 0 where

@@ -11,7 +11,7 @@ use Rattle.mq_talk.specs.declared.note.From.TheVariants as source
 use Rattle.mq_wire.specs.declared.NoMemory.{NoMemory}
 use Rattle.mq_machine.specs.State.{Conn, Tunnel, Port}
 use Rattle.mq_machine.specs.Steps.{queued, settled_note, port_failed, starved}
-use Rattle.mq_conn.specs.Frames.{waits}
+use Rattle.mq_machine.specs.Lawful.{waits}
 use Rattle.mq_held.specs.Ready.{CanGive}
 use Rattle.mq_held.specs.declared.datagrams.Came.{Came}
 use Rattle.mq_held.specs.declared.datagrams.Came.TheVariants.{Waits, Failed, Datagram}

@@ -4,7 +4,7 @@ ghost use Rattle.mq_talk.specs.Answers.{MayCall};
 ghost use Rattle.mq_machine.specs.State as machine;
 ghost use Rattle.mq_machine.specs.Want.{want_of, Ask};
 ghost use Rattle.mq_conn.specs.Conns.{IsConn, MayHear};
-ghost use Rattle.mq_held.specs.Answers.{AskGives, HearGives, IsPlain, opened_by};
+ghost use Rattle.mq_held.specs.Answers.{AskGives, HearGives, IsPlain, OpensFresh, opened_by};
 
 use crate::held::Held;
 use mq_talk::{Call, End, Note, Office, Reply};
@@ -44,6 +44,7 @@ impl<L> Held<L> {
     pub fn ask<O: Office>(&mut self, call: Call, office: &mut O) -> Result<Heard, NoMemory>
         requires { MayCall (O.seen office.old).config (O.seen office.old).entries (O.seen office.old).actor call }
         ensures gives { (s : machine.Conn) → IsConn self.old.conn s → IsPlain call → want_of s ≡ Ask call
+            → OpensFresh (O.seen office.old).actor (O.seen office.old) call (O.seen office.new) s.tunnels
             → AskGives (O.seen office.old).actor (O.seen office.old) call (O.seen office.new) (IsConn self.new.conn) s result }
         ensures rest { self.new ≡ record self.old { conn = self.new.conn } }
         ensures actor { (O.seen office.new).actor ≡ (O.seen office.old).actor }

@@ -6,3 +6,4 @@ pub mod Readings
 pub mod Quiets
 pub mod Samples
 mod Frames
+pub mod Lawful

@@ -290,7 +290,7 @@ failed_can ports c = by_tunnels c.tunnels where
   by_owed (b ∷ bytes) = refl
 
   by_tunnels : (ts : List Tunnel) → can_do ports (ending_want (failed c) end.Link ts) ≡ true
-  by_tunnels [] = by_owed (owed c)
+  by_tunnels [] = by_owed (owed (failed c))
   by_tunnels (t ∷ ts) = refl
 
 -- what is there is found by what holds of it

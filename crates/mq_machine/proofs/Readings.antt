@@ -22,7 +22,7 @@ use Rattle.mq_machine.specs.declared.setup.Setup.{Setup}
 use Rattle.mq_machine.specs.Http2 as request
 use Rattle.mq_machine.specs.Settle.{settle}
 use Rattle.mq_machine.specs.State.{Conn, Stream, Tunnel, Front, Head, OverHttp1, OverHttp2, kind_of}
-use Rattle.mq_machine.specs.Reading.{Meaning, Leads, Refused, decided, MatchedMeans, PathMeans, StreamEvent, Request, Malformed, Content, Reset, ConnectionError, EndsWith, BytesAsk, has_values, payload_count, acts_of, then_acts, on_stream, mark_of, stream_of, ContentAsks, EventAsks, EventsAsk, content_of, StepBrings, KindMeans, EventBrings, EventsBring, FramesBring, Brings, TookNext}
+use Rattle.mq_machine.specs.Reading.{Meaning, Leads, Refused, decided, MatchedMeans, PathMeans, StreamEvent, Request, Malformed, Content, Reset, ConnectionError, EndsWith, BytesAsk, has_values, payload_count, acts_of, then_acts, on_stream, mark_of, stream_of, ContentAsks, EventAsks, EventsAsk, content_of, StepBrings, HeadBrings, KindMeans, EventBrings, EventsBring, FramesBring, Opening, Part, Whole, Other, opening_of, OtherBrings, OpeningBrings, Brings, TookNext}
 use Rattle.mq_machine.specs.Laws.{IsToldSetup}
 
 -- what is known of the readers
@@ -129,15 +129,32 @@ one_frames known setup told old bytes e f s t a b x y =
       x.new_is ∙ ap (λ (h : h2.State). OverHttp2 (record h { out = [] })) read.1 ∙ sym y.new_is,
     )
 
+-- a head is answered in one way
+one_answered : Known → (setup : Setup) → IsToldSetup setup → (before bytes : List ℕ) (e f : List StreamEvent) (a b : Front)
+    → HeadBrings setup before bytes e a → HeadBrings setup before bytes f b → (e ≡ f) × (a ≡ b)
+one_answered known setup told before bytes e f a b x y =
+    let P : HeadStep → Type 0 = λ step. StepBrings setup before bytes step f b in
+    one_head known setup told before bytes x.0 e f a b x.2 (subst P (sym (known.answer before bytes x.0 y.0 x.1 y.1)) y.2)
+
+one_other : Known → (setup : Setup) → IsToldSetup setup → (earlier : Opening) (before bytes : List ℕ) (e f : List StreamEvent) (a b : Front)
+    → OtherBrings setup earlier before bytes e a → OtherBrings setup earlier before bytes f b → (e ≡ f) × (a ≡ b)
+one_other known setup told Part before bytes e f a b x y = one_answered known setup told [] (before ++ bytes) e f a b x y
+one_other known setup told (Whole frames) before bytes e f a b x y = one_answered known setup told before bytes e f a b x y
+one_other known setup told Other before bytes e f a b x y = one_answered known setup told before bytes e f a b x y
+
+one_opening : Known → (setup : Setup) → IsToldSetup setup → (opening : Opening) (before bytes : List ℕ) (e f : List StreamEvent) (s t : List ℕ) (a b : Front)
+    → OpeningBrings setup opening before bytes e s a → OpeningBrings setup opening before bytes f t b → (e ≡ f) × (s ≡ t) × (a ≡ b)
+one_opening known setup told Part before bytes e f s t a b x y = (x.0 ∙ sym y.0, x.1 ∙ sym y.1, x.2 ∙ sym y.2)
+one_opening known setup told (Whole frames) before bytes e f s t a b x y = one_frames known setup told h2.new_state frames e f s t a b x y
+one_opening known setup told Other before bytes e f s t a b x y =
+    let same = one_other known setup told (opening_of before) before bytes e f a b x.0 y.0 in
+    (same.0, x.1 ∙ sym y.1, same.1)
+
 one_read : Known → (setup : Setup) → IsToldSetup setup → (old : Front) (bytes : List ℕ) (e f : List StreamEvent) (s t : List ℕ) (a b : Front)
     → Brings setup old bytes e s a → Brings setup old bytes f t b → (e ≡ f) × (s ≡ t) × (a ≡ b)
 one_read known setup told OverHttp1 bytes e f s t a b x y = (x.0 ∙ sym y.0, x.1 ∙ sym y.1, x.2 ∙ sym y.2)
 one_read known setup told (OverHttp2 h) bytes e f s t a b x y = one_frames known setup told h bytes e f s t a b x y
-one_read known setup told (Head before) bytes e f s t a b x y =
-    let P : HeadStep → Type 0 = λ step. StepBrings setup before bytes step f b in
-    let step = known.answer before bytes x.0.0 y.0.0 x.0.1 y.0.1 in
-    let same = one_head known setup told before bytes x.0.0 e f a b x.0.2 (subst P (sym step) y.0.2) in
-    (same.0, x.1 ∙ sym y.1, same.1)
+one_read known setup told (Head before) bytes e f s t a b x y = one_opening known setup told (opening_of (before ++ bytes)) before bytes e f s t a b x y
 
 pub one_took : Known → (setup : Setup) → IsToldSetup setup → (old a b : Conn) (bytes : List ℕ) → TookNext setup old bytes a → TookNext setup old bytes b → a ≡ b
 one_took known setup told old a b bytes x y =

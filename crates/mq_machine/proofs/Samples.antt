@@ -1,5 +1,6 @@
 -- Some states, worked by hand: what the definitions give.
-use Rattle.std.proofs.Common.{◌≡◌, ℕ, true, false, List, [], ◌∷◌, Some, None, refl}
+use Rattle.std.specs.Prelude.{codes}
+use Rattle.std.proofs.Common.{◌≡◌, ℕ, true, false, List, [], ◌∷◌, ◌++◌, Some, None, refl}
 use Rattle.mq_addr.specs.declared.addr.Addr.TheVariants.{V4}
 use Rattle.mq_head.specs.Answers.{refusal_text}
 use Rattle.mq_outside.specs.declared.PortPut.TheVariants as put
@@ -25,6 +26,7 @@ use Rattle.mq_machine.specs.declared.setup.Setup.{Setup}
 use Rattle.mq_talk.specs.declared.place.Parcel.{Parcel}
 use Rattle.mq_talk.specs.declared.place.Origin.TheVariants as origin
 use Rattle.mq_talk.specs.declared.place.Place.TheVariants as place
+use Rattle.mq_machine.specs.Reading.{Part, Whole, Other, opening_of, preface}
 use Rattle.mq_machine.specs.Turn.{Act, Frame, try_of, Offers, Of, turn_of, WorkerTurn, SendNext, pump_try, PumpTurn}
 
 abbrev to_there : Goal
@@ -152,3 +154,14 @@ holds sh = record { try = SendNext; tries = refl; is = refl }
 -- and then passes over its inbox
 then_waits : pump_try (record { mtu = 1500; to_push = None; to_send = Some parcel; net = shut_net }) (parcel ∷ []) ≡ None
 then_waits = refl
+
+-- ---- the preface of HTTP/2
+
+begins_preface : opening_of (codes "PRI") ≡ Part
+begins_preface = refl
+
+whole_preface : opening_of (preface ++ 0 ∷ []) ≡ Whole (0 ∷ [])
+whole_preface = refl
+
+no_preface : opening_of (codes "GET") ≡ Other
+no_preface = refl

@@ -26,9 +26,9 @@ use Rattle.mq_machine.specs.declared.act.StreamAct.{StreamAct}
 use Rattle.mq_machine.specs.declared.act.StreamAct.TheVariants as stream
 use Rattle.mq_machine.specs.declared.act.Due.{Due}
 use Rattle.mq_machine.specs.declared.act.Due.TheVariants as due
-use Rattle.mq_h2.specs.State as h2
 use Rattle.mq_machine.specs.Words.{assign_value, routes_value}
 use Rattle.mq_machine.specs.Http2 as http2
+use Rattle.mq_machine.specs.Putting.{Putting, nothing_put, over_http2, putting}
 use Rattle.mq_machine.specs.Settle.{settle}
 use Rattle.mq_machine.specs.State.{Conn, Tunnel, Stream, Waiting, Value, Front, Head, OverHttp1, OverHttp2, kind_of, packets, tunnel_on}
 use Rattle.mq_machine.specs.Want.{Answer, Said, Bound, Replied, Judged, Pushed, Put}
@@ -37,19 +37,6 @@ abbrev pub Done : Type 0
 Done = Option (Note × Conn)
 
 -- ---- what an act puts, by how far the bytes were read
-
--- bytes to be written, the front behind it, and why the connection is ending then
-pub record Putting : Type 0 where
-  pub text : List ℕ
-  pub front : Front
-  pub ending : Option End
-
-abbrev pub nothing_put : Front → Putting
-nothing_put front = record { text = []; front = front; ending = None }
-
--- what an act put in HTTP/2, and the state behind it
-abbrev pub over_http2 : h2.State → Putting
-over_http2 h = record { text = h.out; front = OverHttp2 (record h { out = [] }); ending = None }
 
 -- no request is answered before one was read
 abbrev pub success : Front → ℕ → Kind → Putting
@@ -81,14 +68,6 @@ abbrev pub closing : Front → Tunnel → Why → Putting
 closing (Head bytes) t why = nothing_put (Head bytes)
 closing OverHttp1 t why = record { text = []; front = OverHttp1; ending = http1_end why }
 closing (OverHttp2 h) t why = over_http2 (http2.closes t.stream (is_begun t.waiting) why h)
-
--- the first reason to end stands
-abbrev pub first_of : Option End → Option End → Option End
-first_of None other = other
-first_of (Some why) other = Some why
-
-abbrev pub putting : Conn → Putting → Conn
-putting c put = record c { front = put.front; out = c.out ++ put.text; ending = first_of c.ending put.ending }
 
 -- ---- what goes with a stream
 

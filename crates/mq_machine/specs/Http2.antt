@@ -1,5 +1,5 @@
 -- What the acts of the machine are to a connection of HTTP/2, in the words of its core, and what its requests ask for.
-use Rattle.std.specs.Prelude.{ℕ, ◌+◌, ◌/◌, ◌%◌, Bool, true, false, List, [], ◌∷◌, codes, Option, Some, None, if◌then◌else◌}
+use Rattle.std.specs.Prelude.{ℕ, Bool, true, false, List, [], ◌∷◌, codes, decimal, Option, Some, None, if◌then◌else◌}
 use Rattle.mq_addr.specs.declared.kind.Kind.{Kind}
 use Rattle.mq_addr.specs.declared.kind.Kind.TheVariants as kind
 use Rattle.mq_h2.specs.Acts.{where_live, with_headers, frame_room, sends, ends_stream, resets_stream}
@@ -15,13 +15,9 @@ use Rattle.mq_talk.specs.declared.note.Why.TheVariants as why
 
 -- ---- answers
 
--- the three digits of a status (RFC 9110, section 15)
-abbrev pub digits : ℕ → List ℕ
-digits status = (48 + status / 100) ∷ (48 + status / 10 % 10) ∷ (48 + status % 10) ∷ []
-
 -- the status of a response (RFC 9113, section 8.3.2)
 abbrev pub status_field : ℕ → Field
-status_field status = record { name = codes ":status"; value = digits status }
+status_field status = record { name = codes ":status"; value = decimal status }
 
 -- it says that the data stream is one of capsules (RFC 9297, section 3.4)
 abbrev pub capsule_field : Field

@@ -1,6 +1,7 @@
 pub mod Words
 pub mod State
 pub mod Http2
+pub mod Putting
 pub mod Settle
 pub mod Want
 pub mod Done
@@ -12,3 +13,4 @@ pub mod Silent
 pub mod Acting
 pub mod Cores
 pub mod Laws
+pub mod Lawful

@@ -1,5 +1,5 @@
 -- What a read brings: events in order, which become acts one after the other.
-use Rattle.std.specs.Prelude.{◌≡◌, ℕ, ◌+◌, ◌==◌, ◌⊎◌, Bool, true, false, List, [], ◌∷◌, ◌++◌, length, drop, find, nat_lt, if◌then◌else◌, Option, Some, None}
+use Rattle.std.specs.Prelude.{◌≡◌, ℕ, ◌+◌, ◌==◌, ◌⊎◌, Bool, true, false, List, [], ◌∷◌, ◌++◌, codes, length, drop, find, nat_lt, if◌then◌else◌, Option, Some, None}
 use Rattle.std.specs.List.{list_any}
 use Rattle.mq_addr.specs.declared.kind.Kind.{Kind}
 use Rattle.mq_addr.specs.declared.kind.Kind.TheVariants as kind
@@ -272,9 +272,41 @@ pub record FramesBring (setup : Setup) (old : h2.State) (bytes : List ℕ) (even
   pub text_is : text ≡ next.out
   pub new_is : new ≡ OverHttp2 (record next { out = [] })
 
+-- ---- the preface of HTTP/2
+
+-- what the first bytes of a connection are: a part of the preface, the whole with frames behind it, or those of HTTP/1.1
+pub data Opening : Type 0 where
+  Part : Opening
+  Whole : (frames : List ℕ) → Opening
+  Other : Opening
+
+-- these bytes where those are awaited
+abbrev pub opening_by : List ℕ → List ℕ → Opening
+opening_by [] bytes = Whole bytes
+opening_by (a ∷ awaited) [] = Part
+opening_by (a ∷ awaited) (b ∷ bytes) = if a == b then opening_by awaited bytes else Other
+
+-- the client's preface (RFC 9113, section 3.4)
+abbrev pub preface : List ℕ
+preface = codes "PRI * HTTP/2.0\r\n\r\nSM\r\n\r\n"
+
+abbrev pub opening_of : List ℕ → Opening
+opening_of bytes = opening_by preface bytes
+
+-- A reader of heads is given nothing before it is decided that the bytes are no preface, and then all of them.
+abbrev pub OtherBrings : Setup → Opening → List ℕ → List ℕ → List StreamEvent → Front → Type 0
+OtherBrings setup Part before bytes events new = HeadBrings setup [] (before ++ bytes) events new
+OtherBrings setup (Whole frames) before bytes events new = HeadBrings setup before bytes events new
+OtherBrings setup Other before bytes events new = HeadBrings setup before bytes events new
+
+abbrev pub OpeningBrings : Setup → Opening → List ℕ → List ℕ → List StreamEvent → List ℕ → Front → Type 0
+OpeningBrings setup Part before bytes events text new = (events ≡ []) × (text ≡ []) × (new ≡ Head (before ++ bytes))
+OpeningBrings setup (Whole frames) before bytes events text new = FramesBring setup h2.new_state frames events text new
+OpeningBrings setup Other before bytes events text new = OtherBrings setup (opening_of before) before bytes events new × (text ≡ [])
+
 -- One read: the events that it brings, in order, the bytes that are put with it, and how far the bytes were read then.
 abbrev pub Brings : Setup → Front → List ℕ → List StreamEvent → List ℕ → Front → Type 0
-Brings setup (Head before) bytes events text new = HeadBrings setup before bytes events new × (text ≡ [])
+Brings setup (Head before) bytes events text new = OpeningBrings setup (opening_of (before ++ bytes)) before bytes events text new
 Brings setup OverHttp1 bytes events text new = (events ≡ content_of bytes) × (text ≡ []) × (new ≡ OverHttp1)
 Brings setup (OverHttp2 h) bytes events text new = FramesBring setup h bytes events text new
 

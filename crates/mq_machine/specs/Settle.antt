@@ -1,5 +1,5 @@
 -- The end of each act: marks that are in front are passed, and in HTTP/2, where nothing is owed, the next WINDOW_UPDATE is put.
-use Rattle.std.specs.Prelude.{ℕ, List, [], ◌∷◌, ◌++◌, Option, Some, None, Bool, true, false, if◌then◌else◌}
+use Rattle.std.specs.Prelude.{ℕ, List, [], ◌∷◌, Option, Some, None, Bool, true, false, if◌then◌else◌}
 use Rattle.mq_h2.specs.Acts.{consumes, gives_back}
 use Rattle.mq_h2.specs.State as http2
 use Rattle.mq_streams.specs.Answers.{next_update}
@@ -7,6 +7,7 @@ use Rattle.mq_talk.specs.declared.note.End.{End}
 use Rattle.mq_talk.specs.declared.note.End.TheVariants as end
 use Rattle.mq_machine.specs.declared.act.Due.{Due}
 use Rattle.mq_machine.specs.declared.act.Due.TheVariants as due
+use Rattle.mq_machine.specs.Putting.{Putting, nothing_put, over_http2, putting}
 use Rattle.mq_machine.specs.State.{Conn, Front, Head, OverHttp1, OverHttp2, owed}
 
 -- DATA was consumed (RFC 9113, section 6.9). In HTTP/1.1 nothing counts it.
@@ -32,30 +33,27 @@ gives_up (end.Protocol code) = false
 gives_up end.Refused = false
 gives_up end.Tunnel = false
 
--- in HTTP/2, what an act put is put for writing behind all else
-abbrev pub put_over : http2.State → Conn → Conn
-put_over h c = record c { front = OverHttp2 (record h { out = [] }); out = c.out ++ h.out }
+abbrev pub is_given_up : Option End → Bool
+is_given_up None = false
+is_given_up (Some why) = gives_up why
 
-abbrev pub with_update : Option (ℕ × ℕ) → http2.State → Conn → Conn
-with_update None h c = c
-with_update (Some update) h c = put_over (gives_back (Some update) h) c
+-- the next WINDOW_UPDATE, if one is due
+abbrev pub update_put : Option (ℕ × ℕ) → http2.State → Putting
+update_put None h = nothing_put (OverHttp2 h)
+update_put (Some update) h = over_http2 (gives_back (Some update) h)
 
--- the next WINDOW_UPDATE, where nothing is owed
-abbrev pub updates : List ℕ → http2.State → Conn → Conn
-updates [] h c = with_update (next_update h.history) h c
-updates (b ∷ bytes) h c = c
+-- in HTTP/2 it is put where nothing is owed
+abbrev pub updates : List ℕ → http2.State → Putting
+updates [] h = update_put (next_update h.history) h
+updates (b ∷ bytes) h = nothing_put (OverHttp2 h)
 
-abbrev pub updates_unless : Option End → http2.State → Conn → Conn
-updates_unless None h c = updates (owed c) h c
-updates_unless (Some why) h c = if gives_up why then c else updates (owed c) h c
-
-abbrev pub updated : Front → Conn → Conn
-updated (Head bytes) c = c
-updated OverHttp1 c = c
-updated (OverHttp2 h) c = updates_unless c.ending h c
+abbrev pub updating : Front → List ℕ → Putting
+updating (Head bytes) owed = nothing_put (Head bytes)
+updating OverHttp1 owed = nothing_put OverHttp1
+updating (OverHttp2 h) owed = updates owed h
 
 abbrev pub settled : Conn → Conn
-settled c = updated c.front c
+settled c = if is_given_up c.ending then c else putting c (updating c.front (owed c))
 
 abbrev pub settle : Conn → Conn
 settle c = settled (passing c.due c)

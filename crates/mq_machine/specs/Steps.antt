@@ -13,7 +13,8 @@ use Rattle.mq_talk.specs.declared.place.Cause.TheVariants as cause
 use Rattle.mq_machine.specs.declared.act.Act.TheVariants as act
 use Rattle.mq_machine.specs.declared.act.StreamAct.TheVariants as stream
 use Rattle.mq_machine.specs.Http2 as http2
-use Rattle.mq_machine.specs.Settle.{settle, put_over}
+use Rattle.mq_machine.specs.Putting.{Putting, nothing_put, over_http2, putting}
+use Rattle.mq_machine.specs.Settle.{settle}
 use Rattle.mq_machine.specs.State.{Conn, Tunnel, Waiting, What, Packet, Value, Front, Head, OverHttp1, OverHttp2, Port, owed, packets, waiting_bytes, tunnel_of}
 use Rattle.mq_machine.specs.Want.{Want, Nothing, want_of}
 use Rattle.mq_machine.specs.Done.{before, with_waiting}
@@ -42,11 +43,11 @@ frame_size (Head bytes) stream size = 0
 frame_size OverHttp1 stream size = size
 frame_size (OverHttp2 h) stream size = http2.data_room stream size h
 
--- so many of these bytes put
-abbrev pub framing : Conn → Front → ℕ → List ℕ → ℕ → Conn
-framing c (Head bytes) stream rest count = c
-framing c OverHttp1 stream rest count = record c { out = c.out ++ take count rest }
-framing c (OverHttp2 h) stream rest count = put_over (http2.puts_data stream (take count rest) h) c
+-- these bytes of a capsule are put
+abbrev pub framing : Front → ℕ → List ℕ → Putting
+framing (Head bytes) stream text = nothing_put (Head bytes)
+framing OverHttp1 stream text = record { text = text; front = OverHttp1; ending = None }
+framing (OverHttp2 h) stream text = over_http2 (http2.puts_data stream text h)
 
 abbrev pub can_frame : Conn → Tunnel → Bool
 can_frame c t = by_waiting t.waiting where
@@ -62,9 +63,10 @@ tunnels_from from ts = filter (λ (t : Tunnel). nat_le from t.id) ts ++ filter (
 abbrev pub next_framed : Conn → Option Tunnel
 next_framed c = if can_go_on c then find (can_frame c) (tunnels_from c.next_tunnel c.tunnels) else None
 
+-- what waits in the tunnel of this stream
 abbrev pub set_waiting : ℕ → List Waiting → List Tunnel → List Tunnel
-set_waiting id ws [] = []
-set_waiting id ws (t ∷ ts) = if t.id == id then record t { waiting = ws } ∷ ts else t ∷ set_waiting id ws ts
+set_waiting stream ws [] = []
+set_waiting stream ws (t ∷ ts) = if t.stream == stream then record t { waiting = ws } ∷ ts else t ∷ set_waiting stream ws ts
 
 abbrev pub whole_note : Tunnel → Waiting → What → Note
 whole_note t w (Packet from n packet) = note.Delivered from n t.id packet
@@ -74,11 +76,11 @@ whole_note t w Value = note.Control t.id w.capsule
 abbrev pub framed_by : Conn → Tunnel → Waiting → List Waiting → ℕ → Note × Conn
 framed_by c t w ws count =
     if nat_le (length w.capsule) (w.framed + count)
-    then (whole_note t w w.what, record (framing c c.front t.stream (drop w.framed w.capsule) count) { tunnels = set_waiting t.id ws c.tunnels; next_tunnel = t.id + 1 })
+    then (whole_note t w w.what, record (putting c (framing c.front t.stream (take count (drop w.framed w.capsule)))) { tunnels = set_waiting t.stream ws c.tunnels; next_tunnel = t.id + 1 })
     else (
       note.Part t.id count,
-      record (framing c c.front t.stream (drop w.framed w.capsule) count) {
-        tunnels = set_waiting t.id (record w { framed = w.framed + count } ∷ ws) c.tunnels;
+      record (putting c (framing c.front t.stream (take count (drop w.framed w.capsule)))) {
+        tunnels = set_waiting t.stream (record w { framed = w.framed + count } ∷ ws) c.tunnels;
         next_tunnel = t.id + 1;
       },
     )
@@ -115,13 +117,17 @@ finish_by c (OverHttp2 h) inside = record c { ending = Some (if inside then end.
 abbrev pub finished : Conn → Bool → Note × Conn
 finished c inside = (note.Finished c.number, settle (finish_by (record c { is_finished = true }) c.front inside))
 
--- the link failed: what is due is given up
+-- what is due and what is owed is given up
+abbrev pub given_up : End → Conn → Conn
+given_up why c = record c { due = []; streams = []; out = take c.given c.out; ending = Some why }
+
+-- the link failed
 abbrev pub failed : Conn → Conn
-failed c = record c { due = []; streams = []; ending = Some end.Link }
+failed c = given_up end.Link c
 
 -- memory was refused
 abbrev pub starved : Conn → Conn
-starved c = record c { due = []; streams = []; ending = Some end.NoMemory }
+starved c = given_up end.NoMemory c
 
 -- ---- what comes to a tunnel
 

@@ -26,11 +26,11 @@
 //!
 //! A connection of HTTP/2 has the state of its streams and windows in its front, in the words of its core (mq_h2): a read is
 //! the core's read, an act puts what the core puts for it, and at the end of each act the next WINDOW_UPDATE is put, where
-//! nothing is owed. No bytes lead there yet: the preface of HTTP/2 is read as a head of HTTP/1.1, and refused.
+//! nothing is owed. The client's preface leads there; while the bytes of a connection are a part of it, nothing is decided.
 //!
-//! The definitions stand in specs/, in this reading order: State, Want, Http2, Settle, Done, Shared, Steps, Reading (what bytes
-//! ask for), Turn, Silent; then Acting (what a step of an actor promises over any book, inboxes, links and ports, whether they
-//! tell what they hold or not) and Laws. A request for IP packets is refused with 501.
+//! The definitions stand in specs/, in this reading order: State, Want, Http2, Putting, Settle, Done, Shared, Steps, Reading
+//! (what bytes ask for), Turn, Silent; then Acting (what a step of an actor promises over any book, inboxes, links and ports,
+//! whether they tell what they hold or not) and Laws. A request for IP packets is refused with 501.
 #![tactic(auto)]
 
 mod act;

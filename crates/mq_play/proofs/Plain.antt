@@ -30,7 +30,7 @@ use Rattle.mq_machine.specs.Want.{Want, Ask, Over, Nothing, want_by, Answer, Sai
 use Rattle.mq_machine.specs.Done.{Done, without, refused, closed, with_waiting, sent, stream_done, tunnel_done, act_done, due_done, ending_done, done_by, done}
 use Rattle.mq_machine.specs.Settle.{passing, spending, settle, gives_up}
 use Rattle.mq_machine.proofs.Settling.{settled_rests}
-use Rattle.mq_machine.specs.Steps.{most_packets, most_waiting, framed_front, framed_by, framing, framed, settled_note, next_framed, frame_size, wrote, finish_by, finished, failed, queued, received, port_failed}
+use Rattle.mq_machine.specs.Steps.{most_packets, most_waiting, framed_front, framed_by, framed, settled_note, next_framed, frame_size, wrote, finish_by, finished, failed, queued, received, port_failed}
 use Rattle.mq_play.proofs.Lists.{if_both, each_filter}
 
 -- ---- what is asked for
@@ -205,18 +205,12 @@ plain_want c h = plain_want_by c c.ending h
 
 -- ---- what it does beside its wants
 
-plain_framing : (c : Conn) (f : Front) (id : ℕ) (rest : List ℕ) (count : ℕ) → PlainConn c → PlainConn (framing c f id rest count)
-plain_framing c (Head bytes) id rest count h = h
-plain_framing c (OverHttp2 state) id rest count h = record { due = h.due; streams = h.streams }
-plain_framing c OverHttp1 id rest count h = record { due = h.due; streams = h.streams }
-
 abbrev PlainPair : Note × Conn → Type 0
 PlainPair d = PlainConn d.1
 
 plain_framed_by : (c : Conn) (t : Tunnel) (w : Waiting) (ws : List Waiting) (count : ℕ) → PlainConn c → PlainPair (framed_by c t w ws count)
 plain_framed_by c t w ws count h =
-    let p = plain_framing c c.front t.stream (drop w.framed w.capsule) count h in
-    if_both PlainPair (nat_le (length w.capsule) (w.framed + count)) _ _ (record { due = p.due; streams = p.streams }) (record { due = p.due; streams = p.streams })
+    if_both PlainPair (nat_le (length w.capsule) (w.framed + count)) _ _ (record { due = h.due; streams = h.streams }) (record { due = h.due; streams = h.streams })
 
 plain_front : (c : Conn) (t : Tunnel) (ws : List Waiting) → PlainConn c → PlainDone (framed_front c t ws)
 plain_front c t [] h = tt

@@ -33,7 +33,7 @@ use Rattle.mq_machine.specs.declared.act.Due.{Due}
 use Rattle.mq_machine.specs.declared.act.Due.TheVariants as due
 use Rattle.mq_machine.specs.declared.setup.Setup.{Setup}
 use Rattle.mq_machine.specs.State.{Conn, Stream, Tunnel, Front, Head as HeadFront, OverHttp1, OverHttp2, kind_of}
-use Rattle.mq_machine.specs.Reading.{Meaning, Leads, Refused, decided, MatchedMeans, PathMeans, StreamEvent, Request, Malformed, Content, Reset, ConnectionError, max_udp, item_acts, is_payload, payload_count, is_close, then_acts, acts_of, on_stream, has_values, EndsWith, BytesAsk, stream_of, more_bytes, mark_of, goal_act, ended_acts, error_acts, reset_acts, ContentAsks, EventAsks, EventsAsk, content_of, StepBrings, KindMeans, EventBrings, EventsBring, Brings, TookNext}
+use Rattle.mq_machine.specs.Reading.{Meaning, Leads, Refused, decided, MatchedMeans, PathMeans, StreamEvent, Request, Malformed, Content, Reset, ConnectionError, max_udp, item_acts, is_payload, payload_count, is_close, then_acts, acts_of, on_stream, has_values, EndsWith, BytesAsk, stream_of, more_bytes, mark_of, goal_act, ended_acts, error_acts, reset_acts, ContentAsks, EventAsks, EventsAsk, content_of, StepBrings, HeadBrings, KindMeans, EventBrings, EventsBring, Opening, Part, Whole, Other, opening_of, OtherBrings, OpeningBrings, Brings, TookNext}
 use Rattle.mq_machine.specs.Http2 as fields_of
 use Rattle.mq_h2.specs.declared.event.StreamEvent as http2
 use Rattle.mq_h2.specs.declared.event.StreamEvent.TheVariants as frame_event
@@ -264,8 +264,23 @@ plain_frames : (setup : Setup) → setup.udp.kind ≡ kind.Udp → (fs : List ht
 plain_frames setup k [] es x = subst AreEvents (sym x) tt
 plain_frames setup k (f ∷ fs) es x = subst AreEvents (sym x.4) (plain_frame setup k f x.0 x.2, plain_frames setup k fs x.1 x.3)
 
+plain_answer : (setup : Setup) → setup.udp.kind ≡ kind.Udp → (before bytes : List ℕ) (es : List StreamEvent) (new : Front) → HeadBrings setup before bytes es new → AreEvents es
+plain_answer setup k before bytes es new x = plain_step setup k before bytes x.0 es new x.2
+
+plain_other : (setup : Setup) → setup.udp.kind ≡ kind.Udp → (earlier : Opening) (before bytes : List ℕ) (es : List StreamEvent) (new : Front)
+    → OtherBrings setup earlier before bytes es new → AreEvents es
+plain_other setup k Part before bytes es new x = plain_answer setup k [] (before ++ bytes) es new x
+plain_other setup k (Whole frames) before bytes es new x = plain_answer setup k before bytes es new x
+plain_other setup k Other before bytes es new x = plain_answer setup k before bytes es new x
+
+plain_opening : (setup : Setup) → setup.udp.kind ≡ kind.Udp → (opening : Opening) (before bytes : List ℕ) (es : List StreamEvent) (text : List ℕ) (new : Front)
+    → OpeningBrings setup opening before bytes es text new → AreEvents es
+plain_opening setup k Part before bytes es text new x = subst AreEvents (sym x.0) tt
+plain_opening setup k (Whole frames) before bytes es text new x = plain_frames setup k x.told es x.brings
+plain_opening setup k Other before bytes es text new x = plain_other setup k (opening_of before) before bytes es new x.0
+
 plain_brings : (setup : Setup) → setup.udp.kind ≡ kind.Udp → (old : Front) (bytes : List ℕ) (es : List StreamEvent) (text : List ℕ) (new : Front) → Brings setup old bytes es text new → AreEvents es
-plain_brings setup k (HeadFront before) bytes es text new x = plain_step setup k before bytes x.0.0 es new x.0.2
+plain_brings setup k (HeadFront before) bytes es text new x = plain_opening setup k (opening_of (before ++ bytes)) before bytes es text new x
 plain_brings setup k (OverHttp2 state) bytes es text new x = plain_frames setup k x.told es x.brings
 plain_brings setup k OverHttp1 bytes es text new x = subst AreEvents (sym x.0) (plain_bytes_of bytes)
 

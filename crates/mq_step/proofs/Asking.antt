@@ -18,6 +18,7 @@ use Rattle.mq_machine.specs.Turn.{can_do}
 use Rattle.mq_machine.specs.Acting.{Outside, IsOpen}
 use Rattle.mq_conn.specs.declared.conn.Conn.{Conn as Core}
 use Rattle.mq_conn.specs.Conns.{IsConn}
+use Rattle.mq_held.specs.Answers.{OpensFresh}
 use Rattle.mq_step.specs.Holds.{IsKnown}
 use Rattle.mq_step.specs.Sights.{idle}
 use Rattle.mq_step.specs.Wanted.{WantDone, ported}
@@ -56,6 +57,14 @@ closed_only (reply.Opened u routes) seen book tunnel a = absurd a
 closed_only (reply.HistoryFull entries live) seen book tunnel a = absurd a
 closed_only (reply.Assigned list at) seen book tunnel a = absurd a
 closed_only (reply.Accepted accepts at) seen book tunnel a = absurd a
+
+-- no tunnel opens by it
+pub closes_fresh : (actor : ℕ) (seen seen_after : Seen) (tunnels : List Tunnel) (tunnel : ℕ) → OpensFresh actor seen (call.Close tunnel) seen_after tunnels
+closes_fresh actor seen seen_after tunnels tunnel reply.Closed ok = tt
+closes_fresh actor seen seen_after tunnels tunnel (reply.Opened u routes) ok = absurd ok.reply_is
+closes_fresh actor seen seen_after tunnels tunnel (reply.HistoryFull entries live) ok = tt
+closes_fresh actor seen seen_after tunnels tunnel (reply.Assigned list at) ok = tt
+closes_fresh actor seen seen_after tunnels tunnel (reply.Accepted accepts at) ok = tt
 
 -- the connection behind the close of a tunnel
 abbrev pub closed_left : Outside → Held → ℕ → Conn → Held

@@ -15,7 +15,7 @@ use Rattle.mq_machine.specs.Turn.{Try, Act, Frame, with_conn}
 use Rattle.mq_machine.specs.Acting.{Outside, Rose}
 use Rattle.mq_conn.specs.declared.conn.Conn.{Conn as Core}
 use Rattle.mq_conn.specs.Conns.{IsConn}
-use Rattle.mq_conn.specs.Frames.{waits}
+use Rattle.mq_machine.specs.Lawful.{waits}
 use Rattle.mq_held.specs.declared.held.Held.{Held as HeldBy}
 use Rattle.mq_held.specs.declared.held.PortSeat.{PortSeat}
 use Rattle.mq_held.specs.Answers.{KeepsPorts}

@@ -17,7 +17,7 @@ use Rattle.mq_machine.specs.Silent.{Leaves}
 use Rattle.mq_machine.specs.Turn.{Read, can_try, can_take, ReadNext, most_read}
 use Rattle.mq_machine.specs.Acting.{Outside, Binder}
 use Rattle.mq_conn.specs.Conns.{IsConn}
-use Rattle.mq_conn.specs.Frames.{waits}
+use Rattle.mq_machine.specs.Lawful.{waits}
 use Rattle.mq_held.specs.declared.held.Held.{Held as HeldBy}
 use Rattle.mq_held.specs.declared.went.Went.TheVariants as went
 use Rattle.mq_held.specs.Links.{Calls, calls_of, ReadGives, ReadDoes, ReadWaits, FailsRead}

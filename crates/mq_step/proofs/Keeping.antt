@@ -1,5 +1,5 @@
 -- What an answer leaves of a connection: its number, its actor and its tunnels, and whether an opening is due.
-use Rattle.std.proofs.Common.{◌≡◌, ℕ, ◌==◌, ◌+◌, cond, Bool, true, false, not, ◌&&◌, List, [], ◌∷◌, ◌++◌, map, drop, length, nat_lt, nat_le, All, Option, Some, None, refl, sym, ap, ◌∙◌, subst}
+use Rattle.std.proofs.Common.{◌≡◌, ℕ, ◌==◌, ◌+◌, cond, Bool, true, false, not, ◌&&◌, List, [], ◌∷◌, ◌++◌, map, drop, take, length, nat_lt, nat_le, All, Option, Some, None, refl, sym, ap, ◌∙◌, subst}
 use Rattle.std.specs.Prelude.{filter, find, option_map, option_and_then, is_some}
 use Rattle.std.proofs.lemmas.List.Elements.{All-cons, All-head, All-tail, All-nil, All-filter}
 use Rattle.mq_talk.specs.declared.book.Call.{Call}
@@ -23,23 +23,16 @@ use Rattle.mq_machine.specs.declared.act.StreamAct.{StreamAct}
 use Rattle.mq_machine.specs.declared.act.StreamAct.TheVariants as stream
 use Rattle.mq_machine.specs.declared.act.Due.{Due}
 use Rattle.mq_machine.specs.declared.act.Due.TheVariants as due
+use Rattle.mq_machine.specs.Lawful.{is_open}
+use Rattle.mq_machine.specs.Putting.{Putting, first_of, putting}
 use Rattle.mq_machine.specs.Settle.{settle, settled, passing, spending, gives_up}
 use Rattle.mq_machine.specs.State.{Conn, Tunnel, Waiting, Packet, Front, Head, OverHttp1, OverHttp2, owed, values, kind_of, tunnel_on}
 use Rattle.mq_machine.specs.Want.{Nothing, Bind, Ask, Over, Answer, Said, Bound, Replied, Put, want_of, want_by, ending_want, over_want, due_want, act_want, tunnel_want, most_values}
-use Rattle.mq_machine.specs.Done.{Done, first_of, closing, done, done_by, due_done, act_done, tunnel_done, ending_done, first_waiting, is_on, waits, with_waiting, closed, dropped, sent}
+use Rattle.mq_machine.specs.Done.{Done, closing, done, done_by, due_done, act_done, tunnel_done, ending_done, first_waiting, is_on, waits, with_waiting, closed, dropped, sent}
 use Rattle.mq_machine.specs.Steps.{settled_note, is_nothing, is_ending, can_go_on, most_owed, can_frame, tunnels_from, framed, framed_front, framed_by, framing, frame_size, whole_note, next_framed, set_waiting, wrote, finished, finish_by, queued, port_failed}
 use Rattle.mq_machine.proofs.Settling.{settled_rests}
 
 -- ---- openings that are due
-
-abbrev pub is_open : Due → Bool
-is_open (due.Do (act.Open id goal)) = true
-is_open (due.Do (act.Bind id goal)) = false
-is_open (due.Do (act.Refuse id status rule)) = false
-is_open (due.Do (act.Reset id code)) = false
-is_open (due.Do (act.OfStream id a)) = false
-is_open (due.Spend id size) = false
-is_open (due.Fault code) = false
 
 abbrev pub IsNoOpen : Due → Type 0
 IsNoOpen d = is_open d ≡ false
@@ -485,7 +478,8 @@ settle_ends x is =
 
 first_ends : (a b : Option End) → is_some a ≡ true → is_some (first_of a b) ≡ true
 first_ends None b is = absurd cc
-first_ends (Some why) b is = refl
+first_ends (Some why) None is = refl
+first_ends (Some why) (Some later) is = refl
 
 close_ends : (c : Conn) (ts : List Tunnel) → IsToEnd c → Each IsToEnd (ending_done c ts (Replied reply.Closed))
 close_ends c [] is = tt
@@ -515,10 +509,10 @@ settle_is_kept c x kept =
     let k = settles x kept.2 in
     (k.number ∙ kept.0, k.actor ∙ kept.1, k.opens, ap numbers_of k.tunnels ∙ kept.3)
 
-set_numbers : (id : ℕ) (ws : List Waiting) (ts : List Tunnel) → numbers_of (set_waiting id ws ts) ≡ numbers_of ts
-set_numbers id ws [] = refl
-set_numbers id ws (t ∷ ts) = same (t.id == id) (set_numbers id ws ts) where
-  same : (b : Bool) → numbers_of (set_waiting id ws ts) ≡ numbers_of ts → numbers_of (cond b (record t { waiting = ws } ∷ ts) (t ∷ set_waiting id ws ts)) ≡ numbers_of (t ∷ ts)
+set_numbers : (on : ℕ) (ws : List Waiting) (ts : List Tunnel) → numbers_of (set_waiting on ws ts) ≡ numbers_of ts
+set_numbers on ws [] = refl
+set_numbers on ws (t ∷ ts) = same (t.stream == on) (set_numbers on ws ts) where
+  same : (b : Bool) → numbers_of (set_waiting on ws ts) ≡ numbers_of ts → numbers_of (cond b (record t { waiting = ws } ∷ ts) (t ∷ set_waiting on ws ts)) ≡ numbers_of (t ∷ ts)
   same true rest = refl
   same false rest = ap (λ (ids : List ℕ). t.id ∷ ids) rest
 
@@ -529,27 +523,24 @@ waits_numbers id w (t ∷ ts) = same (t.id == id) (waits_numbers id w ts) where
   same true rest = refl
   same false rest = ap (λ (ids : List ℕ). t.id ∷ ids) rest
 
--- so many bytes put
-framing_kept : (c : Conn) (f : Front) (id : ℕ) (rest : List ℕ) (count : ℕ) (ts : List Tunnel) (next : ℕ) → NoOpens c.due → numbers_of ts ≡ numbers_of c.tunnels
-    → IsKept c (record (framing c f id rest count) { tunnels = ts; next_tunnel = next })
-framing_kept c (Head bytes) id rest count ts next opens numbers = (refl, refl, opens, numbers)
-framing_kept c OverHttp1 id rest count ts next opens numbers = (refl, refl, opens, numbers)
-framing_kept c (OverHttp2 h) id rest count ts next opens numbers = (refl, refl, opens, numbers)
+-- bytes put
+framing_kept : (c : Conn) (put : Putting) (ts : List Tunnel) (next : ℕ) → NoOpens c.due → numbers_of ts ≡ numbers_of c.tunnels
+    → IsKept c (record (putting c put) { tunnels = ts; next_tunnel = next })
+framing_kept c put ts next opens numbers = (refl, refl, opens, numbers)
 
 framed_by_kept : (c : Conn) (t : Tunnel) (w : Waiting) (ws : List Waiting) (count : ℕ) → NoOpens c.due → IsKept c (framed_by c t w ws count).1
 framed_by_kept c t w ws count opens = by_whole (nat_le (length w.capsule) (w.framed + count)) where
+  put : Putting
+  put = framing c.front t.stream (take count (drop w.framed w.capsule))
+
+  left : List Waiting
+  left = record w { framed = w.framed + count } ∷ ws
+
   by_whole : (b : Bool) → IsKept c (cond {A = Note × Conn} b
-      (whole_note t w w.what, record (framing c c.front t.stream (drop w.framed w.capsule) count) { tunnels = set_waiting t.id ws c.tunnels; next_tunnel = t.id + 1 }) (
-        note.Part t.id count,
-        record (framing c c.front t.stream (drop w.framed w.capsule) count) {
-          tunnels = set_waiting t.id (record w { framed = w.framed + count } ∷ ws) c.tunnels;
-          next_tunnel = t.id + 1;
-        },
-      )).1
-  by_whole true = framing_kept c c.front t.stream (drop w.framed w.capsule) count (set_waiting t.id ws c.tunnels) (t.id + 1) opens (set_numbers t.id ws c.tunnels)
-  by_whole false =
-      let left : List Waiting = record w { framed = w.framed + count } ∷ ws in
-      framing_kept c c.front t.stream (drop w.framed w.capsule) count (set_waiting t.id left c.tunnels) (t.id + 1) opens (set_numbers t.id left c.tunnels)
+      (whole_note t w w.what, record (putting c put) { tunnels = set_waiting t.stream ws c.tunnels; next_tunnel = t.id + 1 })
+      (note.Part t.id count, record (putting c put) { tunnels = set_waiting t.stream left c.tunnels; next_tunnel = t.id + 1 })).1
+  by_whole true = framing_kept c put (set_waiting t.stream ws c.tunnels) (t.id + 1) opens (set_numbers t.stream ws c.tunnels)
+  by_whole false = framing_kept c put (set_waiting t.stream left c.tunnels) (t.id + 1) opens (set_numbers t.stream left c.tunnels)
 
 front_kept : (c : Conn) (t : Tunnel) (ws : List Waiting) → NoOpens c.due → Each (IsKept c) (framed_front c t ws)
 front_kept c t [] opens = tt

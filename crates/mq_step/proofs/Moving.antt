@@ -20,7 +20,7 @@ use Rattle.mq_machine.specs.Steps.{failed, starved, wrote}
 use Rattle.mq_machine.specs.Turn.{Write, Read, can_try, has_room_for, WriteNext}
 use Rattle.mq_machine.specs.Acting.{Outside, Rose, Binder}
 use Rattle.mq_conn.specs.Conns.{IsConn}
-use Rattle.mq_conn.specs.Frames.{waits}
+use Rattle.mq_machine.specs.Lawful.{waits}
 use Rattle.mq_held.specs.declared.held.Held.{Held as HeldBy}
 use Rattle.mq_held.specs.declared.held.PortSeat.{PortSeat}
 use Rattle.mq_held.specs.declared.went.Went.TheVariants as went

@@ -1,5 +1,5 @@
 -- A tunnel opened, or found no place; or the book was asked in vain.
-use Rattle.std.proofs.Common.{◌≡◌, ◌≢◌, ℕ, zero, suc, ◌==◌, ◌<◌, ◌≤◌, List, [], ◌∷◌, ◌++◌, map, length, All, slice_get, Option, Some, None, MatchOption, refl, sym, ap, subst, ◌∙◌, arith}
+use Rattle.std.proofs.Common.{◌≡◌, ◌≢◌, ℕ, zero, suc, ◌==◌, ◌<◌, ◌≤◌, ◌||◌, Bool, false, ne_eqb, List, [], ◌∷◌, ◌++◌, map, length, All, slice_get, Option, Some, None, MatchOption, refl, sym, ap, subst, ◌∙◌, arith}
 use Rattle.std.proofs.lemmas.List.{map-append, length-append}
 use Rattle.std.proofs.lemmas.List.Elements.{All-cons, All-head, All-tail, All-nil}
 use Rattle.slab.specs.Slab.{Slab, get, Updates}
@@ -22,6 +22,7 @@ use Rattle.mq_talk.specs.Offices.{Seen, CallOk}
 use Rattle.mq_machine.specs.State.{Conn, Tunnel, Held, Port, Orders, Shared}
 use Rattle.mq_machine.specs.Want.{Want, Nothing, Say, Bind, Ask, Judge, Push, Send, Over, Answer, Replied, want_of}
 use Rattle.mq_machine.specs.Done.{done}
+use Rattle.mq_machine.specs.Lawful.{has_number}
 use Rattle.mq_machine.specs.Shared.{Answers, PortsAnswer, Asks, new_port, port_limit, at_port}
 use Rattle.mq_machine.specs.Turn.{can_do}
 use Rattle.mq_machine.specs.Acting.{Outside, IsOpen, PortsTold, holds_of, prepared}
@@ -30,12 +31,13 @@ use Rattle.mq_conn.specs.Conns.{IsConn}
 use Rattle.mq_held.specs.declared.held.Held.{Held as HeldBy}
 use Rattle.mq_held.specs.declared.held.PortSeat.{PortSeat}
 use Rattle.mq_held.specs.declared.ask.Heard.{Heard as HeardBy}
-use Rattle.mq_held.specs.Answers.{IsPlain, Hears, opened_by}
+use Rattle.mq_held.specs.Answers.{IsPlain, OpensFresh, Hears, opened_by}
 use Rattle.mq_step.specs.Holds.{IsPort, ArePorts, IsApartFrom, SeatsApart, IsReady, IsBound, IsHeld, IsKnown, Seats, tunnels_of, numbers_of}
 use Rattle.mq_step.specs.Sights.{SeesPort, SeesPorts, filled_port, idle}
 use Rattle.mq_step.specs.Wanted.{WantDone, ported, with_prepared}
 use Rattle.mq_step.proofs.Filling.{are_filled, tunnels_filled, KeepsSeats, seats_kept, StaysTold, seats_told, filled_told, none_fails, served_any, alive_served}
 use Rattle.mq_step.proofs.Places.{at_all, all_by, all_before, found_all, seat_port, live_of, apart_added, at_last, are_added, told_added}
+use Rattle.mq_step.proofs.Asking.{closes_fresh}
 use Rattle.mq_step.proofs.Wanting.{behind, acted_is, shared_by}
 use Rattle.mq_step.proofs.Keeping.{opened_next, kept_full}
 use Rattle.mq_step.proofs.Cores.{IsUdpWant, udp_want, open_alive, tail_opens}
@@ -110,6 +112,41 @@ fresh most table h actor seen seen_after s conn id names tunnel goal routes held
       let place : tunnel ≡ length ok.book = ok.reply_is.1 in
       let size = ap (λ (es : List Entry). length es) ok.sees.goes_on ∙ length-append seen.entries ok.sees.more in
       omega (arith, lt, number, place, size)
+
+no_number : (ts : List Tunnel) (tunnel : ℕ) → All (λ (id : ℕ). id ≢ tunnel) (numbers_of ts) → has_number ts tunnel ≡ false
+no_number [] tunnel fresh = refl
+no_number (t ∷ ts) tunnel fresh =
+    let N : ℕ → Type 0 = λ id. id ≢ tunnel in
+    ap (λ (b : Bool). b || has_number ts tunnel) (ne_eqb t.id tunnel (All-head N t.id (numbers_of ts) fresh)) ∙ no_number ts tunnel (All-tail N t.id (numbers_of ts) fresh)
+
+numbers_apart : {Q : Type 0} (most : Q → ℕ) (table : Slab Q) (tunnel : ℕ) (seats : List PortSeat) (ports : List Port) → ArePorts most table seats ports
+    → All (λ (x : PortSeat). x.tunnel ≢ tunnel) seats → All (λ (id : ℕ). id ≢ tunnel) (tunnels_of ports)
+numbers_apart most table tunnel [] [] are fresh = All-nil (λ (id : ℕ). id ≢ tunnel)
+numbers_apart most table tunnel [] (p ∷ ports) are fresh = absurd are
+numbers_apart most table tunnel (x ∷ seats) [] are fresh = absurd are
+numbers_apart most table tunnel (x ∷ seats) (p ∷ ports) are fresh =
+    let N : PortSeat → Type 0 = λ y. y.tunnel ≢ tunnel in
+    All-cons (λ (id : ℕ). id ≢ tunnel) p.tunnel (tunnels_of ports) (λ same. All-head N x seats fresh (sym are.0.tunnel ∙ same))
+    (numbers_apart most table tunnel seats ports are.1 (All-tail N x seats fresh))
+
+-- so no tunnel has it, either, of any connection for which the core stands
+pub opens_fresh : {L Q : Type 0} (most : Q → ℕ) (table : Slab Q) (h : HeldBy L) (actor : ℕ) (seen seen_after : Seen) (s x : Held) (asked : Call)
+    → IsHeld most table h s → want_of s.conn ≡ Ask asked → IsHeld most table h x → IsKnown seen actor x → want_of x.conn ≡ Ask asked → OpensFresh actor seen asked seen_after s.conn.tunnels
+opens_fresh most table h actor seen seen_after s x (call.Open conn id names goal) held want other known wants (reply.Opened tunnel routes) ok =
+    let none = fresh most table h actor seen seen_after x conn id names tunnel goal routes other known wants ok in
+    let alive = (open_alive h.conn s.conn conn id names goal held.conn want).0 in
+    let A : List ℕ → Type 0 = λ ids. All (λ (id : ℕ). id ≢ tunnel) ids in
+    no_number s.conn.tunnels tunnel
+    (subst A (alive_served s.conn.ending s.conn.tunnels s.ports alive held.served) (numbers_apart most table tunnel h.ports.items s.ports held.ports none))
+opens_fresh most table h actor seen seen_after s x (call.Open conn id names goal) held want other known wants (reply.HistoryFull entries live) ok = tt
+opens_fresh most table h actor seen seen_after s x (call.Open conn id names goal) held want other known wants (reply.Assigned list at) ok = tt
+opens_fresh most table h actor seen seen_after s x (call.Open conn id names goal) held want other known wants (reply.Accepted accepts at) ok = tt
+opens_fresh most table h actor seen seen_after s x (call.Open conn id names goal) held want other known wants reply.Closed ok = tt
+opens_fresh most table h actor seen seen_after s x (call.Close t) held want other known wants said ok = closes_fresh actor seen seen_after s.conn.tunnels t said ok
+opens_fresh most table h actor seen seen_after s x (call.Assign t list) held want other known wants said ok =
+    let P : Want → Type 0 = λ w. IsUdpWant w in absurd (subst P want (udp_want h.conn s.conn held.conn))
+opens_fresh most table h actor seen seen_after s x (call.Advertise t list) held want other known wants said ok =
+    let P : Want → Type 0 = λ w. IsUdpWant w in absurd (subst P want (udp_want h.conn s.conn held.conn))
 
 -- no seat has the key of a port that is bound
 key_apart : {Q : Type 0} (most : Q → ℕ) (table : Slab Q) (seats : List PortSeat) (w : Want) (key : ℕ) → IsBound most table seats w (Some key) → All (λ (x : PortSeat). x.key ≢ key) seats

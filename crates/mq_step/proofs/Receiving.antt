@@ -18,7 +18,7 @@ use Rattle.mq_machine.specs.Shared.{port_of}
 use Rattle.mq_machine.specs.Turn.{Try, Receive, can_try, can_receive_on}
 use Rattle.mq_machine.specs.Acting.{Outside, Rose, holding}
 use Rattle.mq_conn.specs.Conns.{IsConn}
-use Rattle.mq_conn.specs.Frames.{waits}
+use Rattle.mq_machine.specs.Lawful.{waits}
 use Rattle.mq_conn.specs.declared.conn.Conn.{Conn as Core}
 use Rattle.mq_held.specs.Ready.{may_give}
 use Rattle.mq_held.specs.declared.held.Held.{Held as HeldBy}

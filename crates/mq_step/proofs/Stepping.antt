@@ -22,7 +22,7 @@ use Rattle.mq_machine.specs.Steps.{framed, starved}
 use Rattle.mq_machine.specs.Turn.{Try, Act, Frame, Write, Read, can_do, tries_of}
 use Rattle.mq_machine.specs.Acting.{Outside, Rose, WantWaited, Binder}
 use Rattle.mq_conn.specs.Conns.{IsConn}
-use Rattle.mq_conn.specs.Frames.{waits}
+use Rattle.mq_machine.specs.Lawful.{waits}
 use Rattle.mq_held.specs.declared.held.Held.{Held as HeldBy}
 use Rattle.mq_held.specs.declared.held.PortSeat.{PortSeat}
 use Rattle.mq_held.specs.Frames.{FrameGives}

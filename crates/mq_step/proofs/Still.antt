@@ -8,7 +8,7 @@ use Rattle.mq_talk.specs.Offices.{Seen}
 use Rattle.mq_machine.specs.State.{Held}
 use Rattle.mq_machine.specs.Want.{want_of}
 use Rattle.mq_machine.specs.Acting.{Outside, Binder}
-use Rattle.mq_conn.specs.Frames.{waits}
+use Rattle.mq_machine.specs.Lawful.{waits}
 use Rattle.mq_held.specs.declared.held.Held.{Held as HeldBy}
 use Rattle.mq_held.specs.declared.held.PortSeat.{PortSeat}
 use Rattle.mq_step.specs.declared.stepped.Stepped.{Stepped}

@@ -17,8 +17,8 @@ use Rattle.mq_machine.specs.Want.{Want, Nothing, Say, Bind, Ask, Judge, Push, Se
 use Rattle.mq_machine.specs.Steps.{is_nothing, is_ending, can_go_on, can_read, most_owed, finished}
 use Rattle.mq_machine.specs.Reading.{TookNext, StreamEvent, Request, Malformed, Content, Reset, ConnectionError, Leads, Refused, EventAsks, EventsAsk, ContentAsks, on_stream, mark_of, goal_act, ended_acts, error_acts, reset_acts, stream_of}
 use Rattle.mq_conn.specs.declared.conn.Conn.{Conn as Core}
-use Rattle.mq_conn.specs.Conns.{IsConn, IsUdp}
-use Rattle.mq_conn.specs.Frames.{waits}
+use Rattle.mq_conn.specs.Conns.{IsConn}
+use Rattle.mq_machine.specs.Lawful.{IsUdp, waits}
 use Rattle.mq_step.proofs.Keeping.{Kept, no_open, no_opens_cons, no_opens_nil, nothing_due, finished_keeps}
 use Rattle.mq_step.proofs.Cores.{IsUdpWant, udp_want, none_opens, open_alive, go_on_opens}
 

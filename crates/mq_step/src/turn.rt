@@ -6,7 +6,7 @@ ghost use Rattle.mq_machine.specs.Acting.{Outside, binder};
 ghost use Rattle.mq_machine.specs.State as machine;
 ghost use Rattle.mq_machine.specs.Turn.{tries_of};
 ghost use Rattle.mq_machine.specs.Want.{want_of};
-ghost use Rattle.mq_conn.specs.Frames.{waits};
+ghost use Rattle.mq_machine.specs.Lawful.{waits};
 ghost use Rattle.mq_ports.specs.Tables.{IsBalanced};
 ghost use Rattle.mq_step.specs.Rooms.{HasRooms};
 ghost use Rattle.mq_step.specs.Holds.{IsHeld, IsKnown, KeepsOthers, SeatsApart};

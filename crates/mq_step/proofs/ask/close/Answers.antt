@@ -12,7 +12,7 @@ use Rattle.mq_step.specs.Closing.{Retires}
 use Rattle.mq_step.proofs.Standing.{bound_none}
 use Rattle.mq_step.proofs.Cores.{same_actor}
 use Rattle.mq_step.proofs.Retiring.{retired_apart, retired_stands, retired_told}
-use Rattle.mq_step.proofs.Asking.{Closes, may_call, close_done, closed_left}
+use Rattle.mq_step.proofs.Asking.{Closes, closes_fresh, may_call, close_done, closed_left}
 use Rattle.mq_step.proofs.Others.{retire_others}
 use Rattle.mq_step.proofs.Closing.{closed_is, closed_does, at_some}
 use Rattle.mq_step.proofs.ask.close.Goals as goal
@@ -33,7 +33,7 @@ returns-clause-gives g c = λ o n so sn s held want boxes orders.
     let seen = g.O.Office.seen c.args.office.now in
     let seen_after = g.O.Office.seen c.ask.new.office in
     let actor = (g.O.Office.seen c.args.office.now).actor in
-    let e = c.in_ok-heard.ensures.gives s.conn held.conn tt want in
+    let e = c.in_ok-heard.ensures.gives s.conn held.conn tt want (closes_fresh actor seen seen_after s.conn.tunnels c.args.tunnel) in
     let closes : Closes actor seen seen_after s c.args.tunnel c.in_ok-heard.heard.note e.0 = record { reply_is = e.1.said; replied = e.1.replied; does = e.1.does } in
     let mine : s.conn.actor ≡ actor = same_actor old.conn s.conn k.0.conn held.conn k.1.conn ∙ k.2.actor_is in
     let items : c.ask.new.self.ports.items ≡ old.ports.items = ap (λ h. h.ports.items) c.ask.ensures.rest in
@@ -77,7 +77,7 @@ returns-clause-closes g c = λ s held want.
     let seen = g.O.Office.seen c.args.office.now in
     let seen_after = g.O.Office.seen c.ask.new.office in
     let actor = (g.O.Office.seen c.args.office.now).actor in
-    let e = c.in_ok-heard.ensures.gives s.conn held.conn tt want in
+    let e = c.in_ok-heard.ensures.gives s.conn held.conn tt want (closes_fresh actor seen seen_after s.conn.tunnels c.args.tunnel) in
     let closes : Closes actor seen seen_after s c.args.tunnel c.in_ok-heard.heard.note e.0 = record { reply_is = e.1.said; replied = e.1.replied; does = e.1.does } in
     let mine : s.conn.actor ≡ actor = same_actor old.conn s.conn k.0.conn held.conn k.1.conn ∙ k.2.actor_is in
     let items : c.ask.new.self.ports.items ≡ old.ports.items = ap (λ h. h.ports.items) c.ask.ensures.rest in

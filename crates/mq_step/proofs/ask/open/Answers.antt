@@ -8,7 +8,7 @@ use Rattle.mq_step.specs.Holds.{Seats}
 use Rattle.mq_machine.specs.Want.{want_of}
 use Rattle.mq_step.proofs.Cores.{same_actor}
 use Rattle.mq_step.proofs.Standing.{same_apart}
-use Rattle.mq_step.proofs.Opening.{Opens, comes, bound_kept, opened_kept, opened_apart, opened_table, plain_call}
+use Rattle.mq_step.proofs.Opening.{Opens, comes, bound_kept, opened_kept, opened_apart, opened_table, opens_fresh, plain_call}
 use Rattle.mq_held.specs.Answers.{AskGives}
 use Rattle.mq_step.proofs.Refusing.{Fails, sinks}
 use Rattle.mq_step.proofs.Others.{keeps_from, seat_keeps}
@@ -24,7 +24,7 @@ returns-in-Ok-clause-gives g c = λ o n so sn s held want boxes orders.
     let actor = (g.O.Office.seen c.args.office.now).actor in
     let table = c.args.table.now.table in
     let after = c.seat.new.table.table in
-    let e = c.in-Ok.ensures.gives s.conn held.conn (plain_call old.conn s c.args.call held.conn want) want in
+    let e = c.in-Ok.ensures.gives s.conn held.conn (plain_call old.conn s c.args.call held.conn want) want (opens_fresh g.P.P.Port.most c.args.table.now.table old actor seen seen_after s k.0 c.args.call held want k.1 k.2 k.3) in
     let rest = c.seat.ensures.rest in
     let C : Core → Type 0 = λ x. IsConn x e.0 in
     let O : List PortSeat → Type 0 = λ xs. Seats c.in-Ok.heard.opened xs c.ask.new.self.bound new.ports.items in
@@ -59,7 +59,7 @@ returns-in-Err-clause-gives g c = λ o n so sn s held want boxes orders.
     let seen = g.O.Office.seen c.args.office.now in
     let seen_after = g.O.Office.seen c.ask.new.office in
     let actor = (g.O.Office.seen c.args.office.now).actor in
-    let e = c.in-Err.ensures.gives s.conn held.conn (plain_call old.conn s c.args.call held.conn want) want in
+    let e = c.in-Err.ensures.gives s.conn held.conn (plain_call old.conn s c.args.call held.conn want) want (opens_fresh g.P.P.Port.most c.args.table.now.table old actor seen seen_after s k.0 c.args.call held want k.1 k.2 k.3) in
     let rest = c.retire_bound.ensures.rest in
     let C : Core → Type 0 = λ x. AskGives actor seen c.args.call seen_after (IsConn x) s.conn (Err c.in-Err.refused) in
     let U : Option ℕ → Type 0 = λ b. MatchOption b (c.retire_bound.new.table ≡ c.args.table.now) (λ key. Updates c.args.table.now.table c.retire_bound.new.table.table key None) in
@@ -86,7 +86,7 @@ returns-in-Ok-clause-apart g c =
     let old = c.args.held.now in
     let most = g.P.P.Port.most in
     let seen = g.O.Office.seen c.args.office.now in
-    let e = c.in-Ok.ensures.gives k.0.conn k.1.conn (plain_call old.conn k.0 c.args.call k.1.conn k.3) k.3 in
+    let e = c.in-Ok.ensures.gives k.0.conn k.1.conn (plain_call old.conn k.0 c.args.call k.1.conn k.3) k.3 (opens_fresh most c.args.table.now.table old seen.actor seen (g.O.Office.seen c.ask.new.office) k.0 k.0 c.args.call k.1 k.3 k.1 k.2 k.3) in
     let S : List PortSeat → Option ℕ → Type 0 = λ xs b. Seats c.in-Ok.heard.opened xs b c.seat.new.held.ports.items in
     let T : List PortSeat → Type 0 = λ xs. S xs c.ask.new.self.bound in
     let B : Option ℕ → Type 0 = λ b. S old.ports.items b in

@@ -67,14 +67,14 @@ returns-in_err-note-in-Bind-clause-gives g c = λ o n so sn s held want.
     let goal_is = goals.Udp c.in-Bind.addr c.in-Bind.port in
     let W : Want → Type 0 = λ w. IsWant w (want_of s.conn) in
     let wanted = subst W c.in-Bind.is want in
-    let none = bound_none g.P.P.Port.most table old.ports.items (want_of s.conn) (Bind 0 goal_is) old.bound held.bound wanted in
+    let none = bound_none g.P.P.Port.most table old.ports.items (want_of s.conn) (Bind wanted.0 goal_is) old.bound held.bound wanted.1 in
     let e = c.in_err-note-in-Bind.ensures in
     let stays : Stays g.P.P.Port.most g.P.P.Port.holds g.P.P.Port.counts binds binds_after table after old new o n s =
     record { held = held; keeps = e.keeps none; seats = e.seats; number = ap (λ h. h.number) e.rest; sees = so; sees_after = sn } in
     err_gives o n seen seen (IsHeld g.P.P.Port.most after new) s c.from_residual-in_err-note-in-Bind.result c.from_residual-in_err-note-in-Bind.ensures.0
     (λ boxes orders.
-    let x = bind_sinks g.P.P.Port.most g.P.P.Port.holds g.P.P.Port.counts binds binds_after table after old new o n s stays seen boxes orders 0 goal_is wanted e.fails
-    (e.starves s.conn held.conn 0 goal_is wanted) (e.refused none) in
+    let x = bind_sinks g.P.P.Port.most g.P.P.Port.holds g.P.P.Port.counts binds binds_after table after old new o n s stays seen boxes orders wanted.0 goal_is wanted.1 e.fails
+    (e.starves s.conn held.conn wanted.0 goal_is wanted.1) (e.refused none) in
     (x.left_is, x.starves, x.stands_for, x.told_is))
 
 pub returns-in_ok-note-in-Bind-clause-gives : goal.returns-in_ok-note-in-Bind-clause-gives
@@ -89,12 +89,12 @@ returns-in_ok-note-in-Bind-clause-gives g c = λ o n so sn s held want boxes ord
     let goal_is = goals.Udp c.in-Bind.addr c.in-Bind.port in
     let W : Want → Type 0 = λ w. IsWant w (want_of s.conn) in
     let wanted = subst W c.in-Bind.is want in
-    let none = bound_none g.P.P.Port.most table old.ports.items (want_of s.conn) (Bind 0 goal_is) old.bound held.bound wanted in
+    let none = bound_none g.P.P.Port.most table old.ports.items (want_of s.conn) (Bind wanted.0 goal_is) old.bound held.bound wanted.1 in
     let e = c.in_ok-note-in-Bind.ensures in
     let stays : Stays g.P.P.Port.most g.P.P.Port.holds g.P.P.Port.counts binds binds_after table after old new o n s =
     record { held = held; keeps = e.keeps none; seats = e.seats; number = ap (λ h. h.number) e.rest; sees = so; sees_after = sn } in
-    let x = bind_comes g.P.P.Port.most g.P.P.Port.holds g.P.P.Port.counts binds binds_after table after old new o n s stays seen boxes orders c.in_ok-note-in-Bind.note 0 c.in-Bind.port c.in-Bind.addr wanted e.room
-    (e.gives s.conn held.conn 0 goal_is wanted) in
+    let x = bind_comes g.P.P.Port.most g.P.P.Port.holds g.P.P.Port.counts binds binds_after table after old new o n s stays seen boxes orders c.in_ok-note-in-Bind.note wanted.0 c.in-Bind.port c.in-Bind.addr wanted.1 e.room
+    (e.gives s.conn held.conn wanted.0 goal_is wanted.1) in
     (x.left_is, x.done_is, x.stands_for, x.told_is)
 
 pub returns-in-Ask-clause-gives : goal.returns-in-Ask-clause-gives

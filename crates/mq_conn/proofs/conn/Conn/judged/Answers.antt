@@ -1,5 +1,5 @@
 use Rattle.mq_machine.specs.Want.{Judged}
-use Rattle.mq_conn.proofs.Sending.{no_packets}
+use Rattle.mq_conn.proofs.Parcels.{no_packets}
 use Rattle.mq_conn.proofs.conn.Conn.judged.Goals as goal
 
 pub returns-clause-answers : goal.returns-clause-answers

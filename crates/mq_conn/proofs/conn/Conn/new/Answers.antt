@@ -1,16 +1,23 @@
-use Rattle.std.proofs.Common.{List, [], refl, sym, ap, arith}
+use Rattle.std.proofs.Common.{List, [], refl, sym, ap, ◌∙◌, arith}
+use Rattle.std.specs.List.{list_any}
+use Rattle.mq_machine.specs.Lawful.{is_open}
+use Rattle.mq_machine.specs.State as machine
 use Rattle.mq_machine.specs.State.{Head, new_conn}
 use Rattle.mq_machine.specs.declared.act.Due.{Due}
+use Rattle.mq_machine.proofs.Lawful.Steps.{new_lawful}
+use Rattle.mq_conn.specs.Conns.{tunnels_of}
 use Rattle.mq_conn.proofs.conn.Conn.new.Goals as goal
 
 pub returns : goal.returns
 returns c = record {
-  past = record { out = []; given = 0; front = Head []; streams = [] };
-  is = ap (λ (ds : List Due). record (new_conn c.args.id c.args.actor) { due = ds }) (sym c.new-2.ensures);
-  read = (c.new.ensures, refl);
-  owed = c.new-3.ensures;
-  given = omega arith;
-  due = (refl, refl, c.new-2.ensures);
-  udp = tt;
-  begun = refl;
+  stands = record {
+    past = record { out = []; given = 0; front = Head []; streams = [] };
+    is = ap (λ (ds : List Due). record (new_conn c.args.id c.args.actor) { due = ds }) (sym c.new-2.ensures)
+        ∙ ap (λ (ts : List machine.Tunnel). record (new_conn c.args.id c.args.actor) { due = c.new-2.result; tunnels = ts }) (ap tunnels_of (sym c.new-3.ensures.items));
+    read = (refl, c.new.ensures);
+    given = omega arith;
+    room = tt;
+    opens = ap (λ (ds : List Due). list_any is_open ds) c.new-2.ensures;
+  };
+  lawful = new_lawful c.args.id c.args.actor;
 }

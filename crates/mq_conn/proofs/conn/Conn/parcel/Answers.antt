@@ -1,4 +1,4 @@
-use Rattle.mq_conn.proofs.Sending.{no_parcel}
+use Rattle.mq_conn.proofs.Parcels.{no_parcel}
 use Rattle.mq_conn.proofs.conn.Conn.parcel.Goals as goal
 
 pub returns : goal.returns

@@ -1,6 +1,6 @@
 use Rattle.mq_machine.specs.Want.{Pushed}
 use Rattle.mq_conn.specs.Wants.{is_taken}
-use Rattle.mq_conn.proofs.Sending.{no_packets}
+use Rattle.mq_conn.proofs.Parcels.{no_packets}
 use Rattle.mq_conn.proofs.conn.Conn.pushed.Goals as goal
 
 pub returns-clause-answers : goal.returns-clause-answers

@@ -1,4 +1,4 @@
-use Rattle.mq_conn.proofs.Standing.{starves}
+use Rattle.mq_conn.proofs.Answering.{starves}
 use Rattle.mq_conn.proofs.conn.Conn.say.Goals as goal
 
 pub returns-in-Err-clause-answers : goal.returns-in-Err-clause-answers

@@ -1,18 +1,18 @@
-use Rattle.std.proofs.Common.{◌∷◌, ℕ, sym, ap, subst, ◌∙◌}
+use Rattle.std.proofs.Common.{◌∷◌, ap, ◌∙◌}
 use Rattle.mq_machine.specs.declared.act.Due.{Due}
-use Rattle.mq_conn.specs.Conns.{PutsNote}
-use Rattle.mq_conn.proofs.Acting.{sends, same_tunnel}
+use Rattle.mq_machine.specs.declared.act.StreamAct.TheVariants as stream
+use Rattle.mq_machine.specs.Want.{Put}
+use Rattle.mq_conn.proofs.Answering.{puts_note, stays}
 use Rattle.mq_conn.proofs.conn.Conn.sent.Goals as goal
 
 pub returns : goal.returns
 returns c =
     let old = c.args.self.now in
-    let rest = c.take.new.self.due in
+    let mid = c.take.new.self in
     let told = c.in-Some-payload_of in
     let p = told.sending in
     let took = c.in-Some.ensures.took in
-    let due = took.1 ∙ ap (λ (x : Due). x ∷ rest) told.ensures.1 in
     let live = c.in-Some-live.ensures in
-    let P : ℕ → Type 0 = λ k. PutsNote k p.n p.payload c.args.outcome c.args.limit c.put_note.result in
-    sends old c.take.new.self rest live.0 told.ensures.0 p.n p.payload c.args.outcome c.args.limit c.put_note.result c.take.ensures.keeps took.0 due
-    (same_tunnel old c.take.new.self rest live.0 c.take.ensures.keeps live.1) (subst P (sym live.2) c.put_note.ensures)
+    let said = c.put_note-note.result in
+    stays old mid c.settle.new.self p.stream (stream.Payload p.n p.payload) live.0 (Put c.args.outcome c.args.limit) said c.take.ensures.keeps took.0 (took.1 ∙ ap (λ (d : Due). d ∷ mid.due) told.ensures)
+    (λ ts. tt) live.1 (puts_note c.args.outcome c.args.limit c.in-Some-live.id p.n p.payload said live.0 live.2 c.put_note-note.ensures) c.settle.ensures

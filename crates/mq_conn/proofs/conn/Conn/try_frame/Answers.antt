@@ -1,21 +1,25 @@
-use Rattle.std.proofs.Common.{◌≡◌, [], true, Option, sym, subst, ◌∙◌}
-use Rattle.std.specs.Prelude.{MatchOption}
-use Rattle.mq_talk.specs.declared.note.Note.{Note}
-use Rattle.mq_conn.specs.declared.frame.Popped.{Popped}
-use Rattle.mq_conn.specs.Frames.{Framed, PopsFirst}
-use Rattle.mq_conn.proofs.Framing.{frames_both, goes_unspent}
+use Rattle.std.proofs.Common.{◌≡◌, Some, None, true, false, List, [], ◌∷◌, ◌++◌, ℕ, ◌<◌, ◌≤◌, length, drop, not, Option, Bool, slice_get, ◌∙◌, refl, sym, ap, subst, arith}
+use Rattle.std.proofs.lemmas.Option.{get_or_from_slice_get, slice_get-get_or}
+use Rattle.mq_conn.specs.declared.conn.Tunnel.{Tunnel}
+use Rattle.mq_conn.proofs.Framing.{frames_so, same_at, turn_goes, turn_unspent}
 use Rattle.mq_conn.proofs.conn.Conn.try_frame.Goals as goal
+
+pub unreachable-unreachable : goal.unreachable-unreachable
+unreachable-unreachable c =
+    let put = c.in_ok-count.ensures in
+    c.in-None.ensures put.t put.w put.rest (same_at c.args.self.now c.put_first.new.self c.in-Some.place put.t put.keeps put.at) put.waits
+
+pub unreachable-requires : goal.unreachable-requires
+unreachable-requires c =
+    let put = c.in_ok-count.ensures in
+    absurd (c.in-None.ensures put.t put.w put.rest (same_at c.args.self.now c.put_first.new.self c.in-Some.place put.t put.keeps put.at) put.waits)
 
 pub returns-clause-framed : goal.returns-clause-framed
 returns-clause-framed c =
     let old = c.args.self.now in
-    let mid = c.put_first.new.self in
-    let new = c.pop_first.new.self in
-    let popped = c.in-Some.popped in
-    let P : Note → Type 0 = λ n. Framed old new n in
-    let goes = c.if-not-can_go_on.false in
-    subst P (sym c.delivered.ensures) (frames_both old mid new popped.id popped.packet (λ s stands. sym (c.can_go_on.ensures s stands) ∙ goes) c.in_ok-put_first.ensures.ok
-    (λ t live. (let Q : Option Popped → Type 0 = λ o. MatchOption o (t.waiting ≡ []) (λ p. PopsFirst mid new t p.id p.packet) in subst Q c.in-Some.is (c.pop_first.ensures t live))))
+    let put = c.in_ok-count.ensures in
+    frames_so old c.put_first.new.self c.took.new.self c.settle.new.self c.in-Some.place c.in_ok-count.count c.in-Some-took.note c.in-Some.ensures (λ s stands. turn_goes old c.in-Some.place s (c.in-Some.ensures s stands))
+    put (c.in-Some-took.ensures put.t put.w put.rest (same_at old c.put_first.new.self c.in-Some.place put.t put.keeps put.at) put.waits) c.settle.ensures
 
 pub returns-clause-spent : goal.returns-clause-spent
-returns-clause-spent c = goes_unspent c.args.self.now true (λ s stands. sym (c.can_go_on.ensures s stands) ∙ c.if-not-can_go_on.false)
+returns-clause-spent c = turn_unspent c.args.self.now c.in-Some.place true c.in-Some.ensures

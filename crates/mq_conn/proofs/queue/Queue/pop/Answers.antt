@@ -1,8 +1,9 @@
 use Rattle.std.proofs.Common.{◌≡◌, ◌+◌, ◌∷◌, List, map, length, sym, ◌∙◌, ap, arith}
 use Rattle.mq_capsule.specs.Writing.{capsule_text, datagram}
 use Rattle.mq_conn.specs.declared.queue.Packet.{Packet}
-use Rattle.mq_conn.specs.Queues.{waiting_of, size_of}
-use Rattle.mq_conn.proofs.QueueLists.{capsule_above, size_first}
+use Rattle.mq_machine.specs.State.{Waiting}
+use Rattle.mq_conn.specs.Queues.{behind, waiting_of, with_framed, size_of}
+use Rattle.mq_conn.proofs.QueueLists.{capsule_above, size_first, unframed}
 use Rattle.mq_conn.proofs.queue.Queue.pop.Goals as goal
 
 pub capsule_size-requires : goal.capsule_size-requires
@@ -26,4 +27,9 @@ overflow_sub-self c =
     omega (arith, c.self.invariant.1, s, z)
 
 pub returns : goal.returns
-returns c = sym c.self.view_is ∙ ap (λ (ps : List Packet). map waiting_of ps) c.in_ok-packet.ensures.items
+returns c =
+    let framed = c.self.inside.framed in (
+      framed,
+      sym c.self.view_is ∙ ap (λ (ps : List Packet). with_framed framed (map waiting_of ps)) c.in_ok-packet.ensures.items
+          ∙ ap (λ (ws : List Waiting). behind framed c.in_ok-packet.packet ∷ ws) (sym (unframed c.pop_front.new.self.items)),
+    )

@@ -2,7 +2,7 @@ use Rattle.mq_held.proofs.held.Held.ask.Goals as goal
 use Rattle.mq_held.proofs.Fronts.{hears}
 
 pub returns-in-Ok-clause-gives : goal.returns-in-Ok-clause-gives
-returns-in-Ok-clause-gives g c = λ s stands plain want.
+returns-in-Ok-clause-gives g c = λ s stands plain want fresh.
     hears
     (g.O.Office.seen c.args.office.now).actor
     (g.O.Office.seen c.args.office.now)
@@ -16,5 +16,6 @@ returns-in-Ok-clause-gives g c = λ s stands plain want.
     stands
     plain
     want
+    fresh
     c.in-Ok.ensures.gives
     c.hear.ensures.gives

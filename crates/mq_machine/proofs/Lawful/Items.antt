@@ -1,0 +1,151 @@
+-- What the data stream of a tunnel for UDP asks for, and that requests by a template of UDP lead to UDP.
+use Rattle.std.proofs.Common.{◌≡◌, ℕ, ◌+◌, ◌==◌, Bool, true, false, cond, nat_lt, List, [], ◌∷◌, ◌++◌, length, drop, Option, Some, None, option_map, sym, subst, inl, inr}
+use Rattle.std.specs.List.{AllByRecursion, filter_map, cons_option, list_any}
+use Rattle.mq_addr.specs.declared.addr.Addr.{Addr}
+use Rattle.mq_addr.specs.declared.kind.Kind.{Kind}
+use Rattle.mq_addr.specs.declared.kind.Kind.TheVariants as kind
+use Rattle.mq_capsule.specs.declared.head.Head.{Head}
+use Rattle.mq_capsule.specs.declared.item.Item.{Item}
+use Rattle.mq_capsule.specs.declared.item.Item.TheVariants as item
+use Rattle.mq_capsule.specs.Capsule.{Capsule, head_of}
+use Rattle.mq_capsule.specs.Items.{ItemsOf, said, item_of, head_items, datagram_by, max_payload, up_to_bad, is_bad}
+use Rattle.mq_policy.specs.Decisions.{Decides}
+use Rattle.mq_policy.specs.Goals.{goal_of, addr_of}
+use Rattle.mq_policy.specs.Names.{NameTable}
+use Rattle.mq_policy.specs.declared.decision.Decision.{Decision}
+use Rattle.mq_policy.specs.declared.decision.Decision.TheVariants.{Go, Denied, UnknownName}
+use Rattle.mq_talk.specs.declared.goal.Goal.{Goal}
+use Rattle.mq_talk.specs.declared.goal.Goal.TheVariants as goal
+use Rattle.mq_talk.specs.declared.note.Why.TheVariants as why
+use Rattle.mq_talk.specs.declared.place.Cause.TheVariants as cause
+use Rattle.mq_target.specs.declared.shape.Order.{Order}
+use Rattle.mq_target.specs.declared.shape.Order.TheVariants.{TargetFirst, TargetLast}
+use Rattle.mq_target.specs.declared.target.Target.{Target}
+use Rattle.mq_target.specs.declared.target.Target.TheVariants as target
+use Rattle.mq_target.specs.declared.target.Matched.{Matched}
+use Rattle.mq_target.specs.declared.target.Matched.TheVariants.{No, Bad, Yes}
+use Rattle.mq_target.specs.Matching.{Matches, Reads}
+use Rattle.mq_target.specs.Values.{IsTarget}
+use Rattle.mq_wire.specs.Integer.{int_of}
+use Rattle.mq_machine.specs.declared.act.StreamAct.{StreamAct}
+use Rattle.mq_machine.specs.declared.act.StreamAct.TheVariants as stream
+use Rattle.mq_machine.specs.declared.setup.Setup.{Setup}
+use Rattle.mq_machine.specs.State.{Stream, kind_of}
+use Rattle.mq_machine.specs.Reading.{Meaning, Leads, Refused, decided, MatchedMeans, PathMeans, KindMeans, max_udp, udp_act, item_acts, is_payload, payload_count, is_close, then_acts, acts_of, has_values, EndsWith, BytesAsk}
+use Rattle.mq_machine.specs.Lawful.{IsUdp, IsAsked}
+use Rattle.mq_machine.proofs.Lawful.Lists.{either, each_append}
+
+-- ---- a reader of a tunnel for UDP tells no control capsules
+
+abbrev IsPlain : Item → Type 0
+IsPlain (item.Datagram context payload) = Unit {0}
+IsPlain (item.TooLongDatagram context size) = Unit {0}
+IsPlain (item.Control type value) = ⊥
+IsPlain (item.Bad fault) = Unit {0}
+
+abbrev ArePlain : List Item → Type 0
+ArePlain items = AllByRecursion IsPlain items
+
+each_behind : {A : Type 0} (P : A → Type 0) (xs ys : List A) → AllByRecursion P (xs ++ ys) → AllByRecursion P ys
+each_behind P [] ys h = h
+each_behind P (x ∷ xs) ys h = each_behind P xs ys h.1
+
+of_payload : (o : Option (ℕ × ℕ)) (value : List ℕ) → IsPlain (datagram_by o value)
+of_payload None value = tt
+of_payload (Some context) value =
+    either (nat_lt max_payload (length (drop context.1 value))) IsPlain (item.TooLongDatagram context.0 (length (drop context.1 value))) (item.Datagram context.0 (drop context.1 value)) tt tt
+
+of_capsules : (cs : List Capsule) → ArePlain (filter_map (item_of false) cs)
+of_capsules [] = tt
+of_capsules (c ∷ cs) =
+    let rest = filter_map (item_of false) cs in
+    either {A = Option Item} (c.kind == 0) (λ o. ArePlain (cons_option o rest)) (Some (datagram_by (int_of c.value) c.value)) None (of_payload (int_of c.value) c.value, of_capsules cs) (of_capsules cs)
+
+of_head : (o : Option Head) → ArePlain (head_items false o)
+of_head None = tt
+of_head (Some head) = tt
+
+up_to : (items : List Item) → ArePlain items → ArePlain (up_to_bad items)
+up_to [] h = tt
+up_to (i ∷ items) h = (h.0, either (is_bad i) ArePlain [] (up_to_bad items) tt (up_to items h.1))
+
+said_plain : (cs : List Capsule) (rest : List ℕ) → ArePlain (said false cs rest)
+said_plain cs rest = up_to _ (each_append IsPlain (filter_map (item_of false) cs) (head_items false (head_of rest)) (of_capsules cs) (of_head (head_of rest)))
+
+-- ---- what they ask for
+
+abbrev pub AreAsked : List StreamAct → Type 0
+AreAsked acts = AllByRecursion IsAsked acts
+
+asked_udp : (n : ℕ) (payload : List ℕ) → IsAsked (udp_act n payload)
+asked_udp n payload = either (nat_lt max_udp (length payload)) IsAsked (stream.Close why.Malformed) (stream.Payload n payload) (λ e. cc) tt
+
+asked_item : (mtu n : ℕ) (i : Item) → IsPlain i → AreAsked (item_acts kind.Udp mtu n i)
+asked_item mtu n (item.Datagram context payload) h = (either (context == 0) IsAsked (udp_act n payload) (stream.Drop n cause.UnknownContext) (asked_udp n payload) tt, tt)
+asked_item mtu n (item.TooLongDatagram context size) h = (either (context == 0) IsAsked (stream.Close why.Malformed) (stream.Drop n cause.UnknownContext) (λ e. cc) tt, tt)
+asked_item mtu n (item.Control type value) h = absurd h
+asked_item mtu n (item.Bad fault) h = (λ e. cc, tt)
+
+asked_then : (acts more : List StreamAct) → AreAsked acts → AreAsked more → AreAsked (then_acts acts more)
+asked_then acts more h k = each_append IsAsked acts (cond (list_any is_close acts) [] more) h (either (list_any is_close acts) AreAsked [] more tt k)
+
+asked_items : (mtu n : ℕ) (items : List Item) → ArePlain items → AreAsked (acts_of kind.Udp mtu n items)
+asked_items mtu n [] h = tt
+asked_items mtu n (i ∷ items) h =
+    asked_then (item_acts kind.Udp mtu n i) (acts_of kind.Udp mtu (n + cond (is_payload i) 1 0) items) (asked_item mtu n i h.0) (asked_items mtu (n + cond (is_payload i) 1 0) items h.1)
+
+asked_ends : (goal : Goal) (bytes : List ℕ) (ends : Bool) (acts : List StreamAct) → EndsWith goal bytes ends acts → AreAsked acts
+asked_ends goal bytes false acts h = subst AreAsked (sym h) tt
+asked_ends goal bytes true acts (inl h) = subst AreAsked (sym h.1) (λ e. cc, tt)
+asked_ends goal bytes true acts (inr h) = subst AreAsked (sym h.1) (λ e. cc, tt)
+
+asked_goal : (mtu : ℕ) (goal : Goal) (bytes : List ℕ) (before items : List Item) → IsUdp goal → ItemsOf (has_values goal) bytes (before ++ items)
+    → AreAsked (acts_of (kind_of goal) mtu (payload_count before) items)
+asked_goal mtu (goal.Udp addr port) bytes before items h is =
+    asked_items mtu (payload_count before) items (each_behind IsPlain before items (subst ArePlain (sym is.items_are) (said_plain is.capsules is.rest)))
+asked_goal mtu (goal.Ip area protocol) bytes before items h is = absurd h
+
+-- more bytes of the data stream
+pub asked_bytes : (mtu : ℕ) (s : Stream) (bytes : List ℕ) (ends : Bool) (acts : List StreamAct) → IsUdp s.goal → BytesAsk mtu s bytes ends acts → AreAsked acts
+asked_bytes mtu s bytes ends acts h x =
+    subst AreAsked (sym x.acts_are)
+    (asked_then (acts_of (kind_of s.goal) mtu (payload_count x.before) x.items) x.last (asked_goal mtu s.goal (s.bytes ++ bytes) x.before x.items h x.is) (asked_ends s.goal (s.bytes ++ bytes) ends x.last x.ends_in))
+
+-- ---- requests
+
+udp_addr : (port : ℕ) (o : Option Addr) (found : Goal) → option_map (λ (a : Addr). goal.Udp a port) o ≡ Some found → IsUdp found
+udp_addr port None found e = absurd cc
+udp_addr port (Some a) found e = let same : goal.Udp a port ≡ found = cc in subst IsUdp same tt
+
+udp_target : (first second : List ℕ) (names : NameTable) (t : Target) (found : Goal) → IsTarget kind.Udp first second t → goal_of names t ≡ Some found → IsUdp found
+udp_target first second names (target.Udp host port) found h e = udp_addr port (addr_of names host) found e
+udp_target first second names (target.Ip area protocol) found h e = absurd h
+
+udp_reads : (names : NameTable) (order : Order) (first second : List ℕ) (t : Target) (found : Goal) → Reads kind.Udp order first second t → goal_of names t ≡ Some found → IsUdp found
+udp_reads names TargetFirst first second t found h e = udp_target _ _ names t found h e
+udp_reads names TargetLast first second t found h e = udp_target _ _ names t found h e
+
+-- it leads to UDP, or is refused
+abbrev pub IsFine : Meaning → Type 0
+IsFine (Leads goal) = IsUdp goal
+IsFine (Refused status rule) = Unit {0}
+
+fine_decision : (setup : Setup) (t : Target) (d : Decision) → ((found : Goal) → goal_of setup.policy.names t ≡ Some found → IsUdp found) → Decides setup.policy t d → IsFine (decided d)
+fine_decision setup t (Go found) h x = subst IsUdp (sym x.2.0) (h x.0 x.1)
+fine_decision setup t (Denied rule) h x = tt
+fine_decision setup t UnknownName h x = tt
+
+fine_matched : (setup : Setup) → setup.udp.kind ≡ kind.Udp → (path : List ℕ) (m : Matched) (meaning : Meaning) → Matches setup.udp path m → MatchedMeans setup m meaning → IsFine meaning
+fine_matched setup k path No meaning x y = subst IsFine (sym y) tt
+fine_matched setup k path Bad meaning x y = subst IsFine (sym y) tt
+fine_matched setup k path (Yes t) meaning x y =
+    let P : Kind → Type 0 = λ kind. Reads kind setup.udp.order x.0 x.1 t in
+    subst IsFine (sym y.2) (fine_decision setup t y.0 (λ found e. udp_reads setup.policy.names setup.udp.order x.0 x.1 t found (subst P k x.3) e) y.1)
+
+pub fine_path : (setup : Setup) → setup.udp.kind ≡ kind.Udp → (k : Kind) (path : List ℕ) (meaning : Meaning) → PathMeans setup k path meaning → IsFine meaning
+fine_path setup k kind.Udp path meaning x = fine_matched setup k path x.0 meaning x.1 x.2
+fine_path setup k kind.Ip path meaning x = subst IsFine (sym x) tt
+
+pub fine_kind : (setup : Setup) → setup.udp.kind ≡ kind.Udp → (o : Option Kind) (path : List ℕ) (meaning : Meaning) → KindMeans setup o path meaning → IsFine meaning
+fine_kind setup k None path meaning x = subst IsFine (sym x) tt
+fine_kind setup k (Some asked) path meaning x = fine_path setup k asked path meaning x

@@ -1,0 +1,216 @@
+-- What holds of each connection that the machine leads to, where its tunnels are for UDP.
+use Rattle.std.specs.Prelude.{◌≡◌, ◌≢◌, ℕ, ◌+◌, ◌≤◌, ◌==◌, ◌||◌, Bool, true, false, List, [], ◌∷◌, drop, find, if◌then◌else◌, Option, Some, None}
+use Rattle.std.specs.List.{AllByRecursion, list_any}
+use Rattle.std.specs.Option.{is_some}
+use Rattle.mq_h2.specs.Laws.{may_come}
+use Rattle.mq_h2.specs.State as h2
+use Rattle.mq_streams.specs.History.{total, arrived_on, consumed_on}
+use Rattle.mq_talk.specs.declared.book.Reply.TheVariants as reply
+use Rattle.mq_talk.specs.declared.goal.Goal.{Goal}
+use Rattle.mq_talk.specs.declared.goal.Goal.TheVariants as goal
+use Rattle.mq_talk.specs.declared.note.End.{End}
+use Rattle.mq_talk.specs.declared.note.Why.TheVariants as why
+use Rattle.mq_machine.specs.declared.act.Act.TheVariants as act
+use Rattle.mq_machine.specs.declared.act.StreamAct.{StreamAct}
+use Rattle.mq_machine.specs.declared.act.StreamAct.TheVariants as stream
+use Rattle.mq_machine.specs.declared.act.Due.{Due}
+use Rattle.mq_machine.specs.declared.act.Due.TheVariants as due
+use Rattle.mq_machine.specs.Laws.{BeginsWithAct}
+use Rattle.mq_machine.specs.State.{Conn, Front, Head, OverHttp1, OverHttp2, Stream, Tunnel}
+use Rattle.mq_machine.specs.Want.{Want, Nothing, Say, Bind, Ask, Judge, Push, Send, Over, Answer, Replied}
+
+-- ---- what is due
+
+abbrev pub IsUdp : Goal → Type 0
+IsUdp (goal.Udp addr port) = Unit {0}
+IsUdp (goal.Ip area protocol) = ⊥
+
+-- a tunnel is live on this stream
+abbrev pub has_on : List Tunnel → ℕ → Bool
+has_on ts id = is_some (find (λ (t : Tunnel). t.stream == id) ts)
+
+-- and one on that, too
+abbrev pub with_one : ℕ → (ℕ → Bool) → ℕ → Bool
+with_one id live other = if id == other then true else live other
+
+-- what the data stream of a tunnel for UDP may ask for
+abbrev pub IsAsked : StreamAct → Type 0
+IsAsked (stream.Payload n payload) = Unit {0}
+IsAsked (stream.Packet n packet flow) = ⊥
+IsAsked (stream.Push n to packet) = ⊥
+IsAsked (stream.Drop n cause) = Unit {0}
+IsAsked (stream.Assign asked) = ⊥
+IsAsked (stream.Advertise ranges) = ⊥
+IsAsked (stream.Close reason) = reason ≢ why.Conn
+
+-- What is asked of a stream is asked of its live tunnel, or comes behind the opening of that. No stream opens twice.
+abbrev pub Follows : (ℕ → Bool) → List Due → Type 0
+Follows live [] = Unit {0}
+Follows live (due.Do (act.Bind id goal) ∷ rest) = (live id ≡ false) × IsUdp goal × Follows (with_one id live) rest
+Follows live (due.Do (act.Open id goal) ∷ rest) = (live id ≡ false) × IsUdp goal × Follows (with_one id live) rest
+Follows live (due.Do (act.Refuse id status rule) ∷ rest) = Follows live rest
+Follows live (due.Do (act.Reset id code) ∷ rest) = Follows live rest
+Follows live (due.Do (act.OfStream id a) ∷ rest) = (live id ≡ true) × IsAsked a × Follows live rest
+Follows live (due.Spend id size ∷ rest) = Follows live rest
+Follows live (due.Fault code ∷ rest) = Follows live rest
+
+-- the opening of a tunnel in the book
+abbrev pub is_open : Due → Bool
+is_open (due.Do (act.Bind id goal)) = false
+is_open (due.Do (act.Open id goal)) = true
+is_open (due.Do (act.Refuse id status rule)) = false
+is_open (due.Do (act.Reset id code)) = false
+is_open (due.Do (act.OfStream id a)) = false
+is_open (due.Spend id size) = false
+is_open (due.Fault code) = false
+
+-- none of these is one
+abbrev pub NoOpens : List Due → Type 0
+NoOpens dues = list_any is_open dues ≡ false
+
+-- a tunnel is to open on this stream
+abbrev pub begins_on : ℕ → Due → Bool
+begins_on id (due.Do (act.Bind on goal)) = on == id
+begins_on id (due.Do (act.Open on goal)) = on == id
+begins_on id (due.Do (act.Refuse on status rule)) = false
+begins_on id (due.Do (act.Reset on code)) = false
+begins_on id (due.Do (act.OfStream on a)) = false
+begins_on id (due.Spend on size) = false
+begins_on id (due.Fault code) = false
+
+-- a data stream has its tunnel, or one is to open for it
+abbrev pub IsSeated : List Tunnel → List Due → Stream → Type 0
+IsSeated ts dues s = (has_on ts s.id || list_any (begins_on s.id) dues) ≡ true
+
+-- while the connection isn't ending
+abbrev pub AreSeated : Option End → List Tunnel → List Due → List Stream → Type 0
+AreSeated None ts dues streams = AllByRecursion (IsSeated ts dues) streams
+AreSeated (Some why) ts dues streams = Unit {0}
+
+-- each tunnel has its stream for itself
+abbrev pub Alone : List Tunnel → Type 0
+Alone [] = Unit {0}
+Alone (t ∷ ts) = (has_on ts t.stream ≡ false) × Alone ts
+
+-- a tunnel has this number
+abbrev pub has_number : List Tunnel → ℕ → Bool
+has_number ts id = list_any (λ (t : Tunnel). t.id == id) ts
+
+-- each tunnel has its number for itself
+abbrev pub Numbered : List Tunnel → Type 0
+Numbered [] = Unit {0}
+Numbered (t ∷ ts) = (has_number ts t.id ≡ false) × Numbered ts
+
+-- while the connection isn't ending
+abbrev pub AreNumbered : Option End → List Tunnel → Type 0
+AreNumbered None ts = Numbered ts
+AreNumbered (Some why) ts = Unit {0}
+
+-- the number of a tunnel that opens is new
+abbrev pub IsFresh : List Tunnel → Answer → Type 0
+IsFresh ts (Replied (reply.Opened tunnel routes)) = has_number ts tunnel ≡ false
+IsFresh ts answer = Unit {0}
+
+-- ---- how far the bytes were read
+
+-- of stream 0, a mark or none
+abbrev pub IsOfZero : Due → Type 0
+IsOfZero (due.Do (act.Bind id goal)) = ⊥
+IsOfZero (due.Do (act.Open id goal)) = ⊥
+IsOfZero (due.Do (act.Refuse id status rule)) = ⊥
+IsOfZero (due.Do (act.Reset id code)) = ⊥
+IsOfZero (due.Do (act.OfStream id a)) = id ≡ 0
+IsOfZero (due.Spend id size) = ⊥
+IsOfZero (due.Fault code) = ⊥
+
+-- over HTTP/1.1 a request, and behind it what its data stream asks for
+abbrev pub IsOneRequest : List Due → Type 0
+IsOneRequest [] = Unit {0}
+IsOneRequest (due.Do (act.Bind id goal) ∷ rest) = (id ≡ 0) × AllByRecursion IsOfZero rest
+IsOneRequest (due.Do (act.Open id goal) ∷ rest) = (id ≡ 0) × AllByRecursion IsOfZero rest
+IsOneRequest (due.Do (act.Refuse id status rule) ∷ rest) = (id ≡ 0) × AllByRecursion IsOfZero rest
+IsOneRequest (due.Do (act.Reset id code) ∷ rest) = ⊥
+IsOneRequest (due.Do (act.OfStream id a) ∷ rest) = (id ≡ 0) × AllByRecursion IsOfZero rest
+IsOneRequest (due.Spend id size ∷ rest) = ⊥
+IsOneRequest (due.Fault code ∷ rest) = ⊥
+
+-- while it isn't ending, it has a tunnel where nothing is due
+abbrev pub IsUsed : Option End → List Due → List Tunnel → Type 0
+IsUsed None [] ts = has_on ts 0 ≡ true
+IsUsed None (d ∷ dues) ts = Unit {0}
+IsUsed (Some why) dues ts = Unit {0}
+
+pub record Http1Fits (e : Option End) (ds : List Due) (ts : List Tunnel) (ss : List Stream) : Type 0 where
+  pub due : IsOneRequest ds
+  pub used : IsUsed e ds ts
+  pub tunnels : AllByRecursion (λ (t : Tunnel). t.stream ≡ 0) ts
+  pub streams : AllByRecursion (λ (s : Stream). s.id ≡ 0) ss
+
+abbrev pub IsHttp1 : Conn → Type 0
+IsHttp1 c = Http1Fits c.ending c.due c.tunnels c.streams
+
+-- how many bytes of DATA of this stream are to be consumed as what is due is done
+abbrev pub spends_on : ℕ → Due → ℕ
+spends_on id (due.Do a) = 0
+spends_on id (due.Spend on size) = if on == id then size else 0
+spends_on id (due.Fault code) = 0
+
+abbrev pub spends : ℕ → List Due → ℕ
+spends id [] = 0
+spends id (d ∷ dues) = spends_on id d + spends id dues
+
+-- In HTTP/2 the request of a stream that has a tunnel, or is to have one, came, and no second one can. The DATA that is to be
+-- consumed arrived.
+pub record Http2Fits (h : h2.State) (ds : List Due) (ts : List Tunnel) : Type 0 where
+  pub tunnels : AllByRecursion (λ (t : Tunnel). may_come t.stream h ≡ false) ts
+  pub dues : (id : ℕ) → list_any (begins_on id) ds ≡ true → may_come id h ≡ false
+  pub spends : (id : ℕ) → total (consumed_on id) h.history + spends id ds ≤ total (arrived_on id) h.history
+
+abbrev pub IsHttp2 : h2.State → Conn → Type 0
+IsHttp2 h c = Http2Fits h c.due c.tunnels
+
+abbrev pub Fits : Front → Option End → List Due → List Tunnel → List Stream → Type 0
+Fits (Head bytes) e ds ts ss = (ds ≡ []) × (ts ≡ []) × (ss ≡ [])
+Fits OverHttp1 e ds ts ss = Http1Fits e ds ts ss
+Fits (OverHttp2 h) e ds ts ss = Http2Fits h ds ts
+
+abbrev pub FitsFront : Front → Conn → Type 0
+FitsFront front c = Fits front c.ending c.due c.tunnels c.streams
+
+-- ---- all
+
+-- once it is ending, nothing is due
+abbrev pub IsOver : Option End → List Due → Type 0
+IsOver None dues = Unit {0}
+IsOver (Some why) dues = dues ≡ []
+
+pub record Loose (e : Option End) (ds : List Due) (ts : List Tunnel) (ss : List Stream) (f : Front) : Type 0 where
+  pub over : IsOver e ds
+  pub follows : Follows (has_on ts) ds
+  pub opens : NoOpens (drop 1 ds)
+  pub seated : AreSeated e ts ds ss
+  pub alone : Alone ts
+  pub numbered : AreNumbered e ts
+  pub udp : AllByRecursion (λ (t : Tunnel). IsUdp t.goal) ts
+  pub asked : AllByRecursion (λ (s : Stream). IsUdp s.goal) ss
+  pub front : Fits f e ds ts ss
+
+-- before the end of an act: marks may be in front
+abbrev pub IsLoose : Conn → Type 0
+IsLoose c = Loose c.ending c.due c.tunnels c.streams c.front
+
+-- behind it an act is in front, or nothing
+pub record IsLawful (c : Conn) : Type 0 where
+  pub loose : IsLoose c
+  pub settled : BeginsWithAct c.due
+
+-- it waits for its client, or may wait for its port
+abbrev pub waits : Want → Bool
+waits Nothing = true
+waits Say = false
+waits (Bind stream goal) = false
+waits (Ask call) = false
+waits (Judge tunnel n flow) = false
+waits (Push parcel) = false
+waits (Send tunnel n payload) = true
+waits (Over why) = false
