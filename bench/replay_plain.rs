@@ -1,22 +1,23 @@
 // The plain program that bench/replay.sh compares with: what `masque replay` does with UDP tunnels over HTTP/1.1, for many links,
 // workers and tunnels, by ordinary Rust. It prints the same lines for the same script, where `workers` is the only setting, and
-// where a connection's bytes begin with a head whose lines end in CR and LF. It proves nothing and refuses nothing.
+// where a connection's bytes begin with a head whose lines end in CR and LF. It proves nothing and refuses nothing. Lines of
+// scripts, targets and capsules of bench/tunnels_plain.rs are read by it too.
 use std::collections::VecDeque;
 use std::io::{self, BufRead, BufReader, BufWriter, Write};
 use std::net::IpAddr;
 use std::process::ExitCode;
 
-const MOST_LINE: usize = 200_000;
-const MOST_SCRIPT: usize = 1 << 26;
-const MOST_LINKS: usize = 65_536;
-const MOST_LIVE: usize = 32;
-const MOST_ENTRIES: usize = 262_144;
+pub const MOST_LINE: usize = 200_000;
+pub const MOST_SCRIPT: usize = 1 << 26;
+pub const MOST_LINKS: usize = 65_536;
+pub const MOST_LIVE: usize = 32;
+pub const MOST_ENTRIES: usize = 262_144;
 const MOST_HEAD: usize = 8_192;
 const MOST_FIELDS: usize = 64;
-const MOST_READ: usize = 16_384;
-const MOST_OWED: usize = 65_535;
-const MOST_PACKETS: usize = 64;
-const MOST_WAITING: usize = 1 << 20;
+pub const MOST_READ: usize = 16_384;
+pub const MOST_OWED: usize = 65_535;
+pub const MOST_PACKETS: usize = 64;
+pub const MOST_WAITING: usize = 1 << 20;
 const MOST_PAYLOAD: usize = 65_527;
 const MOST_KEPT: u64 = 65_535;
 
@@ -25,7 +26,7 @@ const SUCCESS: &[u8] =
 
 // ---- lines of a script
 
-enum Line {
+pub enum Line {
     Blank,
     Workers(u32),
     Conn(u32),
@@ -42,7 +43,7 @@ enum Line {
 }
 
 #[derive(Clone, Copy)]
-enum Actor {
+pub enum Actor {
     Worker(u32),
     Net,
 }
@@ -114,7 +115,7 @@ fn actor(text: &[u8]) -> Option<Actor> {
     if text == b"net" { Some(Actor::Net) } else { number(text, 0, 3).map(Actor::Worker) }
 }
 
-fn parse(line: &[u8]) -> Option<Line> {
+pub fn parse(line: &[u8]) -> Option<Line> {
     if line.is_empty() || line[0] == b'#' {
         return Some(Line::Blank);
     }
@@ -186,7 +187,7 @@ fn path_of(target: &str) -> Option<&str> {
 }
 
 /// The address and port to which the path of a request leads, or the status of its refusal.
-fn goal_of(path: &str) -> Result<(IpAddr, u16), u16> {
+pub fn goal_of(path: &str) -> Result<(IpAddr, u16), u16> {
     let is_value = |text: &str| !text.is_empty() && !text.contains(['?', '&', '#']);
     let rest = path.strip_prefix("/.well-known/masque/udp/").ok_or(404u16)?;
     let parts: Vec<&str> = rest.split('/').collect();
@@ -272,7 +273,7 @@ fn varint(bytes: &[u8]) -> Option<(u64, usize)> {
     Some((bytes[1..].iter().fold(u64::from(first & 0x3f), |value, byte| value << 8 | u64::from(*byte)), size))
 }
 
-fn put_varint(out: &mut Vec<u8>, value: u64) {
+pub fn put_varint(out: &mut Vec<u8>, value: u64) {
     match value {
         0..0x40 => out.push(value as u8),
         0x40..0x4000 => out.extend_from_slice(&(0x4000 | value as u16).to_be_bytes()),
@@ -287,7 +288,7 @@ fn put_datagram(out: &mut Vec<u8>, payload: &[u8]) {
     out.extend_from_slice(payload);
 }
 
-fn capsule_size(payload: usize) -> usize {
+pub fn capsule_size(payload: usize) -> usize {
     let spelled = match payload + 1 {
         0..0x40 => 1,
         0x40..0x4000 => 2,
@@ -296,7 +297,7 @@ fn capsule_size(payload: usize) -> usize {
     2 + spelled + payload
 }
 
-enum Capsule {
+pub enum Capsule {
     Front,
     Keep { context: u64, payload: Vec<u8>, missing: usize },
     /// A capsule that is passed over, and the context of a payload that is too long.
@@ -328,13 +329,17 @@ fn behind_front(front: &[u8]) -> Option<(Capsule, usize)> {
     }
 }
 
-struct Reader {
+pub struct Reader {
     front: Vec<u8>,
     state: Capsule,
     next: u64,
 }
 
 impl Reader {
+    pub fn new() -> Reader {
+        Reader { front: Vec::new(), state: Capsule::Front, next: 0 }
+    }
+
     fn is_begun(&self) -> bool {
         match self.state {
             Capsule::Front => !self.front.is_empty(),
@@ -354,7 +359,7 @@ impl Reader {
     }
 
     /// Reads bytes, and puts what they ask for behind what is due. Behind a close nothing is asked for.
-    fn feed(&mut self, mut piece: &[u8], due: &mut VecDeque<Act>) {
+    pub fn feed(&mut self, mut piece: &[u8], due: &mut VecDeque<Act>) {
         while !matches!(due.back(), Some(Act::Close)) {
             match &mut self.state {
                 Capsule::Front => {
@@ -401,7 +406,7 @@ impl Reader {
 
 // ---- connections
 
-enum Act {
+pub enum Act {
     Bind(IpAddr),
     Refuse(u16),
     Send(u64, Vec<u8>),
@@ -463,7 +468,7 @@ enum Moved {
     Ended,
 }
 
-fn put_hex(out: &mut impl Write, bytes: &[u8]) -> io::Result<()> {
+pub fn put_hex(out: &mut impl Write, bytes: &[u8]) -> io::Result<()> {
     const DIGITS: &[u8; 16] = b"0123456789abcdef";
     if bytes.is_empty() {
         return out.write_all(b"-\n");
@@ -673,7 +678,7 @@ impl Conn {
             }
             Ok((addr, _)) => {
                 self.due.push_back(Act::Bind(addr));
-                let mut reader = Reader { front: Vec::new(), state: Capsule::Front, next: 0 };
+                let mut reader = Reader::new();
                 reader.feed(&piece[end - before..], &mut self.due);
                 Front::Data(reader)
             }
@@ -961,10 +966,13 @@ impl World {
     }
 }
 
-fn main() -> io::Result<ExitCode> {
+/// Plays the script of standard input, line by line, each by `play`, which answers whether it is good.
+pub fn play_script<W>(
+    mut world: W,
+    play: impl Fn(&mut W, &[u8], &mut BufWriter<io::StdoutLock<'static>>) -> io::Result<bool>,
+) -> io::Result<ExitCode> {
     let mut script = BufReader::with_capacity(1 << 16, io::stdin().lock());
     let mut out = BufWriter::with_capacity(1 << 16, io::stdout().lock());
-    let mut world = World::new();
     let mut line = Vec::new();
     let (mut number, mut size) = (0u64, 0);
     loop {
@@ -976,7 +984,7 @@ fn main() -> io::Result<ExitCode> {
         number += 1;
         size += count;
         let text = line.strip_suffix(b"\n").unwrap_or(&line);
-        if text.len() > MOST_LINE || size > MOST_SCRIPT || !world.play(text, &mut out)? {
+        if text.len() > MOST_LINE || size > MOST_SCRIPT || !play(&mut world, text, &mut out)? {
             writeln!(out, "bad line {number}")?;
             out.flush()?;
             return Ok(ExitCode::from(5));
@@ -984,4 +992,8 @@ fn main() -> io::Result<ExitCode> {
     }
     out.flush()?;
     Ok(ExitCode::SUCCESS)
+}
+
+fn main() -> io::Result<ExitCode> {
+    play_script(World::new(), |world, line, out| world.play(line, out))
 }

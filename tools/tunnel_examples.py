@@ -1,11 +1,11 @@
 #!/usr/bin/env python3
-"""Writes examples/hundred_tunnels.script and examples/one_byte_windows.script, with what COMMAND prints for them beside.
+"""Writes the examples hundred_tunnels, one_byte_windows and counted_steps, with what COMMAND prints for them beside.
 
 Usage, at the top of the repository:  tools/tunnel_examples.py COMMAND..
 
 COMMAND plays a script from its standard input, as `crates/masque/out/masque replay` does. The frames are spelled here, by RFC
 9113, sections 4 and 6, and what has to be printed and written is worked out here too: each payload in its own tunnel, both ways,
-and eight frames of one byte for one capsule. It isn't part of the gate.
+eight frames of one byte for one capsule, and the number of steps of each line. It isn't part of the gate.
 """
 import subprocess
 import sys
@@ -18,6 +18,9 @@ HUNDRED = """# A hundred tunnels on one connection of HTTP/2, tunnel N on stream
 """
 ONE_BYTE = """# A client of HTTP/2 that grants its stream one byte at a time: a capsule of eight bytes is framed in eight parts. Behind the
 # second datagram's first byte the client ends its stream, which is reset then, since a part of a capsule is no data stream.
+"""
+COUNTED = """# Two tunnels on one connection of HTTP/2: a payload of each goes to its port, a datagram of each port comes back, and the client
+# ends the stream of the first. Each line of steps has as many as there are to do, and the last has one more, at which nothing is.
 """
 
 
@@ -55,6 +58,12 @@ def one_byte():
     return "".join(lines + [piece(frame(0, 1, 1, b"")), "run 99\n"])
 
 
+def counted():
+    lines = [COUNTED, "conn 0\n", piece(opening(65535) + request(1) + request(3)), "step 0 7\n"]
+    lines += [piece(said(1, 7) + said(3, 8)), "dgram 0 70\n", "dgram 1 80\n", "step 0 9\n"]
+    return "".join(lines + [piece(frame(0, 1, 1, b"")), "step 0 4\n"])
+
+
 def frames(printed):
     """The type, stream and contents of each frame that was written."""
     left = b"".join(bytes.fromhex(line.split()[2]) for line in printed if line.startswith("wrote 0 "))
@@ -79,10 +88,17 @@ def check_one_byte(printed):
     assert [f for f in frames(printed) if f[0] == 3] == [(3, 1, b"\0\0\0\10")] and "closed 0 End left 1" in printed
 
 
+def check_counted(printed):
+    assert [line for line in printed if line.startswith("sent ")] == ["sent 0 0 07", "sent 1 0 08"]
+    assert [f for f in frames(printed) if f[0] == 0] == [(0, 1, b"\0\2\0\x70"), (0, 3, b"\0\2\0\x80"), (0, 1, b"")]
+    assert "closed 0 End left 0" in printed and len(printed) == 20 and printed[-1] == "idle 0"
+
+
 def main():
     if len(sys.argv) < 2:
         sys.exit(__doc__)
-    for name, script, check in ("hundred_tunnels", hundred(), check_hundred), ("one_byte_windows", one_byte(), check_one_byte):
+    examples = [("hundred_tunnels", hundred(), check_hundred), ("one_byte_windows", one_byte(), check_one_byte)]
+    for name, script, check in examples + [("counted_steps", counted(), check_counted)]:
         printed = subprocess.run(sys.argv[1:], input=script, capture_output=True, text=True, check=False).stdout
         check(printed.splitlines())
         for path, text in (f"examples/{name}.script", script), (f"examples/{name}.script.stdout", printed):

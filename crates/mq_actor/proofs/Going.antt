@@ -18,7 +18,7 @@ use Rattle.mq_outside.specs.Links.{behind, room_left}
 use Rattle.mq_machine.specs.declared.act.StreamAct.TheVariants as stream
 use Rattle.mq_machine.specs.declared.setup.Setup.{Setup}
 use Rattle.mq_machine.specs.State.{Conn, Tunnel, Port, Held, Shared, owed, kind_of, tunnel_of, tunnel_on}
-use Rattle.mq_machine.specs.Want.{Want, Nothing, Say, Bind, Ask, Judge, Push, Send, Over, Answer, Said, Bound, Replied, Judged, Pushed, Put, want_of, want_by}
+use Rattle.mq_machine.specs.Want.{Want, Nothing, Say, Bind, Ask, Judge, Push, Send, Over, Answer, Said, Bound, Replied, Judged, Pushed, Put, want_of, want_by, may_wait}
 use Rattle.mq_machine.specs.Want.{tunnel_want, ending_want, over_want}
 use Rattle.mq_machine.specs.Done.{Done, done}
 use Rattle.mq_machine.specs.Shared.{Answers, Asks, port_of, at_port}
@@ -28,7 +28,6 @@ use Rattle.mq_machine.specs.Turn.{Try, Act, Frame, Write, Read, Receive, TryNext
 use Rattle.mq_machine.specs.Turn.{can_try, receive_failed, write_count, most_read, tries_of}
 use Rattle.mq_conn.specs.declared.conn.Conn.{Conn as Core}
 use Rattle.mq_conn.specs.Conns.{IsConn}
-use Rattle.mq_machine.specs.Lawful.{waits}
 use Rattle.mq_step.specs.Gives.{first_of}
 use Rattle.mq_step.proofs.Wanting.{IsNotOver}
 use Rattle.mq_step.proofs.Keeping.{NoOpens, Kept, no_opens_nil, kept_said, kept_refused, kept_put, kept_full, bound_next, opened_next, closed_next}
@@ -256,7 +255,7 @@ failed_leaves s h new sh after answer said next = by_tunnels s.tunnels refl wher
       left_before s (failed s) new.conn sh after (failed_same s) left
 
 -- a connection that waits isn't ending, where it has a tunnel
-live_waits : (s : Conn) (id : ℕ) (t : Tunnel) → waits (want_of s) ≡ true → tunnel_of s id ≡ Some t → s.ending ≡ None
+live_waits : (s : Conn) (id : ℕ) (t : Tunnel) → may_wait (want_of s) ≡ true → tunnel_of s id ≡ Some t → s.ending ≡ None
 live_waits s id t wait found = by_case (alive_by s s.ending refl wait) where
   test : Tunnel → Bool
   test u = u.id == id
@@ -267,7 +266,7 @@ live_waits s id t wait found = by_case (alive_by s s.ending refl wait) where
 
 -- a connection whose port failed closes the tunnel of that
 port_leaves : (c : Core) (s : Conn) (id : ℕ) (t : Tunnel) (h new : Held) (sh after : Shared) (answer : Answer) (said : Note) → IsConn c s
-    → waits (want_of s) ≡ true → tunnel_of s id ≡ Some t
+    → may_wait (want_of s) ≡ true → tunnel_of s id ≡ Some t
     → ActNext (record h { conn = port_failed s t }) sh answer said (Some new) after → Left s sh new.conn after
 port_leaves c s id t h new sh after answer said conn wait found next =
     let x : Conn = port_failed s t in
@@ -309,30 +308,30 @@ read_leaves setup old new sh after true answer said next =
 read_leaves setup old new sh after false answer said next =
     left_same old.conn new.conn sh after (takes_same setup old new old.link.pieces said next.1) next.2
 
-receive_fails_leaves : (c : Core) (old new : Held) (sh after : Shared) (p : Port) (o : Option Tunnel) (answer : Answer) (said : Note) → IsConn c old.conn → waits (want_of old.conn) ≡ true
+receive_fails_leaves : (c : Core) (old new : Held) (sh after : Shared) (p : Port) (o : Option Tunnel) (answer : Answer) (said : Note) → IsConn c old.conn → may_wait (want_of old.conn) ≡ true
     → tunnel_of old.conn p.tunnel ≡ o
     → ActNext (receive_failed old p o) sh answer said (Some new) after → Left old.conn sh new.conn after
 receive_fails_leaves c old new sh after p None answer said conn wait found next = act_leaves c old new sh after answer said conn next
 receive_fails_leaves c old new sh after p (Some t) answer said conn wait found next = port_leaves c old.conn p.tunnel t old new sh after answer said conn wait found next
 
-port_next_leaves : (c : Core) (old new : Held) (sh after : Shared) (p : Port) (fails : Bool) (answer : Answer) (said : Note) → IsConn c old.conn → waits (want_of old.conn) ≡ true
+port_next_leaves : (c : Core) (old new : Held) (sh after : Shared) (p : Port) (fails : Bool) (answer : Answer) (said : Note) → IsConn c old.conn → may_wait (want_of old.conn) ≡ true
     → PortNext fails old p sh answer said (Some new) after → Left old.conn sh new.conn after
 port_next_leaves c old new sh after p true answer said conn wait next =
     receive_fails_leaves c old new sh after p (tunnel_of old.conn p.tunnel) answer said conn wait refl next
 port_next_leaves c old new sh after p false answer said conn wait next = receive_leaves old new p p.arrived sh after said next.is next.after_is
 
-receive_next_leaves : (c : Core) (old new : Held) (sh after : Shared) (o : Option Port) (answer : Answer) (said : Note) → IsConn c old.conn → waits (want_of old.conn) ≡ true
+receive_next_leaves : (c : Core) (old new : Held) (sh after : Shared) (o : Option Port) (answer : Answer) (said : Note) → IsConn c old.conn → may_wait (want_of old.conn) ≡ true
     → ReceiveNext o old sh answer said (Some new) after → Left old.conn sh new.conn after
 receive_next_leaves c old new sh after None answer said conn wait next = absurd next
 receive_next_leaves c old new sh after (Some p) answer said conn wait next = port_next_leaves c old new sh after p p.receive_fails answer said conn wait next
 
 -- a connection receives only while its want waits
-receive_waits : (h : Held) (tunnel : ℕ) → first_of tries_of h ≡ Some (Receive tunnel) → waits (want_of h.conn) ≡ true
+receive_waits : (h : Held) (tunnel : ℕ) → first_of tries_of h ≡ Some (Receive tunnel) → may_wait (want_of h.conn) ≡ true
 receive_waits h tunnel is = by_act (can_try h Act) refl is where
   rest : List Try
   rest = Frame ∷ Write ∷ Read ∷ map (λ (p : Port). Receive p.tunnel) h.ports
 
-  by_act : (b : Bool) → can_try h Act ≡ b → cond b (Some Act) (find (can_try h) rest) ≡ Some (Receive tunnel) → waits (want_of h.conn) ≡ true
+  by_act : (b : Bool) → can_try h Act ≡ b → cond b (Some Act) (find (can_try h) rest) ≡ Some (Receive tunnel) → may_wait (want_of h.conn) ≡ true
   by_act true so e = absurd cc
   by_act false so e = vain_waits h.ports (want_of h.conn) so
 

@@ -4,6 +4,8 @@ use Rattle.std.specs.List.{position_or_len}
 use Rattle.std.specs.Option.{option_or, option_map_or}
 use Rattle.std.specs.Vec.{with_item}
 use Rattle.std.specs.VecDeque.{deque_with_item}
+use Rattle.std.specs.declared.alloc.Global.{Global}
+use Rattle.std.specs.declared.collections.VecDeque.{VecDeque}
 use Rattle.std.proofs.lemmas.Bool.{ltb-true, ltb-false}
 use Rattle.std.proofs.Math.Seq.{drop-cons}
 use Rattle.std.proofs.lemmas.List.{nil_from_length}
@@ -15,6 +17,7 @@ use Rattle.mq_held.specs.declared.held.Held.{Held as HeldBy}
 use Rattle.mq_held.specs.declared.held.PortSeat.{PortSeat}
 use Rattle.mq_actor.specs.declared.offer.Offer.{Offer as OfferBy}
 use Rattle.mq_actor.specs.declared.ring.Ring.{Ring}
+use Rattle.mq_actor.specs.Offers.{with_link_at}
 use Rattle.mq_actor.specs.Lent.{conn_at, link_at, with_link, with_conn_link, with_offer_link}
 use Rattle.mq_actor.proofs.Pointwise.{there}
 
@@ -54,10 +57,21 @@ module _ {L : Type 0} (r : Ring L) where
   conn_link place h link at =
       ap {B = Ring L} (λ (o : Option (HeldBy L)). option_map_or (λ (g : HeldBy L). record r { conns = with_item r.conns place (record g { link = link }) }) o r) (sym at)
 
-  pub offer_link : (place : ℕ) (f : OfferBy L) (link : L) → slice_get r.offered.items place ≡ Some f
-      → record r { offered = deque_with_item r.offered place (record f { link = link }) } ≡ with_offer_link r place link
-  offer_link place f link at =
-      ap {B = Ring L} (λ (o : Option (OfferBy L)). option_map_or (λ (g : OfferBy L). record r { offered = deque_with_item r.offered place (record g { link = link }) }) o r) (sym at)
+  offer_by : (place : ℕ) (link : L) (o : Option (OfferBy L))
+      → record r { offered = option_map_or (λ (f : OfferBy L). deque_with_item r.offered place (record f { link = link })) o r.offered }
+      ≡ option_map_or (λ (f : OfferBy L). record r { offered = deque_with_item r.offered place (record f { link = link }) }) o r
+  offer_by place link None = refl
+  offer_by place link (Some f) = refl
+
+  -- with a link of the offer at a place
+  pub offer_link : (place : ℕ) (link : L) → record r { offered = with_link_at r.offered place link } ≡ with_offer_link r place link
+  offer_link place link = offer_by place link (slice_get r.offered.items place)
+
+-- the offers with a link of one of them
+pub offer_there : {L : Type 0} (fs : VecDeque (OfferBy L) Global) (place : ℕ) (f : OfferBy L) (link : L) → slice_get fs.items place ≡ Some f
+    → deque_with_item fs place (record f { link = link }) ≡ with_link_at fs place link
+offer_there {L} fs place f link at =
+    ap {B = VecDeque (OfferBy L) Global} (λ (o : Option (OfferBy L)). option_map_or (λ (g : OfferBy L). deque_with_item fs place (record g { link = link })) o fs) (sym at)
 
 module _ {L : Type 0} (r : Ring L) (number : ℕ) where
   abbrev has : HeldBy L → Bool

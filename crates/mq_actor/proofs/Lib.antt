@@ -42,6 +42,7 @@ pub mod Sighted
 pub mod Sights
 pub mod Plain
 mod Leaving
+mod Rising
 pub mod Lending
 pub mod Lends
 pub mod Able

@@ -7,5 +7,6 @@ pub mod Seats
 pub mod Steps
 pub mod Plain
 pub mod Ended
+pub mod Offers
 pub mod Lent
 pub mod Ready

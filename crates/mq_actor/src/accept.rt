@@ -23,10 +23,10 @@ impl<L: Drop> Ring<L> {
         if self.conns.len() >= MOST_LIVE {
             return None;
         }
-        let Some(front) = self.offered.front() else {
+        let Some(first) = self.offered.first() else {
             return None;
         };
-        Some(front.number)
+        Some(first.number)
     }
 
     /// The first offered link is the last of the connections from now on, for which there is room.
@@ -35,7 +35,7 @@ impl<L: Drop> Ring<L> {
         requires room { vec_len self.old.conns < vec_capacity self.old.conns }
         ensures { TakesIn conn self.old self.new }
     {
-        let Some(offer) = self.offered.pop_front() else {
+        let Some(offer) = self.offered.pop() else {
             unreachable!()
         };
         let Offer { number, link } = offer;

@@ -9,6 +9,7 @@ mod connection;
 mod inbox;
 mod lend;
 mod offer;
+mod offers;
 mod pass;
 mod quiet;
 mod ready;
@@ -18,5 +19,6 @@ mod step;
 
 pub use actor::Actor;
 pub use offer::Offer;
+pub use offers::Offers;
 pub use ready::{ReadReady, SendReady};
 pub use ring::Ring;

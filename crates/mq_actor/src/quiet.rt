@@ -138,7 +138,7 @@ impl<L: Drop> Ring<L> {
     fn could_accept(&self) -> bool
         ensures { result ≡ nat_lt 0 (length self.now.offered.items) && nat_lt (length self.now.conns.items) most_live }
     {
-        !self.offered.is_empty() && self.conns.len() < MOST_LIVE
+        self.offered.len() > 0 && self.conns.len() < MOST_LIVE
     }
 }
 

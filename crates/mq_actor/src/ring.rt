@@ -4,12 +4,12 @@ ghost use Rattle.mq_step.specs.Rooms.{HasRooms};
 ghost use Rattle.mq_actor.specs.Passing.{is_in_part};
 
 use crate::offer::Offer;
+use crate::offers::Offers;
 use mq_held::Held;
 use mq_machine::Setup;
 use mq_step::Rooms;
 use mq_wire::NoMemory;
 use std::alloc::Global;
-use std::collections::VecDeque;
 
 /// The most connections of a worker.
 pub const MOST_LIVE: usize = 32;
@@ -22,7 +22,7 @@ pub struct Ring<L> {
     pub setup: Setup,
     pub rooms: Rooms,
     /// Oldest first.
-    pub offered: VecDeque<Offer<L>>,
+    pub offered: Offers<L>,
     /// As they were accepted.
     pub conns: Vec<Held<L>>,
     /// The seat from which the next search begins.
@@ -40,7 +40,7 @@ impl<L: Drop> Ring<L> {
             id,
             setup,
             rooms: Rooms::new(alloc)?,
-            offered: VecDeque::new(alloc),
+            offered: Offers::new(alloc),
             conns: Vec::new(alloc),
             next_seat: 0,
             ended: None,
@@ -53,10 +53,10 @@ impl<L: Drop> Ring<L> {
         ensures refused { IfErr result (λ back. (back ≡ link) × (self.new.offered.items ≡ self.old.offered.items)) }
         ensures rest { self.new ≡ record self.old { offered = self.new.offered } }
     {
-        match self.offered.push_back(Offer { number, link }) {
+        match self.offered.push(Offer { number, link }) {
             Ok(()) => Ok(()),
-            Err(refused) => {
-                let Offer { number: _, link } = refused.value;
+            Err(back) => {
+                let Offer { number: _, link } = back;
                 Err(link)
             }
         }

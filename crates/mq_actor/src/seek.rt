@@ -36,13 +36,6 @@ impl<L: Drop> Ring<L> {
         self.conns.iter().position(|held| held.number == number)
     }
 
-    /// The place of the offer with this number.
-    fn offer_of(&self, number: u32) -> Option<usize>
-        ensures { result ≡ position (λ f. f.number == number) self.now.offered.items }
-    {
-        self.offered.iter().position(|offer| offer.number == number)
-    }
-
     /// The link of the connection at this place.
     fn link_of(&mut self, place: usize) -> &mut L
         requires { place < vec_len self.old.conns }
@@ -59,8 +52,7 @@ impl<L: Drop> Ring<L> {
         ensures* writes_back { sem 𝓛 (Lends (the_row L.row) L.row self.entry result (with_offer_link self.old place)) }
         ensures value { (f : OfferBy L) → slice_get self.old.offered.items place ≡ Some f → result.now ≡ f.link }
     {
-        let offer = &mut self.offered[place];
-        &mut offer.link
+        self.offered.link(place)
     }
 
     /// Lends the link of the connection with this number, or of the offer with it.
@@ -71,7 +63,7 @@ impl<L: Drop> Ring<L> {
         if let Some(place) = self.place_of(number) {
             return Some(self.link_of(place));
         }
-        let place = self.offer_of(number)?;
+        let place = self.offered.place_of(number)?;
         Some(self.offered_at(place))
     }
 
@@ -82,8 +74,8 @@ impl<L: Drop> Ring<L> {
         if let Some(place) = self.place_of(number) {
             return Some(&self.conns[place].link);
         }
-        let place = self.offer_of(number)?;
-        Some(&self.offered[place].link)
+        let place = self.offered.place_of(number)?;
+        Some(self.offered.link_at(place))
     }
 
     /// The connection with this number, without its link and ports.

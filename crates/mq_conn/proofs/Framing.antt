@@ -22,13 +22,13 @@ use Rattle.mq_machine.specs.declared.act.StreamAct.TheVariants as stream
 use Rattle.mq_machine.specs.declared.act.Due.{Due}
 use Rattle.mq_machine.specs.declared.act.Due.TheVariants as due
 use Rattle.mq_machine.specs.Done.{waits as waits_last}
-use Rattle.mq_machine.specs.Lawful.{IsLoose, IsLawful, Alone, waits}
+use Rattle.mq_machine.specs.Lawful.{IsLoose, IsLawful, Alone}
 use Rattle.mq_machine.specs.Putting.{Putting, first_of, putting}
 use Rattle.mq_machine.specs.Settle.{settle, is_given_up}
 use Rattle.mq_machine.specs.State as machine
 use Rattle.mq_machine.specs.State.{Waiting, Head, OverHttp1, OverHttp2, Stream, is_packet, tunnel_of, waiting_bytes, packets}
 use Rattle.mq_machine.specs.Steps.{can_frame, can_go_on, frame_size, framed, framed_by, framed_front, framing, is_ending, most_owed, next_framed, port_failed, queued, set_waiting, settled_note, tunnels_from, whole_note}
-use Rattle.mq_machine.specs.Want.{want_of}
+use Rattle.mq_machine.specs.Want.{want_of, may_wait}
 use Rattle.mq_machine.proofs.Lawful.Steps.{settle_lawful, waiting_loose, framed_by_loose}
 use Rattle.mq_machine.proofs.Lawful.Idle.{port_failed_lawful}
 use Rattle.mq_conn.specs.declared.conn.Conn.{Conn}
@@ -46,27 +46,27 @@ use Rattle.mq_conn.proofs.Wanting.{want_due, follows_first, first_waits}
 -- ---- the port of a tunnel failed
 
 -- where it waits, no act stands in front
-waits_first : (c : Conn) (p : Past) (e : Option End) (fi : Option First) → Is c p → waits (want_of (state c p)) ≡ true → c.ending ≡ e → c.first ≡ fi → c.first ≡ None
+waits_first : (c : Conn) (p : Past) (e : Option End) (fi : Option First) → Is c p → may_wait (want_of (state c p)) ≡ true → c.ending ≡ e → c.first ≡ fi → c.first ≡ None
 waits_first c p (Some reason) fi h k ending is = (over_none c p reason h ending).0
 waits_first c p None None h k ending is = is
 waits_first c p None (Some f) h k ending is =
     let dues : behind c.first c.due ≡ due.Do (act_of f) ∷ c.due = ap (λ (o : Option First). behind o c.due) is in
     let wanted = want_due c p (due.Do (act_of f) ∷ c.due) ending dues in
-    absurd (first_waits c p f c.due (follows_first c p (act_of f) c.due h dues) (ap waits (sym wanted) ∙ k))
+    absurd (first_waits c p f c.due (follows_first c p (act_of f) c.due h dues) (ap may_wait (sym wanted) ∙ k))
 
 pub shut_none : (c : Conn) (id : ℕ) → HasNone c.tunnels.items id → (s : machine.Conn) → IsConn c s → (t : machine.Tunnel) → tunnel_of s id ≡ Some t → ⊥
 shut_none c id none s stands t is =
     by_state c (λ (x : machine.Conn). tunnel_of x id ≡ Some t → ⊥) (λ p h k. (let e : None ≡ Some t = sym (missing c.tunnels.items id none) ∙ k in cc)) s stands is
 
-pub shuts : (c : Conn) (id place : ℕ) (u : Tunnel) → IsPlaceOf c.tunnels.items id place u → (s : machine.Conn) → IsConn c s → (t : machine.Tunnel) → tunnel_of s id ≡ Some t → waits (want_of s) ≡ true
+pub shuts : (c : Conn) (id place : ℕ) (u : Tunnel) → IsPlaceOf c.tunnels.items id place u → (s : machine.Conn) → IsConn c s → (t : machine.Tunnel) → tunnel_of s id ≡ Some t → may_wait (want_of s) ≡ true
     → IsConn (record c { first = Some (first.Close u.stream why.Port) }) (port_failed s t)
 shuts c id place u at s stands t is waiting =
-    by_state c (λ (x : machine.Conn). tunnel_of x id ≡ Some t → waits (want_of x) ≡ true → IsConn d (port_failed x t)) go s stands is waiting
+    by_state c (λ (x : machine.Conn). tunnel_of x id ≡ Some t → may_wait (want_of x) ≡ true → IsConn d (port_failed x t)) go s stands is waiting
   where
     d : Conn
     d = record c { first = Some (first.Close u.stream why.Port) }
 
-    go : (p : Past) → Is c p → tunnel_of (state c p) id ≡ Some t → waits (want_of (state c p)) ≡ true → IsConn d (port_failed (state c p) t)
+    go : (p : Past) → Is c p → tunnel_of (state c p) id ≡ Some t → may_wait (want_of (state c p)) ≡ true → IsConn d (port_failed (state c p) t)
     go p h k w =
         let same : Some (tunnel_is u) ≡ Some t = sym (found c.tunnels.items id place u at) ∙ k in
         let T : machine.Tunnel → Type 0 = λ v. IsConn d (port_failed (state c p) v) in

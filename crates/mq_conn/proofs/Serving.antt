@@ -15,12 +15,12 @@ use Rattle.mq_machine.specs.declared.act.StreamAct.{StreamAct}
 use Rattle.mq_machine.specs.declared.act.StreamAct.TheVariants as stream
 use Rattle.mq_machine.specs.declared.act.Due.{Due}
 use Rattle.mq_machine.specs.declared.act.Due.TheVariants as due
-use Rattle.mq_machine.specs.Lawful.{IsLawful, IsLoose, IsOver, NoOpens, waits}
+use Rattle.mq_machine.specs.Lawful.{IsLawful, IsLoose, IsOver, NoOpens}
 use Rattle.mq_machine.specs.Settle.{gives_up, is_given_up, settle}
 use Rattle.mq_machine.specs.State as machine
 use Rattle.mq_machine.specs.State.{Head, OverHttp1, OverHttp2, Stream, owed}
 use Rattle.mq_machine.specs.Steps.{given_up, starved, can_go_on, can_read, is_nothing, is_ending, most_owed}
-use Rattle.mq_machine.specs.Want.{want_of, want_by}
+use Rattle.mq_machine.specs.Want.{want_of, want_by, may_wait}
 use Rattle.mq_machine.proofs.Lawful.Steps.{given_up_lawful, settle_lawful}
 use Rattle.mq_machine.proofs.Lawful.Idle.{idle_due}
 use Rattle.mq_conn.specs.declared.conn.Conn.{Conn}

@@ -15,13 +15,13 @@ use Rattle.mq_machine.specs.declared.act.StreamAct.{StreamAct}
 use Rattle.mq_machine.specs.declared.act.StreamAct.TheVariants as stream
 use Rattle.mq_machine.specs.declared.act.Due.{Due}
 use Rattle.mq_machine.specs.declared.act.Due.TheVariants as due
-use Rattle.mq_machine.specs.Lawful.{Follows, IsAsked, IsUdp, has_on, waits}
+use Rattle.mq_machine.specs.Lawful.{Follows, IsAsked, IsUdp, has_on}
 use Rattle.mq_machine.specs.Settle.{gives_up}
 use Rattle.mq_machine.specs.State as machine
 use Rattle.mq_machine.specs.State.{Stream, owed}
 use Rattle.mq_machine.specs.Steps.{can_go_on, can_read, is_ending, is_nothing, wrote}
 use Rattle.mq_machine.proofs.Lawful.Steps.{settle_lawful}
-use Rattle.mq_machine.specs.Want.{Want, Nothing, Over, Ask, Bind, Say, act_want, due_want, ending_want, over_want, stream_want, tunnel_want, want_by, want_of}
+use Rattle.mq_machine.specs.Want.{Want, Nothing, Over, Ask, Bind, Say, act_want, due_want, ending_want, over_want, stream_want, tunnel_want, want_by, want_of, may_wait}
 use Rattle.mq_conn.specs.declared.conn.Conn.{Conn}
 use Rattle.mq_conn.specs.declared.conn.First.{First}
 use Rattle.mq_conn.specs.declared.conn.First.TheVariants as first
@@ -62,11 +62,11 @@ pub follows_first : (c : Conn) (p : Past) (a : Act) (rest : List Due) → Is c p
 follows_first c p a rest h is = subst (λ (ds : List Due). Follows (has_on (state c p).tunnels) ds) is h.lawful.loose.follows
 
 -- no act in front lets it wait for its client, but a payload
-pub first_waits : (c : Conn) (p : Past) (f : First) (rest : List Due) → Follows (has_on (state c p).tunnels) (due.Do (act_of f) ∷ rest) → waits (act_want (state c p) (act_of f)) ≡ true → ⊥
+pub first_waits : (c : Conn) (p : Past) (f : First) (rest : List Due) → Follows (has_on (state c p).tunnels) (due.Do (act_of f) ∷ rest) → may_wait (act_want (state c p) (act_of f)) ≡ true → ⊥
 first_waits c p (first.Open id goal waiting) rest h k = absurd cc
 first_waits c p (first.Close id reason) rest h k =
     let live = live_on (find_on c id) h.0 in
-    let e : waits (tunnel_want (find_on c id) (stream.Close reason)) ≡ false = ap (λ (o : Option machine.Tunnel). waits (tunnel_want o (stream.Close reason))) live.1 in
+    let e : may_wait (tunnel_want (find_on c id) (stream.Close reason)) ≡ false = ap (λ (o : Option machine.Tunnel). may_wait (tunnel_want o (stream.Close reason))) live.1 in
     let f : true ≡ false = sym k ∙ e in
     absurd cc
 

@@ -10,7 +10,7 @@ use Rattle.mq_machine.specs.declared.act.Due.{Due}
 use Rattle.mq_machine.specs.declared.act.Due.TheVariants as due
 use Rattle.mq_machine.specs.Cores.{Answered, MayAnswer}
 use Rattle.mq_machine.specs.Done.{done, stream_done}
-use Rattle.mq_machine.specs.Lawful.{IsFresh, IsLawful, IsLoose, NoOpens}
+use Rattle.mq_machine.specs.Lawful.{IsFresh, IsLawful, NoOpens}
 use Rattle.mq_machine.specs.Settle.{is_given_up}
 use Rattle.mq_machine.specs.Silent.{tunnels_after}
 use Rattle.mq_machine.specs.State as machine
@@ -106,11 +106,6 @@ pub record Stands (c : Conn) (s : machine.Conn) : Type 0 where
 pub record IsConn (c : Conn) (s : machine.Conn) : Type 0 where
   pub stands : Stands c s
   pub lawful : IsLawful s
-
--- before the end of an act
-pub record IsActing (c : Conn) (s : machine.Conn) : Type 0 where
-  pub stands : Stands c s
-  pub loose : IsLoose s
 
 -- ---- what calls promise
 

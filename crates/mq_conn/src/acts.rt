@@ -1,5 +1,5 @@
 //! What a connection does as it is answered: the first act that is due.
-ghost use Rattle.std.specs.Prelude.{◌≡◌, ◌≢◌, ◌==◌, not, ℕ, MatchOption, [], ◌∷◌, ◌++◌, filter, List, None, Some, IfSome, IfOk, OnOk, OnErr, is_ok, true, false};
+ghost use Rattle.std.specs.Prelude.{◌≡◌, ◌≢◌, ℕ, MatchOption, [], ◌∷◌, List, None, Some, IfSome, IfOk, is_ok};
 ghost use Rattle.mq_machine.specs.declared.act.Act.TheVariants as asks;
 ghost use Rattle.mq_machine.specs.declared.act.StreamAct.TheVariants as asked;
 ghost use Rattle.mq_machine.specs.declared.act.Due.TheVariants.{Do};

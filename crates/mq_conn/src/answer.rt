@@ -1,5 +1,5 @@
 //! What a connection does as the book answers it: a tunnel opens, or closes.
-ghost use Rattle.std.specs.Prelude.{◌≡◌, ◌≢◌, ◌++◌, ℕ, [], ◌∷◌, List, None, Some, is_ok, IfOk, IfSome, OnOk, OnErr, MatchOption};
+ghost use Rattle.std.specs.Prelude.{◌≡◌, ◌≢◌, ℕ, ◌∷◌, List, None, Some, is_ok, MatchOption};
 ghost use Rattle.mq_addr.specs.declared.range.Range.{Range};
 ghost use Rattle.mq_machine.specs.Done.{without_tunnel};
 ghost use Rattle.mq_machine.specs.declared.act.Due.{Due};

@@ -13,7 +13,6 @@ use crate::conn::{Conn, First, Tunnel};
 use mq_front::{Finish, Tunnels};
 use mq_h2::{is_asked_once, what_is_told_is_held};
 use mq_machine::Setup;
-use mq_talk::Why;
 use mq_wire::NoMemory;
 
 /// Whether one of these tunnels is on this stream.

@@ -1,12 +1,11 @@
 //! What comes to a tunnel, and the capsules that it is framed in.
-ghost use Rattle.std.specs.Prelude.{◌≡◌, ℕ, ◌+◌, ◌≤◌, ◌||◌, min, not, nat_le, nat_lt, ◌^◌, ◌-◌, List, length, filter, sum_by, slice_get, find, Some, None, IfOk, IfSome, OnErr, MatchOption, true, is_ok, is_some};
+ghost use Rattle.std.specs.Prelude.{◌≡◌, ℕ, ◌+◌, ◌≤◌, ◌||◌, min, not, nat_le, nat_lt, ◌^◌, ◌-◌, List, length, filter, sum_by, slice_get, Some, None, IfOk, OnErr, MatchOption, true, is_ok, is_some};
 ghost use Rattle.mq_capsule.specs.Writing.{capsule_text, datagram};
 ghost use Rattle.mq_machine.specs.Cores.{Frames};
-ghost use Rattle.mq_machine.specs.Lawful.{waits};
 ghost use Rattle.mq_machine.specs.State as machine;
 ghost use Rattle.mq_machine.specs.State.{is_packet};
 ghost use Rattle.mq_machine.specs.Steps as steps;
-ghost use Rattle.mq_machine.specs.Want.{want_of};
+ghost use Rattle.mq_machine.specs.Want.{want_of, may_wait};
 ghost use Rattle.mq_conn.specs.Conns.{IsConn, Keeps, Refuses, Starves, tunnel_is};
 ghost use Rattle.mq_conn.specs.Frames.{Delivers, IsNext, IsPlaceOf, HasNone, PutsFirst, TookFirst};
 ghost use Rattle.mq_conn.specs.Queues.{size_of};
@@ -54,7 +53,7 @@ fn place_of(tunnels: &[Tunnel], id: u32) -> Option<usize>
 impl Conn {
     /// The port of its tunnel failed: the tunnel is to close, before all that is due. It waits for its client, or for a port.
     pub fn shut(&mut self, tunnel: u32)
-        ensures { (s : machine.Conn) → IsConn self.old s → (t : machine.Tunnel) → machine.tunnel_of s tunnel ≡ Some t → waits (want_of s) ≡ true → IsConn self.new (steps.port_failed s t) }
+        ensures { (s : machine.Conn) → IsConn self.old s → (t : machine.Tunnel) → machine.tunnel_of s tunnel ≡ Some t → may_wait (want_of s) ≡ true → IsConn self.new (steps.port_failed s t) }
     {
         if let Some(place) = place_of(self.tunnels.as_slice(), tunnel) {
             let stream = self.tunnels[place].stream;

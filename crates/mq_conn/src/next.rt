@@ -5,7 +5,7 @@ ghost use Rattle.mq_machine.specs.Steps as steps;
 ghost use Rattle.mq_machine.specs.Steps.{is_nothing};
 ghost use Rattle.mq_machine.specs.Lawful.{IsUdp, IsAsked};
 ghost use Rattle.mq_machine.specs.Want as machine_want;
-ghost use Rattle.mq_machine.specs.Want.{want_of, want_by, due_want, act_want, stream_want, tunnel_want};
+ghost use Rattle.mq_machine.specs.Want.{want_of, stream_want, tunnel_want};
 ghost use Rattle.mq_machine.specs.declared.act.StreamAct.TheVariants as asked;
 ghost use Rattle.mq_machine.specs.declared.act.Due.{Due};
 ghost use Rattle.mq_machine.specs.declared.act.Due.TheVariants.{Do};

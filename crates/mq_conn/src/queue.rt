@@ -1,5 +1,5 @@
 //! What waits in a tunnel until it is framed.
-ghost use Rattle.std.specs.Prelude.{◌≡◌, ◌≢◌, ℕ, ◌+◌, ◌<◌, ◌≤◌, List, [], ◌∷◌, ◌++◌, length, filter, IfOk, MatchOption};
+ghost use Rattle.std.specs.Prelude.{◌≡◌, ℕ, ◌+◌, ◌<◌, ◌≤◌, List, [], ◌∷◌, ◌++◌, length, filter, IfOk, MatchOption};
 ghost use Rattle.mq_capsule.specs.Writing.{capsule_text, datagram};
 ghost use Rattle.mq_machine.specs.Done.{is_begun};
 ghost use Rattle.mq_machine.specs.State.{is_packet, Waiting};

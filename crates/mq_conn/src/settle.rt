@@ -8,7 +8,7 @@ ghost use Rattle.mq_machine.specs.State as machine;
 ghost use Rattle.mq_conn.specs.Conns.{Stands, behind};
 ghost use Rattle.mq_conn.specs.Marks.{Spends, mark_due};
 
-use crate::conn::{Conn, gives_up};
+use crate::conn::Conn;
 use mq_machine::Due;
 use mq_talk::End;
 

@@ -11,7 +11,7 @@ use mq_addr::Kind;
 use mq_machine::Setup;
 use mq_outside::PortPut;
 use mq_policy::Policy;
-use mq_talk::{Call, End, From, Note, Reply};
+use mq_talk::{Call, From, Note, Reply};
 use mq_target::Template;
 use mq_wire::{Bytes, Seq};
 use std::alloc::Global;

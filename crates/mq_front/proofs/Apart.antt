@@ -10,7 +10,7 @@ use Rattle.mq_hpack.specs.Writing.{block_text}
 use Rattle.mq_streams.specs.History.{Dropped, GivenBack, Sent, is_live, has_finished, total, arrived_on, consumed_on}
 use Rattle.mq_streams.specs.Answers.{next_update}
 use Rattle.mq_h2.specs.declared.h2.H2.{H2}
-use Rattle.mq_h2.specs.Acts.{ending_text, ends, responds, where_live, with_headers, sends, ends_stream, resets_stream, consumes, gives_back, ends_act, writes}
+use Rattle.mq_h2.specs.Acts.{data_room, ending_text, ends, responds, where_live, with_headers, sends, ends_stream, resets_stream, consumes, gives_back, ends_act, writes}
 use Rattle.mq_h2.specs.Acts as h2_acts
 use Rattle.mq_h2.specs.Laws.{over, ReadsApart}
 use Rattle.mq_h2.specs.Reading.{ReadTo}
@@ -23,7 +23,7 @@ use Rattle.mq_wire.specs.declared.NoMemory.{NoMemory}
 use Rattle.mq_talk.specs.declared.note.End.TheVariants as end
 use Rattle.mq_machine.specs.declared.act.Due.{Due}
 use Rattle.mq_machine.specs.declared.setup.Setup.{Setup}
-use Rattle.mq_machine.specs.Http2.{grants, refuses, closes, data_room, puts_data, status_field, capsule_field}
+use Rattle.mq_machine.specs.Http2.{grants, refuses, closes, puts_data, status_field, capsule_field}
 use Rattle.mq_machine.specs.Reading.{Opening, Whole, OpeningBrings, EndsInFrames, opening_of, preface}
 use Rattle.mq_machine.specs.Settle as settle
 use Rattle.mq_machine.specs.State as machine
@@ -32,7 +32,7 @@ use Rattle.mq_front.specs.declared.data.DataStream.{DataStream}
 use Rattle.mq_front.specs.declared.finish.Finish.TheVariants.{Ends}
 use Rattle.mq_front.specs.declared.front.Front.TheVariants.{Http2}
 use Rattle.mq_front.specs.declared.http2.Http2.{Http2 as Many}
-use Rattle.mq_front.specs.Events.{IsHttp2, ReadsFrames, ReadsTo as FramesTo}
+use Rattle.mq_front.specs.Events.{IsHttp2, ReadsFrames, FramesReadTo}
 use Rattle.mq_front.specs.Fronts.{OverFrames, HasPut, Framed, ReadsTo, Reads, Finishes}
 use Rattle.mq_front.specs.Parts.{HasPutFrames, PutsFrames, ReadsBehind}
 use Rattle.mq_front.specs.Streams.{AreStreams}
@@ -224,12 +224,12 @@ updated_by old new h streams owes same acts was =
 
 -- ---- frames and their room
 
-pub room_by : (id size room : ℕ) (v : Many) (h : State) (streams : List Stream) (owes : List ℕ) → ((s : State) → IsH2 v.h2 s → room ≡ h2_acts.data_room id size s) → OverFrames v h streams owes
+pub room_by : (id size room : ℕ) (v : Many) (h : State) (streams : List Stream) (owes : List ℕ) → ((s : State) → IsH2 v.h2 s → room ≡ data_room id size s) → OverFrames v h streams owes
     → room ≡ data_room id size h
 room_by id size room v h streams owes is was = is was.core was.stands.core ∙ ap (λ (t : State). data_room id size t) (sym was.is)
 
 pub framed_by : (id : ℕ) (bytes : List ℕ) (old new : Many) (h : State) (streams : List Stream) (owes : List ℕ) (count : ℕ) → new.streams ≡ old.streams
-    → ((s : State) → IsH2 old.h2 s → (count ≡ h2_acts.data_room id (length bytes) s) × IsH2 new.h2 (where_live id (sends id (take count bytes)) s)) → OverFrames old h streams owes
+    → ((s : State) → IsH2 old.h2 s → (count ≡ data_room id (length bytes) s) × IsH2 new.h2 (where_live id (sends id (take count bytes)) s)) → OverFrames old h streams owes
     → Framed (Http2 new) (OverHttp2 h) id count bytes streams owes
 framed_by id bytes old new h streams owes count same sent was = record {
   count_is = room_by id (length bytes) count old h streams owes (λ s is. (sent s is).0) was;
@@ -243,7 +243,7 @@ next_owed s next alone owes few owed_is is =
     ap (λ (xs : List ℕ). xs ++ alone.out) owed_is ∙ sym (owed_behind s alone.out few) ∙ ap owed (sym is)
 
 frames_to : ReadsApart → (setup : Setup) (ts : List Tunnel) (piece : List ℕ) (before after : List Due) (old new : Many) (h : State) (streams : List Stream) (owes : List ℕ) → (was : OverFrames old h streams owes)
-    → FramesTo setup ts was.core streams piece before after new → ReadsTo setup ts (OverHttp2 h) streams owes piece before after (Http2 new)
+    → FramesReadTo setup ts was.core streams piece before after new → ReadsTo setup ts (OverHttp2 h) streams owes piece before after (Http2 new)
 unfolding bare
 frames_to apart setup ts piece before after old new h streams owes was r =
     let core : State = was.core in
@@ -283,7 +283,7 @@ pub reads_frames : ReadsApart → (setup : Setup) (ts : List Tunnel) (count : �
     → ReadsFrames setup ts frames before after old new → ReadsBehind setup ts count piece before after (Http2 new)
 unfolding bare
 reads_frames apart setup ts count piece frames before after old new whole stands reads udp few =
-    let r : FramesTo setup ts new_state [] frames before after new = reads udp new_state [] stands in
+    let r : FramesReadTo setup ts new_state [] frames before after new = reads udp new_state [] stands in
     let again = apart [] 0 new_state frames r.told r.next r.reads in
     let none : r.next.given ≡ 0 = ap (λ (t : State). t.given) again.is in
     let front : machine.Front = OverHttp2 (record r.next { out = [] }) in

@@ -251,23 +251,6 @@ pub framed_many : (v : Front) (old new : Many) (id : ℕ) (bytes : List ℕ) (co
 framed_many v old new id bytes count v_is same sent f streams owes is =
     by_many old streams owes (λ g. Framed (Http2 new) g id count bytes streams owes) (λ h was. framed_by id bytes old new h streams owes count same sent was) f (as_is v (Http2 old) v_is f streams owes is)
 
-pub room_many : (v : Front) (many : Many) (id size room : ℕ) → v ≡ Http2 many → ((s : h2.State) → IsH2 many.h2 s → room ≡ acts.data_room id size s)
-    → (f : machine.Front) (streams : List Stream) (owes : List ℕ) → IsFront v f streams owes → room ≡ frame_size f id size
-room_many v many id size room v_is is_room f streams owes is =
-    by_many many streams owes (λ g. room ≡ frame_size g id size) (λ h was. room_by id size room many h streams owes is_room was) f (as_is v (Http2 many) v_is f streams owes is)
-
-pub wrote_many : (v : Front) (old new : Many) (count : ℕ) → v ≡ Http2 old → new.streams ≡ old.streams → ((s : h2.State) → IsH2 old.h2 s → count ≤ length (owed s) → IsH2 new.h2 (writes count s))
-    → (f : machine.Front) (streams : List Stream) (owes : List ℕ) → IsFront v f streams owes → count ≤ length owes → IsFront (Http2 new) f streams (drop count owes)
-wrote_many v old new count v_is same acts f streams owes is few =
-    by_many old streams owes (λ g. IsFront (Http2 new) g streams (drop count owes)) (λ h was. wrote_by count old new h streams owes same acts few was) f (as_is v (Http2 old) v_is f streams owes is)
-
-pub spent_many : (v : Front) (old new : Many) (id count : ℕ) → v ≡ Http2 old → new.streams ≡ old.streams
-    → ((s : h2.State) → IsH2 old.h2 s → total (consumed_on id) s.history + count ≤ total (arrived_on id) s.history → IsH2 new.h2 (consumes id count s))
-    → (f : machine.Front) (streams : List Stream) (owes : List ℕ) → IsFront v f streams owes → CanSpend f id count → IsFront (Http2 new) (spending f id count) streams owes
-spent_many v old new id count v_is same acts f streams owes is =
-    by_many old streams owes (λ g. CanSpend g id count → IsFront (Http2 new) (spending g id count) streams owes) (λ h was can. spent_by id count old new h streams owes same acts can was) f
-    (as_is v (Http2 old) v_is f streams owes is)
-
 forgot_by : (old new : Many) (id : ℕ) → ((h : h2.State) (streams : List Stream) → IsHttp2 old h streams → IsHttp2 new h (filter (λ (s : Stream). not (s.id == id)) streams))
     → (h : h2.State) (streams : List Stream) (owes : List ℕ) → OverFrames old h streams owes → OverFrames new h (filter (λ (s : Stream). not (s.id == id)) streams) owes
 forgot_by old new id forgets h streams owes was = record { core = was.core; stands = forgets was.core streams was.stands; is = was.is; owed_is = was.owed_is }
@@ -292,15 +275,6 @@ other_all setup ts count piece before after (Ok new) h other = λ udp few. h (ot
 
 pub reads_as : (setup : Setup) (ts : List Tunnel) (piece : List ℕ) (before after : List Due) (v w new : Front) → v ≡ w → Reads setup ts piece before after w new → Reads setup ts piece before after v new
 reads_as setup ts piece before after v w new v_is reads udp f streams owes is = reads udp f streams owes (as_is v w v_is f streams owes is)
-
-pub first_all : (setup : Setup) (ts : List Tunnel) (count : ℕ) (piece : List ℕ) (before after : List Due) (new : Front) → ReadsBehind setup ts count piece before after new → Reads setup ts piece before after (Preface count) new
-first_all setup ts count piece before after new reads udp OverHttp1 streams owes is = absurd is
-first_all setup ts count piece before after new reads udp (OverHttp2 h) streams owes is = absurd is
-first_all setup ts count piece before after new reads udp (machine.Head bytes) streams owes (few, bytes_is, none, owed_none) =
-    let P : List ℕ → Type 0 = λ xs. ReadsTo setup ts (machine.Head xs) streams owes piece before after new in
-    let Q : List Stream → Type 0 = λ ss. ReadsTo setup ts (machine.Head (take count preface)) ss owes piece before after new in
-    let R : List ℕ → Type 0 = λ xs. ReadsTo setup ts (machine.Head (take count preface)) [] xs piece before after new in
-    subst P (sym bytes_is) (subst Q (sym none) (subst R (sym owed_none) (reads udp few)))
 
 pub more_all : (setup : Setup) (ts : List Tunnel) (piece : List ℕ) (before after : List Due) (v : Front) (old new : One) (result : Result (Unit {0}) NoMemory) → v ≡ Http1 old → OnOk result (ReadsData old piece before after new)
     → OnOk result (Reads setup ts piece before after v (Http1 new))

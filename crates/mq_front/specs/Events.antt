@@ -67,7 +67,7 @@ pub record IsHttp2 (f : Http2) (h : h2.State) (streams : List Stream) : Type 0 w
   pub streams_are : AreStreams f.streams.items streams
 
 -- One read: what its frames do, and what that asks for.
-pub record ReadsTo (setup : Setup) (ts : List Tunnel) (h : h2.State) (streams : List Stream) (piece : List ℕ) (before after : List Due) (new : Http2) : Type 0 where
+pub record FramesReadTo (setup : Setup) (ts : List Tunnel) (h : h2.State) (streams : List Stream) (piece : List ℕ) (before after : List Due) (new : Http2) : Type 0 where
   pub told : List http2.StreamEvent
   pub next : h2.State
   pub reads : ReadTo h piece told next
@@ -76,4 +76,4 @@ pub record ReadsTo (setup : Setup) (ts : List Tunnel) (h : h2.State) (streams : 
 
 abbrev pub ReadsFrames : Setup → List Tunnel → List ℕ → List Due → List Due → Http2 → Http2 → Type 0
 ReadsFrames setup ts piece before after old new =
-    setup.udp.kind ≡ kind.Udp → (h : h2.State) (streams : List Stream) → IsHttp2 old h streams → ReadsTo setup ts h streams piece before after new
+    setup.udp.kind ≡ kind.Udp → (h : h2.State) (streams : List Stream) → IsHttp2 old h streams → FramesReadTo setup ts h streams piece before after new

@@ -1,5 +1,5 @@
 //! The front end of a connection of HTTP/2: its core, and the data streams of its requests.
-ghost use Rattle.std.specs.Prelude.{◌≡◌, ◌==◌, ℕ, not, List, [], filter, OnOk, IfOk};
+ghost use Rattle.std.specs.Prelude.{◌==◌, ℕ, not, List, [], filter, OnOk, IfOk};
 ghost use Rattle.mq_h2.specs.State.{State, new_state};
 ghost use Rattle.mq_machine.specs.Http2.{grants, refuses, closes};
 ghost use Rattle.mq_machine.specs.State.{Stream};

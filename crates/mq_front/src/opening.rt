@@ -1,5 +1,5 @@
 //! The first bytes of a connection: the preface of HTTP/2, or those of HTTP/1.1 (RFC 9113, section 3.4).
-ghost use Rattle.std.specs.Prelude.{◌≡◌, ◌<◌, ◌≤◌};
+ghost use Rattle.std.specs.Prelude.{◌<◌};
 ghost use Rattle.mq_machine.specs.Reading.{preface};
 ghost use Rattle.mq_front.specs.Openings.{Opens};
 

@@ -58,7 +58,7 @@ ends_stream id s = ends id (put (spelling_of (frame.Content id [] 0 true)) s)
 abbrev pub resets_stream : ℕ → ℕ → State → State
 resets_stream id code s = record s { out = s.out ++ spelling_of (frame.Reset id code); history = Dropped id ∷ s.history }
 
--- both, only where the stream is live
+-- an act, only where its stream is live
 abbrev pub where_live : ℕ → (State → State) → State → State
 where_live id act s = if is_live id s.history then act s else s
 

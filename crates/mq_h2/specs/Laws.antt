@@ -91,7 +91,8 @@ abbrev pub is_block_of : ℕ → Option OpenBlock → Bool
 is_block_of id None = false
 is_block_of id (Some b) = asks_by b.began b.stream id
 
--- the request of this stream may still come: its header block isn't whole, or the client hasn't begun the stream
+-- The request of this stream may still come: its header block isn't whole, or its number is above those that the client began. None
+-- comes where that is false; where it is true, the number may be one that can't begin a stream.
 abbrev pub may_come : ℕ → State → Bool
 may_come id s = is_block_of id s.block || nat_lt (highest s.history) id
 

@@ -1,7 +1,7 @@
 //! Whether the fields of a request are malformed.
-ghost use Rattle.std.specs.Prelude.{◌≡◌, ◌||◌, ◌&&◌, List, codes, option_map, length};
+ghost use Rattle.std.specs.Prelude.{◌≡◌, ◌||◌, ◌&&◌, option_map};
 ghost use Rattle.std.specs.List.{list_any};
-ghost use Rattle.mq_h2.specs.Fields.{is_text, is_named, is_name_byte, is_not_name_byte, is_forbidden, begins_with_colon, is_pseudo, is_request_pseudo, is_of_connection, has_bad_name, is_bad, is_there, is_repeated, has_late_pseudo, value_of, is_value, is_some_text, repeats_pseudo, is_connect, is_tunnel, has_content, is_bad_extended, is_bad_connect, is_bad_plain, is_bad_target, is_malformed};
+ghost use Rattle.mq_h2.specs.Fields.{is_text, is_named, is_name_byte, is_not_name_byte, is_forbidden, is_pseudo, is_request_pseudo, is_of_connection, has_bad_name, is_bad, is_there, is_repeated, has_late_pseudo, value_of, is_value, is_some_text, repeats_pseudo, is_connect, is_tunnel, has_content, is_bad_extended, is_bad_connect, is_bad_plain, is_bad_target, is_malformed};
 
 use mq_hpack::Field;
 

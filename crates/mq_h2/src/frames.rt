@@ -1,5 +1,5 @@
 //! What each frame of the client does (RFC 9113, sections 4 to 6).
-ghost use Rattle.std.specs.Prelude.{◌≡◌, IsTrue, ◌==◌, ◌||◌, Some, None, Bool, true, false};
+ghost use Rattle.std.specs.Prelude.{◌≡◌, IsTrue, ◌==◌, ◌||◌, Some, None, true, false};
 ghost use Rattle.mq_frame.specs.declared.frame.Setting.{Setting};
 ghost use Rattle.mq_streams.specs.History.{is_live};
 ghost use Rattle.mq_streams.specs.Answers.{count_of, grant_of, begun};

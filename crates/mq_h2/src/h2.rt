@@ -1,5 +1,5 @@
 //! The core of one connection.
-ghost use Rattle.std.specs.Prelude.{◌≡◌, ◌↔◌, ◌≤◌, ◌+◌, ◌++◌, ℕ, IfOk, OnOk, OnErr, MatchResult, IsErr, IsTrue, List, true, false, length, take, if◌then◌else◌};
+ghost use Rattle.std.specs.Prelude.{◌≡◌, ◌↔◌, ◌≤◌, ◌+◌, ◌++◌, IfOk, MatchResult, IsErr, IsTrue, false, length, take, if◌then◌else◌};
 ghost use Rattle.mq_streams.specs.History.{total, arrived_on, consumed_on, is_live};
 ghost use Rattle.mq_streams.specs.Answers.{room_of};
 ghost use Rattle.mq_h2.specs.State.{State, new_state, owed};

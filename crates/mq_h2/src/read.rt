@@ -1,9 +1,8 @@
 //! One read: what its frames do, without what is withdrawn in it.
-ghost use Rattle.std.specs.Prelude.{◌≡◌, ◌==◌, ◌≤◌, ◌+◌, ℕ, List, [], IfOk, OnOk, filter, vec_len, vec_capacity, MatchResult};
+ghost use Rattle.std.specs.Prelude.{◌≡◌, ◌==◌, ◌≤◌, ◌+◌, ℕ, List, [], IfOk, OnOk, vec_len, vec_capacity};
 ghost use Rattle.std.specs.List.{list_any};
-ghost use Rattle.mq_streams.specs.History.{total, consumed_on, arrived_on};
 ghost use Rattle.mq_h2.specs.State.{State, with_history};
-ghost use Rattle.mq_h2.specs.Reading.{asks, resets, is_withdrawn, lasts, lasting, drained_by, drained};
+ghost use Rattle.mq_h2.specs.Reading.{asks, resets, lasts, lasting, drained_by, drained};
 ghost use Rattle.mq_h2.specs.Stand.{Goes, Serves};
 ghost use Rattle.mq_h2.specs.Doing.{is_id, Meets, AreWithdrawn, IsHeld, AreHeld, Keeps, FramesRead};
 

@@ -11,13 +11,12 @@ use Rattle.mq_talk.specs.declared.note.From.TheVariants as source
 use Rattle.mq_wire.specs.declared.NoMemory.{NoMemory}
 use Rattle.mq_machine.specs.State.{Conn, Tunnel, Port}
 use Rattle.mq_machine.specs.Steps.{queued, settled_note, port_failed, starved}
-use Rattle.mq_machine.specs.Lawful.{waits}
 use Rattle.mq_held.specs.Ready.{CanGive}
 use Rattle.mq_held.specs.declared.datagrams.Came.{Came}
 use Rattle.mq_held.specs.declared.datagrams.Came.TheVariants.{Waits, Failed, Datagram}
 use Rattle.mq_held.specs.declared.went.Went.{Went}
 use Rattle.mq_held.specs.declared.went.Went.TheVariants as went
-use Rattle.mq_machine.specs.Want.{want_of}
+use Rattle.mq_machine.specs.Want.{want_of, may_wait}
 use Rattle.mq_machine.specs.Done.{done}
 use Rattle.mq_machine.specs.Shared.{put_of, port_answer, port_sent}
 use Rattle.mq_machine.specs.Turn.{send_waits}
@@ -134,7 +133,7 @@ CameGives c (Err refused) = IsIdle c × CanGive c.holds
 -- for the port.
 abbrev pub ReceiveGives : ReceiveCalls → (Conn → Type 0) → Conn → (t : Tunnel) → (n : ℕ) → Result Went NoMemory → Type 0
 ReceiveGives c stands s t n (Ok went.Waits) = ReceiveWaits c × stands s
-ReceiveGives c stands s t n (Ok went.Failed) = ReceiveFails c × (waits (want_of s) ≡ true → stands (port_failed s t))
+ReceiveGives c stands s t n (Ok went.Failed) = ReceiveFails c × (may_wait (want_of s) ≡ true → stands (port_failed s t))
 ReceiveGives c stands s t n (Ok (went.Did said)) = (datagram : List ℕ) × TakesDatagram c datagram
     × (said ≡ (settled_note (queued s t (source.Port t.id) n datagram)).0) × stands (settled_note (queued s t (source.Port t.id) n datagram)).1
 ReceiveGives c stands s t n (Err refused) = IsIdle c × CanGive c.holds × stands (starved s)

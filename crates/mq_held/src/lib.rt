@@ -17,7 +17,7 @@ mod went;
 mod write;
 
 pub use ask::Heard;
-pub use datagrams::{Came, Datagrams};
+pub use datagrams::Came;
 pub use held::{Held, PortSeat};
 pub use ready::{ReceiveReady, WriteReady};
 pub use went::Went;

@@ -7,12 +7,12 @@ ghost use Rattle.mq_conn.specs.Conns.{IsConn};
 ghost use Rattle.mq_ports.specs.Tables.{IsBalanced};
 ghost use Rattle.mq_held.specs.Ports.{receive_calls, ReceiveGives, KeepsMost};
 
-use crate::datagrams::{Came, Datagrams};
+use crate::datagrams::{Came, receive};
 use crate::held::{Held, PortSeat};
 use crate::ready::ReceiveReady;
 use crate::went::Went;
 use mq_outside::Ports;
-use mq_ports::PortTable;
+use mq_ports::{Datagrams, PortTable};
 use mq_talk::{End, From};
 use mq_wire::NoMemory;
 use std::alloc::Global;
@@ -41,7 +41,7 @@ impl<L> Held<L> {
         ensures ports { table.new.ports ≡ table.old.ports }
         ensures balanced { IsBalanced P.P.place (P.past table.old.ports) table.old.table.slots → IsBalanced P.P.place (P.past table.new.ports) table.new.table.slots }
     {
-        match datagrams.receive(alloc, seat.key, table) {
+        match receive(datagrams, alloc, seat.key, table) {
             Err(refused) => {
                 self.conn.fail(End::NoMemory);
                 Err(refused)

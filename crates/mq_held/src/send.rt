@@ -7,10 +7,9 @@ ghost use Rattle.mq_conn.specs.Conns.{IsConn};
 ghost use Rattle.mq_ports.specs.Tables.{Changes, IsBalanced};
 ghost use Rattle.mq_held.specs.Ports.{SendGives, KeepsMost};
 
-use crate::datagrams::MOST_DATAGRAM;
 use crate::held::Held;
 use mq_outside::{PortPut, Ports};
-use mq_ports::PortTable;
+use mq_ports::{MOST_DATAGRAM, PortTable};
 use mq_talk::Note;
 
 impl<L> Held<L> {

@@ -2,13 +2,13 @@
 
 ghost use Rattle.std.specs.Prelude.{◌≡◌, [], IfOk};
 
-use crate::{Datagrams, Held, PortSeat, Went};
+use crate::{Held, PortSeat, Went};
 use mq_addr::Addr;
 use mq_conn::Conn;
 use mq_machine::Setup;
 use mq_mem::{MemLink, MemPorts};
 use mq_policy::Policy;
-use mq_ports::PortTable;
+use mq_ports::{Datagrams, PortTable};
 use mq_talk::{From, Kind, Note, Reply};
 use mq_target::Template;
 use mq_wire::{Bytes, NoMemory, Seq};

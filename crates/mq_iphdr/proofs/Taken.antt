@@ -18,10 +18,11 @@ passed true fault r view h = absurd (no_ok fault view h)
 pub same_ok : (a b : IpView) → ◌≡◌ {A = Result IpView HeaderFault} (Ok a) (Ok b) → a ≡ b
 same_ok a b h = grind (arith, h)
 
-kept : (view after : IpView) → ◌≡◌ {A = Result IpView HeaderFault} (Ok view) (Ok after) → (after.version ≡ view.version) × (after.hop ≡ view.hop)
+kept : (view after : IpView) → ◌≡◌ {A = Result IpView HeaderFault} (Ok view) (Ok after)
+    → (after.version ≡ view.version) × (after.hop ≡ view.hop) × (after.length ≡ view.length)
 kept view after h =
     let e = same_ok view after h in
-    (ap (λ (v : IpView). v.version) (sym e), ap (λ (v : IpView). v.hop) (sym e))
+    (ap (λ (v : IpView). v.version) (sym e), ap (λ (v : IpView). v.hop) (sym e), ap (λ (v : IpView). v.length) (sym e))
 
 pub record IsTaken4 (p : List ℕ) (view : IpView) : Type 0 where
   pub version : version_of p ≡ 4
@@ -90,7 +91,8 @@ by_version p view h =
     ]
 
 -- what the walk leaves as it was
-pub walk_keeps : (n : ℕ) (view after : IpView) (bytes : List ℕ) → walk n view bytes ≡ Ok after → (after.version ≡ view.version) × (after.hop ≡ view.hop)
+pub walk_keeps : (n : ℕ) (view after : IpView) (bytes : List ℕ) → walk n view bytes ≡ Ok after
+    → (after.version ≡ view.version) × (after.hop ≡ view.hop) × (after.length ≡ view.length)
 walk_keeps zero view after bytes h =
     elim (cases_Bool (is_extension view.flow.protocol)) [
       | inl met ↦ absurd (no_ok _ _ (sym (step.full 0 view bytes refl met) ∙ h))
@@ -127,6 +129,9 @@ version6 p view t = (walk_keeps 8 (view6_of p) view (drop 40 p) t.is).0
 pub hop6 : (p : List ℕ) (view : IpView) → IsTaken6 p view → view.hop ≡ slice_index p 7
 unfolding view6_of
 hop6 p view t = (walk_keeps 8 (view6_of p) view (drop 40 p) t.is).1
+
+pub length6 : (p : List ℕ) (view : IpView) → IsTaken6 p view → view.length ≡ length p
+length6 p view t = (walk_keeps 8 (view6_of p) view (drop 40 p) t.is).2 ∙ t.len
 
 pub is_4 : (p : List ℕ) (view : IpView) → header_of p ≡ Ok view → view.version ≡ 4 → IsTaken4 p view
 is_4 p view h v =

@@ -45,7 +45,7 @@ fn lower(packet: &mut [u8], at: usize)
 
 /// Writes the checksum of a header of so many bytes.
 #[tactic(auto, unfolding(crate::specs::Onward::summed))]
-fn write_checksum(packet: &mut [u8], len: u16)
+pub fn write_checksum(packet: &mut [u8], len: u16)
     requires fixed { 20 ≤ len }
     requires within { len ≤ length packet.old }
     ensures { packet.new ≡ summed len packet.old }

@@ -1,6 +1,7 @@
 -- An actor that has no turn is quiet.
 use Rattle.std.proofs.Common.{arith, ◌≡◌, ℕ, Bool, true, false, not, inl, inr, ◌+◌, ◌==◌, List, [], ◌∷◌, Option, Some, None, refl, sym, ap, subst, ◌∙◌, slice_get, length, nat_lt, take}
 use Rattle.std.specs.Prelude.{find, is_some, cond, ◌&&◌, ◌||◌, option_map, option_and_then, unwrap_or, ◌⊎◌, nat_le, if◌then◌else◌}
+use Rattle.mq_outside.specs.Nets.{Arrival}
 use Rattle.mq_outside.specs.declared.PortPut.TheVariants as put
 use Rattle.mq_talk.specs.declared.book.Call.{Call}
 use Rattle.mq_talk.specs.declared.book.Call.TheVariants as call
@@ -36,7 +37,7 @@ use Rattle.mq_machine.specs.Shared.{Answers, PortsAnswer, Ordered, port_of, port
 use Rattle.mq_talk.specs.declared.note.Why.TheVariants as why
 use Rattle.mq_machine.specs.Steps.{can_read, framed, failed, port_failed}
 use Rattle.mq_machine.specs.Reading.{EndsIn, EndsBy, stream_of}
-use Rattle.mq_machine.specs.Turn.{Try, Act, Frame, Write, Read, Receive, can_try, can_take, can_receive_on, has_turn, turn_of, can_act, Seat, Offers, Inbox, Of, SeatNext, WorkerActs, Actor, WorkerOf, ThePump, Turn, try_of, tries_of, ring_from, seats_of, accepted, with_held, with_conn, frame_done, write_done, most_read, OwnNext, TakesNext, WriteNext, ReadNext, PortNext, ReceiveNext, TryNext, write_failed, read_failed, receive_failed, received_from, can_do, send_waits, over_or, ActNext, HeldDone, PumpTry, PushHeld, SendHeld, SendNext, Receives, can_pump, pump_try, PumpNext, IsReceived, IsMet, net_judged, last_of, PumpActs, net_popped}
+use Rattle.mq_machine.specs.Turn.{Try, Act, Frame, Write, Read, Receive, can_try, can_take, can_receive_on, has_turn, turn_of, can_act, Seat, Offers, Inbox, Of, SeatNext, WorkerActs, Actor, WorkerOf, ThePump, Turn, try_of, tries_of, ring_from, seats_of, accepted, with_held, with_conn, frame_done, write_done, most_read, OwnNext, TakesNext, WriteNext, ReadNext, PortNext, ReceiveNext, TryNext, write_failed, read_failed, receive_failed, received_from, can_do, send_waits, over_or, ActNext, HeldDone, PumpTry, PushHeld, SendHeld, SendNext, Receives, can_pump, pump_try, PumpNext, IsReceived, with_arrivals, IsMet, net_judged, last_of, PumpActs, net_popped}
 use Rattle.mq_machine.specs.Laws.{ReadsAlways, SaysSome}
 
 -- ---- searches
@@ -93,11 +94,10 @@ pump_comes p sh some SendHeld h none =
 pump_comes p sh some SendNext h none =
     let has = some_of (box_at sh.boxes (last_of sh.boxes)) (both _ _ h).1 in
     none (_, ap (net_popped p sh (last_of sh.boxes)) has.2)
-pump_comes p sh some Receives h none = by_arrived p.net.arrived (both _ _ h).1 none where
-  by_arrived : (arrived : List (List ℕ)) → nat_lt 0 (length arrived) ≡ true → Comes ((d : Note × Pump × Shared) × IsReceived p sh arrived d)
+pump_comes p sh some Receives h none = by_arrived p.net.holds.arrived (both _ _ h).1 none where
+  by_arrived : (arrived : List Arrival) → nat_lt 0 (length arrived) ≡ true → Comes ((d : Note × Pump × Shared) × IsReceived p sh arrived d)
   by_arrived [] h none = absurd cc
-  by_arrived (packet ∷ others) h none =
-      met_comes (record p { net = record p.net { arrived = others; received = p.net.received + 1 } }) sh some p.net.received packet (flow_of packet) none
+  by_arrived (first ∷ others) h none = met_comes (record p { net = with_arrivals others p.net }) sh some p.net.received first.packet (flow_of first.packet) none
 
 -- ---- a want can be answered
 

@@ -3,6 +3,7 @@ use Rattle.std.specs.Prelude.{codes}
 use Rattle.std.proofs.Common.{◌≡◌, ℕ, true, false, List, [], ◌∷◌, ◌++◌, Some, None, refl}
 use Rattle.mq_addr.specs.declared.addr.Addr.TheVariants.{V4}
 use Rattle.mq_head.specs.Answers.{refusal_text}
+use Rattle.mq_outside.specs.Nets.{net_of}
 use Rattle.mq_outside.specs.declared.PortPut.TheVariants as put
 use Rattle.mq_talk.specs.declared.book.Reply.TheVariants as reply
 use Rattle.mq_talk.specs.declared.book.Call.TheVariants as call
@@ -17,7 +18,7 @@ use Rattle.mq_machine.specs.declared.act.Act.TheVariants as act
 use Rattle.mq_machine.specs.declared.act.StreamAct.TheVariants as stream
 use Rattle.mq_machine.specs.declared.act.Due.{Due}
 use Rattle.mq_machine.specs.declared.act.Due.TheVariants as due
-use Rattle.mq_machine.specs.State.{Net, new_net, Worker, Shared, Conn, new_conn, Tunnel, Packet, OverHttp1, new_link}
+use Rattle.mq_machine.specs.State.{Net, Worker, Shared, Conn, new_conn, Tunnel, Packet, OverHttp1, new_link}
 use Rattle.mq_machine.specs.Want.{Ask, Over, Said, Bound, Replied, Put, want_of}
 use Rattle.mq_machine.specs.Done.{done}
 use Rattle.mq_machine.specs.Shared.{new_port}
@@ -144,7 +145,7 @@ abbrev parcel : Parcel
 parcel = record { from = origin.Tunnel 0; n = 4; to = place.Net; packet = 69 ∷ [] }
 
 abbrev shut_net : Net
-shut_net = record new_net { send_waits = true }
+shut_net = record { holds = record (net_of []) { send_waits = true }; received = 0; sent = [] }
 
 holds : (sh : Shared) → PumpTurn (record { mtu = 1500; to_push = None; to_send = None; net = shut_net }) (parcel ∷ [])
     (record sh { boxes = [] ∷ (parcel ∷ []) ∷ [] }) (note.Waits (source.Tunnel 0) 4)

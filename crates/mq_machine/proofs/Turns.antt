@@ -23,8 +23,9 @@ use Rattle.mq_talk.specs.Packets.{flow_of}
 use Rattle.mq_machine.specs.Shared.{Answers, Asks, PortsAnswer, Ordered, port_of, asked_by}
 use Rattle.mq_machine.specs.Steps.{finished}
 use Rattle.mq_machine.specs.Reading.{EndsIn, EndsInFrames, EndsBy, stream_of}
+use Rattle.mq_outside.specs.Nets.{Arrival}
 use Rattle.mq_outside.specs.Links.{behind}
-use Rattle.mq_machine.specs.Turn.{Try, Act, Frame, Write, Read, Receive, try_of, acted, ActNext, OwnNext, HeldDone, TakesNext, WriteNext, ReadNext, PortNext, ReceiveNext, TryNext, Seat, Offers, Inbox, Of, SeatNext, WorkerTurn, PumpTry, PushHeld, SendHeld, SendNext, Receives, PumpNext, IsReceived, IsMet, net_judged, WorkerActs, PumpActs, Actor, WorkerOf, ThePump, Turn, with_held, with_conn, popped, most_read, write_failed, read_failed, receive_failed}
+use Rattle.mq_machine.specs.Turn.{Try, Act, Frame, Write, Read, Receive, try_of, acted, ActNext, OwnNext, HeldDone, TakesNext, WriteNext, ReadNext, PortNext, ReceiveNext, TryNext, Seat, Offers, Inbox, Of, SeatNext, WorkerTurn, PumpTry, PushHeld, SendHeld, SendNext, Receives, PumpNext, IsReceived, with_arrivals, IsMet, net_judged, WorkerActs, PumpActs, Actor, WorkerOf, ThePump, Turn, with_held, with_conn, popped, most_read, write_failed, read_failed, receive_failed}
 use Rattle.mq_machine.specs.Laws.{ReadsOnce, ReadsOnceIn, SaysOne}
 
 -- what is inside
@@ -232,16 +233,16 @@ one_met p sh one n packet (Some flow) d e x y = by_size (nat_lt p.mtu (length pa
   by_size true x y = x ∙ sym y
   by_size false x y = x.2 ∙ ap (net_judged p sh n packet) (one.judges origin.Net flow x.0 y.0 x.1 y.1) ∙ sym y.2
 
-one_received : (p : Pump) (sh : Shared) → SaysOne sh.config sh.book → (arrived : List (List ℕ)) (d e : Note × Pump × Shared) → IsReceived p sh arrived d → IsReceived p sh arrived e → d ≡ e
+one_received : (p : Pump) (sh : Shared) → SaysOne sh.config sh.book → (arrived : List Arrival) (d e : Note × Pump × Shared) → IsReceived p sh arrived d → IsReceived p sh arrived e → d ≡ e
 one_received p sh one [] d e x y = absurd x
-one_received p sh one (packet ∷ others) d e x y =
-    one_met (record p { net = record p.net { arrived = others; received = p.net.received + 1 } }) sh one p.net.received packet (flow_of packet) d e x y
+one_received p sh one (first ∷ others) d e x y =
+    one_met (record p { net = with_arrivals others p.net }) sh one p.net.received first.packet (flow_of first.packet) d e x y
 
 one_pumped : (p : Pump) (sh : Shared) → SaysOne sh.config sh.book → (try : PumpTry) (d e : Note × Pump × Shared) → PumpNext p sh try d → PumpNext p sh try e → d ≡ e
 one_pumped p sh one PushHeld d e x y = some_same (sym x ∙ y)
 one_pumped p sh one SendHeld d e x y = some_same (sym x ∙ y)
 one_pumped p sh one SendNext d e x y = some_same (sym x ∙ y)
-one_pumped p sh one Receives d e x y = one_received p sh one p.net.arrived d e x y
+one_pumped p sh one Receives d e x y = one_received p sh one p.net.holds.arrived d e x y
 
 one_pump : (old : State) → SaysOne old.shared.config old.shared.book → (n m : Note) (a b : State) → PumpActs old n a → PumpActs old m b → (n ≡ m) × (a ≡ b)
 one_pump old one n m a b x y =

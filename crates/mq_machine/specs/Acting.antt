@@ -1,5 +1,5 @@
 -- The contract of a worker's step over any office, any mail, and links and ports that may tell nothing.
-use Rattle.std.specs.Prelude.{◌≡◌, ◌≢◌, ◌↔◌, ◌⊎◌, ⊤, ℕ, ◌+◌, ◌<◌, ◌≤◌, ◌||◌, Bool, true, false, not, List, [], ◌∷◌, ◌++◌, map, length, All, Contains, take_while, slice_get, Option, Some, None, Result, Ok, Err}
+use Rattle.std.specs.Prelude.{◌≡◌, ◌≢◌, ◌↔◌, ◌⊎◌, ⊤, ℕ, ◌+◌, ◌<◌, ◌≤◌, ◌||◌, Bool, true, false, not, List, [], ◌∷◌, ◌++◌, map, length, All, Contains, take_while, slice_get, Option, Some, None, is_some, Result, Ok, Err}
 use Rattle.mq_wire.specs.declared.NoMemory.{NoMemory}
 use Rattle.mq_talk.specs.declared.book.Call.TheVariants as call
 use Rattle.mq_talk.specs.declared.book.Reply.TheVariants as reply
@@ -8,16 +8,17 @@ use Rattle.mq_talk.specs.declared.goal.Goal.{Goal}
 use Rattle.mq_talk.specs.declared.note.Note.{Note}
 use Rattle.mq_talk.specs.declared.place.Parcel.{Parcel}
 use Rattle.mq_talk.specs.Book.{is_live}
-use Rattle.mq_talk.specs.Mails.{box_at, IsTold}
+use Rattle.mq_talk.specs.Mails.{IsTold}
 use Rattle.mq_talk.specs.Offices.{Seen, Sees, IsSame}
 use Rattle.mq_outside.specs.Counts.{last_count, risen, risen_by, LinkCounts, PortCounts}
+use Rattle.mq_outside.specs.Nets.{NetHolds, net_of}
 use Rattle.mq_outside.specs.Ports.{PortHolds, empty_port, PortsHolds, next_port, ports_behind}
-use Rattle.mq_machine.specs.State.{Tunnel, Link, new_link, Port, Net, new_net, Offer, Held, Worker, Pump, Orders, Shared, owed, held_of}
+use Rattle.mq_machine.specs.State.{Tunnel, Link, new_link, Port, Offer, Held, Worker, Pump, Orders, Shared, owed, held_of}
 use Rattle.mq_machine.specs.Shared.{at_port}
 use Rattle.mq_machine.specs.Want.{Want, Nothing, Send, Answer, Bound, Replied, want_of}
 use Rattle.mq_machine.specs.Steps.{can_read, framed}
 use Rattle.mq_machine.specs.Silent.{Reached, WorkerStarves}
-use Rattle.mq_machine.specs.Turn.{Seat, Offers, Inbox, Of, can_act, ring_from, seats_of, turn_of, most_live, SeatNext, WorkerTurn, PumpTurn, last_of}
+use Rattle.mq_machine.specs.Turn.{Seat, Offers, Inbox, Of, can_act, ring_from, seats_of, turn_of, most_live, SeatNext, WorkerTurn, PumpTurn, pump_try}
 
 -- ---- what an actor sees of the outside
 
@@ -364,43 +365,79 @@ PlainGives orders old new boxes s (Err fault) t = PlainSilent orders old new box
 
 -- what the pump sees: its network, where that tells, with its counts, its office and its mail
 pub record PumpSight : Type 0 where
-  pub net : Option Net
+  pub net : Option NetHolds
   pub counts : PortCounts
   pub seen : Seen
+  -- the inboxes, where the mail tells them
   pub boxes : Option (List (List Parcel))
-
-abbrev pub bare_net : Net
-bare_net = new_net
 
 -- the office and the mail alone
 abbrev pub shared_sight : Outside → PumpSight → Sight
 shared_sight o p = record { outside = o; seen = p.seen; boxes = p.boxes }
 
+abbrev pub bare_pump : Pump → Pump
+bare_pump p = record p { net = record p.net { holds = net_of [] } }
+
+-- the pump with other contents of its network, where that tells nothing
+pub record NetRefills (old : Option NetHolds) (s now : Pump) : Type 0 where
+  pub same : bare_pump now ≡ bare_pump s
+  pub told : IsTold old now.net.holds
+
+-- there is an inbox for each worker, and one for the pump
+pub record PumpKnown (sight : PumpSight) : Type 0 where
+  pub boxes : (boxes : List (List Parcel)) → sight.boxes ≡ Some boxes → length boxes ≡ sight.seen.config.workers + 1
+
+-- The step gave this note: of the pump with contents with which what the outside answered fits, it is the turn.
 pub record PumpGave (orders : Orders) (o : Outside) (old new : PumpSight) (s : Pump) (note : Note) (t : Pump) : Type 0 where
   pub now : Pump
   pub box : List Parcel
   pub sh : Shared
   pub after : Shared
-  pub refills : record now { net = bare_net } ≡ record s { net = bare_net }
-  pub told : IsTold old.net now.net
-  pub was : WasInbox old.boxes (last_of sh.boxes) box
+  pub refills : NetRefills old.net s now
+  pub was : WasInbox old.boxes old.seen.config.workers box
   pub meets : Meets orders (shared_sight o old) (shared_sight o new) sh after
-  pub fails : now.net.send_fails || now.net.receive_fails ≡ true → old.net ≡ None → Rose old.counts.faults new.counts.faults
+  -- a network that tells nothing fails only where it failed in this step
+  pub fails : now.net.holds.send_fails || now.net.holds.receive_fails ≡ true → old.net ≡ None → Rose old.counts.faults new.counts.faults
   pub turn : PumpTurn now box sh note t after
 
--- The pump gave no note: it held nothing for pushing; what it held for sending waited, or nothing came through its inbox; and
--- nothing came from the network, or that failed.
+-- The step changed nothing that is told.
+pub record PumpLeaves (old new : PumpSight) : Type 0 where
+  pub net : new.net ≡ old.net
+  pub seen : new.seen ≡ old.seen
+  pub boxes : List (List Parcel)
+  pub told : IsTold old.boxes boxes
+  pub tells : IsTold new.boxes boxes
+
+-- The pump gave no note: with contents with which what the outside answered fits, it has no turn. What it held for sending waited,
+-- or nothing came through its inbox; and nothing came from the network, or that failed.
 pub record PumpQuiet (old new : PumpSight) (s t : Pump) : Type 0 where
+  pub now : Pump
   pub box : List Parcel
-  pub was : (boxes : List (List Parcel)) → old.boxes ≡ Some boxes → box ≡ box_at boxes (last_of boxes)
-  pub push : s.to_push ≡ None
+  pub refills : NetRefills old.net s now
+  pub was : WasInbox old.boxes old.seen.config.workers box
+  pub none : pump_try now box ≡ None
   pub send : (parcel : Parcel) → s.to_send ≡ Some parcel → Rose old.counts.send_waits new.counts.send_waits
-  pub pop : s.to_send ≡ None → box ≡ []
   pub receive : Rose old.counts.receive_waits new.counts.receive_waits ⊎ Rose old.counts.faults new.counts.faults
-  pub seen : new.seen.entries ≡ old.seen.entries
-  pub refills : record t { net = bare_net } ≡ record s { net = bare_net }
+  pub leaves : PumpLeaves old new
+  pub same : bare_pump t ≡ bare_pump s
+
+-- The pump had a turn, and was refused memory: nothing changed.
+pub record PumpSilent (old new : PumpSight) (s t : Pump) : Type 0 where
+  pub now : Pump
+  pub box : List Parcel
+  pub refills : NetRefills old.net s now
+  pub was : WasInbox old.boxes old.seen.config.workers box
+  pub some : is_some (pump_try now box) ≡ true
+  pub leaves : PumpLeaves old new
+  pub same : bare_pump t ≡ bare_pump s
 
 abbrev pub PumpGives : Orders → Outside → PumpSight → PumpSight → Pump → Result (Option Note) NoMemory → Pump → Type 0
 PumpGives orders o old new s (Ok (Some note)) t = PumpGave orders o old new s note t
 PumpGives orders o old new s (Ok None) t = PumpQuiet old new s t
-PumpGives orders o old new s (Err fault) t = record t { net = bare_net } ≡ record s { net = bare_net }
+PumpGives orders o old new s (Err fault) t = PumpSilent old new s t
+
+-- What `step` promises of the pump, whatever was ordered and whatever the outside of workers is: for each state for which it stood,
+-- it stands for one to which this step leads, and what it has of its network is what that tells.
+abbrev pub PumpSteps : (before after : Pump → Type 0) (old new : PumpSight) (result : Result (Option Note) NoMemory) → Type 0
+PumpSteps before after old new result =
+    (orders : Orders) (o : Outside) (s : Pump) → before s → PumpKnown old → (t : Pump) × after t × IsTold new.net t.net.holds × PumpKnown new × PumpGives orders o old new s result t

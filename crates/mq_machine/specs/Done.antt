@@ -49,7 +49,7 @@ refusal (Head bytes) stream status = nothing_put (Head bytes)
 refusal OverHttp1 stream status = record { text = http1.refusal_text status; front = OverHttp1; ending = Some end.Refused }
 refusal (OverHttp2 h) stream status = over_http2 (http2.refuses stream status h)
 
--- with its tunnel a connection of HTTP/1.1 ends
+-- With its tunnel a connection of HTTP/1.1 ends. No stream of it is reset by its client: that has no case of its own in the rules.
 abbrev pub http1_end : Why → Option End
 http1_end why.End = Some end.Done
 http1_end why.Truncated = Some end.Truncated

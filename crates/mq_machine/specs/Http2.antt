@@ -2,14 +2,13 @@
 use Rattle.std.specs.Prelude.{ℕ, Bool, true, false, List, [], ◌∷◌, codes, decimal, Option, Some, None, if◌then◌else◌}
 use Rattle.mq_addr.specs.declared.kind.Kind.{Kind}
 use Rattle.mq_addr.specs.declared.kind.Kind.TheVariants as kind
-use Rattle.mq_h2.specs.Acts.{where_live, with_headers, frame_room, sends, ends_stream, resets_stream}
-use Rattle.mq_h2.specs.Codes.{protocol_error, enhance_your_calm}
+use Rattle.mq_h2.specs.Acts.{where_live, with_headers, sends, ends_stream, resets_stream}
+use Rattle.mq_h2.specs.Codes.{protocol_error, cancel, connect_error, enhance_your_calm}
 use Rattle.mq_h2.specs.Fields.{is_connect, is_value, value_of}
 use Rattle.mq_h2.specs.State.{State}
 use Rattle.mq_head.specs.Answers.{token_of}
 use Rattle.mq_hpack.specs.declared.field.Field.{Field}
 use Rattle.mq_hpack.specs.Writing.{block_text}
-use Rattle.mq_streams.specs.History.{is_live}
 use Rattle.mq_talk.specs.declared.note.Why.{Why}
 use Rattle.mq_talk.specs.declared.note.Why.TheVariants as why
 
@@ -33,13 +32,6 @@ refuses id status h = where_live id (with_headers id (block_text h.owes_limit (s
 
 -- ---- what the stream of a closed tunnel gets
 
--- the error codes of a stream that its server gives up, and of a tunnel whose port failed (RFC 9113, section 7)
-abbrev pub cancel : ℕ
-cancel = 8
-
-abbrev pub connect_error : ℕ
-connect_error = 10
-
 abbrev pub resets : ℕ → ℕ → State → State
 resets id code h = where_live id (resets_stream id code) h
 
@@ -58,10 +50,6 @@ closes id is_begun why.Reset h = h
 closes id is_begun why.Conn h = h
 
 -- ---- DATA
-
--- how many of so many bytes one DATA frame of this stream can have now
-abbrev pub data_room : ℕ → ℕ → State → ℕ
-data_room id size h = if is_live id h.history then frame_room id size h else 0
 
 -- one DATA frame with these bytes
 abbrev pub puts_data : ℕ → List ℕ → State → State

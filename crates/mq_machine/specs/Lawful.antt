@@ -5,10 +5,13 @@ use Rattle.std.specs.Option.{is_some}
 use Rattle.mq_h2.specs.Laws.{may_come}
 use Rattle.mq_h2.specs.State as h2
 use Rattle.mq_streams.specs.History.{total, arrived_on, consumed_on}
+use Rattle.mq_addr.specs.declared.kind.Kind.TheVariants as kind
 use Rattle.mq_talk.specs.declared.book.Reply.TheVariants as reply
 use Rattle.mq_talk.specs.declared.goal.Goal.{Goal}
 use Rattle.mq_talk.specs.declared.goal.Goal.TheVariants as goal
 use Rattle.mq_talk.specs.declared.note.End.{End}
+use Rattle.mq_talk.specs.declared.note.From.{From}
+use Rattle.mq_talk.specs.declared.note.Note.{Note}
 use Rattle.mq_talk.specs.declared.note.Why.TheVariants as why
 use Rattle.mq_machine.specs.declared.act.Act.TheVariants as act
 use Rattle.mq_machine.specs.declared.act.StreamAct.{StreamAct}
@@ -16,8 +19,12 @@ use Rattle.mq_machine.specs.declared.act.StreamAct.TheVariants as stream
 use Rattle.mq_machine.specs.declared.act.Due.{Due}
 use Rattle.mq_machine.specs.declared.act.Due.TheVariants as due
 use Rattle.mq_machine.specs.Laws.{BeginsWithAct}
-use Rattle.mq_machine.specs.State.{Conn, Front, Head, OverHttp1, OverHttp2, Stream, Tunnel}
-use Rattle.mq_machine.specs.Want.{Want, Nothing, Say, Bind, Ask, Judge, Push, Send, Over, Answer, Replied}
+use Rattle.mq_machine.specs.declared.setup.Setup.{Setup}
+use Rattle.mq_machine.specs.Done.{done}
+use Rattle.mq_machine.specs.Reading.{TookNext}
+use Rattle.mq_machine.specs.State.{Conn, new_conn, Front, Head, OverHttp1, OverHttp2, Stream, Tunnel, tunnel_of}
+use Rattle.mq_machine.specs.Steps.{can_read, finished, framed, given_up, port_failed, queued, settled_note, wrote}
+use Rattle.mq_machine.specs.Want.{Answer, Replied, may_wait, want_of}
 
 -- ---- what is due
 
@@ -113,7 +120,7 @@ IsFresh ts answer = Unit {0}
 
 -- ---- how far the bytes were read
 
--- of stream 0, a mark or none
+-- it is asked of the data stream of stream 0
 abbrev pub IsOfZero : Due → Type 0
 IsOfZero (due.Do (act.Bind id goal)) = ⊥
 IsOfZero (due.Do (act.Open id goal)) = ⊥
@@ -146,9 +153,6 @@ pub record Http1Fits (e : Option End) (ds : List Due) (ts : List Tunnel) (ss : L
   pub tunnels : AllByRecursion (λ (t : Tunnel). t.stream ≡ 0) ts
   pub streams : AllByRecursion (λ (s : Stream). s.id ≡ 0) ss
 
-abbrev pub IsHttp1 : Conn → Type 0
-IsHttp1 c = Http1Fits c.ending c.due c.tunnels c.streams
-
 -- how many bytes of DATA of this stream are to be consumed as what is due is done
 abbrev pub spends_on : ℕ → Due → ℕ
 spends_on id (due.Do a) = 0
@@ -166,16 +170,10 @@ pub record Http2Fits (h : h2.State) (ds : List Due) (ts : List Tunnel) : Type 0 
   pub dues : (id : ℕ) → list_any (begins_on id) ds ≡ true → may_come id h ≡ false
   pub spends : (id : ℕ) → total (consumed_on id) h.history + spends id ds ≤ total (arrived_on id) h.history
 
-abbrev pub IsHttp2 : h2.State → Conn → Type 0
-IsHttp2 h c = Http2Fits h c.due c.tunnels
-
 abbrev pub Fits : Front → Option End → List Due → List Tunnel → List Stream → Type 0
 Fits (Head bytes) e ds ts ss = (ds ≡ []) × (ts ≡ []) × (ss ≡ [])
 Fits OverHttp1 e ds ts ss = Http1Fits e ds ts ss
 Fits (OverHttp2 h) e ds ts ss = Http2Fits h ds ts
-
-abbrev pub FitsFront : Front → Conn → Type 0
-FitsFront front c = Fits front c.ending c.due c.tunnels c.streams
 
 -- ---- all
 
@@ -204,13 +202,15 @@ pub record IsLawful (c : Conn) : Type 0 where
   pub loose : IsLoose c
   pub settled : BeginsWithAct c.due
 
--- it waits for its client, or may wait for its port
-abbrev pub waits : Want → Bool
-waits Nothing = true
-waits Say = false
-waits (Bind stream goal) = false
-waits (Ask call) = false
-waits (Judge tunnel n flow) = false
-waits (Push parcel) = false
-waits (Send tunnel n payload) = true
-waits (Over why) = false
+-- A connection is so at its beginning, and each step keeps that: an answer, a frame, a write, a read, the end and the failure of
+-- its link, want of memory, what comes to a tunnel, and the failure of a port.
+pub record StaysLawful : Type 0 where
+  pub begins : (number actor : ℕ) → IsLawful (new_conn number actor)
+  pub answers : (c d : Conn) (answer : Answer) (note : Note) → IsLawful c → IsFresh c.tunnels answer → done c answer ≡ Some (note, d) → IsLawful d
+  pub frames : (c d : Conn) (note : Note) → IsLawful c → framed c ≡ Some (note, d) → IsLawful d
+  pub writes : (c : Conn) (count : ℕ) → IsLawful c → IsLawful (wrote c count).1
+  pub reads : (setup : Setup) (c d : Conn) (bytes : List ℕ) → setup.udp.kind ≡ kind.Udp → IsLawful c → TookNext setup c bytes d → IsLawful d
+  pub finishes : (c : Conn) (inside : Bool) → IsLawful c → can_read c ≡ true → IsLawful (finished c inside).1
+  pub gives_up : (why : End) (c : Conn) → IsLawful c → IsLawful (given_up why c)
+  pub queues : (c : Conn) (t : Tunnel) (from : From) (n : ℕ) (packet : List ℕ) → IsLawful c → IsLawful (settled_note (queued c t from n packet)).1
+  pub port_fails : (c : Conn) (tunnel : ℕ) (t : Tunnel) → IsLawful c → tunnel_of c tunnel ≡ Some t → may_wait (want_of c) ≡ true → IsLawful (port_failed c t)

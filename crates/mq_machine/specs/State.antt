@@ -11,6 +11,7 @@ use Rattle.mq_talk.specs.declared.note.End.{End}
 use Rattle.mq_talk.specs.declared.note.From.{From}
 use Rattle.mq_talk.specs.declared.place.Parcel.{Parcel}
 use Rattle.mq_outside.specs.Links.{LinkHolds, empty_link}
+use Rattle.mq_outside.specs.Nets.{NetHolds, net_of}
 use Rattle.mq_h2.specs.State as http2
 use Rattle.mq_machine.specs.declared.act.Due.{Due}
 use Rattle.mq_machine.specs.declared.setup.Setup.{Setup}
@@ -40,17 +41,15 @@ pub record Port : Type 0 where
   pub send_waits : Bool
   pub receive_fails : Bool
 
--- the network
+-- the network: what it holds, how many packets were received, and those that were sent
 pub record Net : Type 0 where
-  pub arrived : List (List ℕ)
+  pub holds : NetHolds
   pub received : ℕ
   pub sent : List (List ℕ)
-  pub send_fails : Bool
-  pub send_waits : Bool
-  pub receive_fails : Bool
 
-abbrev pub new_net : Net
-new_net = record { arrived = []; received = 0; sent = []; send_fails = false; send_waits = false; receive_fails = false }
+-- a network of these hosts
+abbrev pub new_net : List Addr → Net
+new_net hosts = record { holds = net_of hosts; received = 0; sent = [] }
 
 -- ---- connections
 

@@ -12,6 +12,7 @@ use Rattle.mq_talk.specs.declared.note.Why.TheVariants as why
 use Rattle.mq_talk.specs.declared.place.Cause.TheVariants as cause
 use Rattle.mq_machine.specs.declared.act.Act.TheVariants as act
 use Rattle.mq_machine.specs.declared.act.StreamAct.TheVariants as stream
+use Rattle.mq_h2.specs.Acts.{data_room}
 use Rattle.mq_machine.specs.Http2 as http2
 use Rattle.mq_machine.specs.Putting.{Putting, nothing_put, over_http2, putting}
 use Rattle.mq_machine.specs.Settle.{settle}
@@ -41,7 +42,7 @@ can_go_on c = is_nothing (want_of c) && nat_le (length (owed c)) most_owed && no
 abbrev pub frame_size : Front → ℕ → ℕ → ℕ
 frame_size (Head bytes) stream size = 0
 frame_size OverHttp1 stream size = size
-frame_size (OverHttp2 h) stream size = http2.data_room stream size h
+frame_size (OverHttp2 h) stream size = data_room stream size h
 
 -- these bytes of a capsule are put
 abbrev pub framing : Front → ℕ → List ℕ → Putting

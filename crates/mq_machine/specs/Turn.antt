@@ -1,6 +1,6 @@
 -- Whose turn it is, and what a turn does. A worker tries its seats in a ring, from the one behind that which acted last: its
 -- offered links, its inbox, then each of its connections. The first seat that can act does what it tries first.
-use Rattle.std.specs.Prelude.{◌≡◌, ℕ, ◌+◌, ◌==◌, Bool, true, false, not, ◌&&◌, ◌||◌, List, [], ◌∷◌, ◌++◌, map, take, drop, length, filter, find, slice_get, slice_set, nat_lt, nat_le, if◌then◌else◌, Option, Some, None, option_map, option_and_then, is_some}
+use Rattle.std.specs.Prelude.{◌≡◌, ℕ, ◌+◌, ◌==◌, Bool, true, false, not, ◌&&◌, ◌||◌, List, [], ◌∷◌, ◌++◌, map, take, drop, length, filter, find, slice_get, slice_set, nat_lt, nat_le, min, if◌then◌else◌, Option, Some, None, option_map, option_and_then, is_some}
 use Rattle.std.specs.Bool.{MatchBool}
 use Rattle.mq_talk.specs.declared.note.From.{From}
 use Rattle.mq_talk.specs.declared.note.From.TheVariants as source
@@ -23,7 +23,9 @@ use Rattle.mq_talk.specs.Judging.{IsJudged}
 use Rattle.mq_talk.specs.Mails.{box_at, has_room}
 use Rattle.mq_talk.specs.Packets.{flow_of}
 use Rattle.mq_machine.specs.Words.{onward}
+use Rattle.mq_outside.specs.Counts.{last_count}
 use Rattle.mq_outside.specs.Links.{behind, taken_of, room_left}
+use Rattle.mq_outside.specs.Nets.{Arrival, answered}
 use Rattle.mq_machine.specs.State.{Conn, Tunnel, Link, Port, Net, Held, Offer, Worker, Pump, Shared, State, new_conn, owed, kind_of, tunnel_of, held_of}
 use Rattle.mq_machine.specs.Want.{Want, Nothing, Say, Bind, Ask, Judge, Push, Send, Over, Answer, Said, want_of}
 use Rattle.mq_machine.specs.Done.{done}
@@ -312,13 +314,13 @@ pub data PumpTry : Type 0 where
   PushHeld SendHeld SendNext Receives : PumpTry
 
 abbrev pub net_waits : Net → Bool
-net_waits net = net.send_waits && not net.send_fails
+net_waits net = net.holds.send_waits && not net.holds.send_fails
 
 abbrev pub can_pump : Pump → List Parcel → PumpTry → Bool
 can_pump p box PushHeld = is_some p.to_push
 can_pump p box SendHeld = is_some p.to_send && not (net_waits p.net)
 can_pump p box SendNext = not (is_some p.to_send) && nat_lt 0 (length box)
-can_pump p box Receives = not p.net.receive_fails && nat_lt 0 (length p.net.arrived)
+can_pump p box Receives = not p.net.holds.receive_fails && nat_lt 0 (length p.net.holds.arrived)
 
 abbrev pub pump_try : Pump → List Parcel → Option PumpTry
 pump_try p box = find (can_pump p box) (PushHeld ∷ SendHeld ∷ SendNext ∷ Receives ∷ [])
@@ -331,11 +333,18 @@ abbrev pub parcel_pushed : Pump → Shared → Parcel → Bool → Note × Pump 
 parcel_pushed p sh parcel true = (note.PushedNote (source_of parcel.from) parcel.n parcel.to, record p { to_push = None }, pushing true sh parcel)
 parcel_pushed p sh parcel false = (note.Dropped (source_of parcel.from) parcel.n cause.InboxFull, record p { to_push = None }, sh)
 
+-- The network answers what it was sent.
+abbrev pub with_sent : List ℕ → Net → Net
+with_sent packet net = record net { holds = answered packet net.holds; sent = net.sent ++ packet ∷ [] }
+
+abbrev pub with_failure : Net → Net
+with_failure net = record net { holds = record net.holds { send_fails = false } }
+
 abbrev pub net_sent : Pump → Shared → Parcel → Note × Pump × Shared
 net_sent p sh parcel =
-    if p.net.send_fails then (note.Dropped (source_of parcel.from) parcel.n cause.Port, record p { to_send = None; net = record p.net { send_fails = false } }, sh)
-    else (if p.net.send_waits then (note.Waits (source_of parcel.from) parcel.n, record p { to_send = Some parcel }, sh)
-    else (note.Sent (source_of parcel.from) parcel.n parcel.packet, record p { to_send = None; net = record p.net { sent = p.net.sent ++ parcel.packet ∷ [] } }, sh))
+    if p.net.holds.send_fails then (note.Dropped (source_of parcel.from) parcel.n cause.Port, record p { to_send = None; net = with_failure p.net }, sh)
+    else (if p.net.holds.send_waits then (note.Waits (source_of parcel.from) parcel.n, record p { to_send = Some parcel }, sh)
+    else (note.Sent (source_of parcel.from) parcel.n parcel.packet, record p { to_send = None; net = with_sent parcel.packet p.net }, sh))
 
 abbrev pub net_judged : Pump → Shared → ℕ → List ℕ → Verdict → Note × Pump × Shared
 net_judged p sh n packet (verdict.Pass to) =
@@ -351,11 +360,14 @@ IsMet p sh n packet (Some flow) d =
     (d ≡ (note.Dropped source.Net n cause.TooLong, p, sh))
     ((verdict : Verdict) × IsJudged sh.config sh.book origin.Net flow verdict × (d ≡ net_judged p sh n packet verdict))
 
+-- these packets are left, and one more was received, while that can be counted
+abbrev pub with_arrivals : List Arrival → Net → Net
+with_arrivals arrived net = record net { holds = record net.holds { arrived = arrived }; received = min (net.received + 1) last_count }
+
 -- the network's next packet is received
-abbrev pub IsReceived : Pump → Shared → List (List ℕ) → Note × Pump × Shared → Type 0
+abbrev pub IsReceived : Pump → Shared → List Arrival → Note × Pump × Shared → Type 0
 IsReceived p sh [] d = ⊥
-IsReceived p sh (packet ∷ others) d =
-    IsMet (record p { net = record p.net { arrived = others; received = p.net.received + 1 } }) sh p.net.received packet (flow_of packet) d
+IsReceived p sh (first ∷ others) d = IsMet (record p { net = with_arrivals others p.net }) sh p.net.received first.packet (flow_of first.packet) d
 
 abbrev pub net_popped : Pump → Shared → ℕ → List Parcel → PumpDone
 net_popped p sh i [] = None
@@ -370,7 +382,7 @@ abbrev pub PumpNext : Pump → Shared → PumpTry → Note × Pump × Shared →
 PumpNext p sh PushHeld d = option_map (λ (parcel : Parcel). parcel_pushed p sh parcel (has_room sh.boxes (inbox_of sh.boxes parcel.to))) p.to_push ≡ Some d
 PumpNext p sh SendHeld d = option_map (net_sent p sh) p.to_send ≡ Some d
 PumpNext p sh SendNext d = net_popped p sh (last_of sh.boxes) (box_at sh.boxes (last_of sh.boxes)) ≡ Some d
-PumpNext p sh Receives d = IsReceived p sh p.net.arrived d
+PumpNext p sh Receives d = IsReceived p sh p.net.holds.arrived d
 
 pub record PumpTurn (old : Pump) (box : List Parcel) (sh : Shared) (note : Note) (new : Pump) (after : Shared) : Type 0 where
   pub try : PumpTry

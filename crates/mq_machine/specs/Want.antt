@@ -1,5 +1,5 @@
 -- What a connection wants of the outside next: its state alone decides.
-use Rattle.std.specs.Prelude.{ℕ, List, [], ◌∷◌, Option, Some, None, Bool, nat_le, if◌then◌else◌}
+use Rattle.std.specs.Prelude.{ℕ, List, [], ◌∷◌, Option, Some, None, Bool, true, false, nat_le, if◌then◌else◌}
 use Rattle.mq_addr.specs.declared.range.Flow.{Flow}
 use Rattle.mq_talk.specs.declared.book.Call.{Call}
 use Rattle.mq_talk.specs.declared.book.Call.TheVariants as call
@@ -88,3 +88,14 @@ want_by c (Some why) = ending_want c why c.tunnels
 
 abbrev pub want_of : Conn → Want
 want_of c = want_by c c.ending
+
+-- it waits for its client, or may wait for its port
+abbrev pub may_wait : Want → Bool
+may_wait Nothing = true
+may_wait Say = false
+may_wait (Bind stream goal) = false
+may_wait (Ask call) = false
+may_wait (Judge tunnel n flow) = false
+may_wait (Push parcel) = false
+may_wait (Send tunnel n payload) = true
+may_wait (Over why) = false

@@ -1,8 +1,9 @@
 //! Laws of the machine's definitions, each the contract of a function without a body.
+ghost use Rattle.mq_machine.specs.Lawful.{StaysLawful};
 ghost use Rattle.mq_machine.specs.Laws.{StarvesOnce, BringsOnce, IsToldStep, HasOneSilentTurn, IsSilentOrQuiet, HasOneTurn, HasOneWorkerTurn, IsDoneOnce, IsQuietOrTurn, IsTurnOrQuiet, SettlesNothing};
 
 use mq_capsule::is_read_once;
-use mq_h2::one_read;
+use mq_h2::{is_asked_once, one_read, what_is_told_is_held};
 use mq_head::one_answer;
 use mq_policy::one_decision;
 use mq_target::one_reading;
@@ -67,3 +68,11 @@ pub fn brings_once()
 pub fn starves_once()
     ensures { StarvesOnce }
 {}
+
+/// What holds of each connection whose tunnels are for UDP is kept by each of its steps.
+pub fn stays_lawful()
+    ensures { StaysLawful }
+{
+    is_asked_once();
+    what_is_told_is_held();
+}

@@ -2,5 +2,6 @@ pub mod Calls
 pub mod Streams
 pub mod Links
 pub mod Ports
+pub mod Nets
 pub mod Mails
 pub mod Offices

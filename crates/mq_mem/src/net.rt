@@ -1,14 +1,16 @@
 //! A network in memory, whose world says what arrives and which calls fail.
-ghost use Rattle.std.specs.Prelude.{◌≡◌, ◌≤◌, ◌++◌, ◌∷◌, [], length, true, IfOk, OnOk, OnErr};
-ghost use Rattle.mq_outside.specs.Ports.{PortSends, after_send, past_sent, PortReceives, IsWithin, after_receive, past_received};
-ghost use Rattle.mq_mem.specs.Ports.{Queue as QueueOf, AllShort, told, no_past, new_queue, put_of, after_put, got_of, after_got, GotDatagram, would_receive};
+ghost use Rattle.std.specs.Prelude.{◌≡◌, ◌≤◌, ◌++◌, ◌∷◌, [], length, true, is_some, IfOk, OnOk, OnErr};
+ghost use Rattle.mq_outside.specs.Nets.{NetSends, NetReceives};
+ghost use Rattle.mq_outside.specs.Ports.{after_send, past_sent, IsWithin, after_receive, past_received};
+ghost use Rattle.mq_mem.specs.Nets.{told_net};
+ghost use Rattle.mq_mem.specs.Ports.{Queue as QueueOf, AllShort, no_past, new_queue, put_of, after_put, got_of, after_got, GotDatagram, would_receive};
 
 use crate::queue::Queue;
 use mq_outside::{Net, PortGot, PortPut};
 use mq_wire::{Bytes, NoMemory, Seq};
 use std::marker::Model;
 
-/// A network in memory. It keeps nothing of what it sends.
+/// A network in memory, without hosts: no one answers what it sends, and it keeps nothing of that.
 #[derive(Drop)]
 pub struct MemNet {
     queue: Queue,
@@ -49,6 +51,14 @@ impl MemNet {
         self.queue.fail_next();
     }
 
+    /// Whether it tells what it holds: its room can't be used up, and no call is to fail by its number.
+    #[tactic(auto, using(crate::proofs::Hosts::same_telling))]
+    pub fn tells(&self) -> bool
+        ensures { result ≡ is_some (told_net self.now) }
+    {
+        self.queue.tells()
+    }
+
     /// Whether a receive would now answer something other than `NotNow`.
     pub fn would_recv(&self) -> bool
         ensures { result ≡ would_receive self.now }
@@ -58,15 +68,16 @@ impl MemNet {
 }
 
 impl Net for MemNet {
-    ghost holds = { told };
+    ghost holds = { told_net };
 
     ghost past = { λ n. no_past };
 
     ghost counts = { λ n. n.counts };
 
+    #[tactic(auto, using(crate::proofs::Hosts::no_answer))]
     fn send(&mut self, packet: &[u8]) -> PortPut
         requires { length packet.now ≤ 65535 }
-        ensures sends { PortSends (told self.old) (told self.new) result }
+        ensures sends { NetSends (told_net self.old) (told_net self.new) packet.now result }
         ensures past { no_past ≡ past_sent no_past packet.now result }
         ensures counts { self.new.counts ≡ after_send self.old.counts result }
         ensures answer { result ≡ put_of self.old (length packet.now) }
@@ -78,7 +89,7 @@ impl Net for MemNet {
     fn recv(&mut self, into: &mut [u8]) -> PortGot
         requires { 65535 ≤ length into.old }
         ensures within { IsWithin into.new result }
-        ensures receives { PortReceives (told self.old) (told self.new) into.new result }
+        ensures receives { NetReceives (told_net self.old) (told_net self.new) into.new result }
         ensures past { no_past ≡ past_received no_past into.new result }
         ensures counts { self.new.counts ≡ after_receive self.old.counts result }
         ensures answer { result ≡ got_of self.old }

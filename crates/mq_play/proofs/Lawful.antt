@@ -19,6 +19,7 @@ use Rattle.mq_talk.specs.declared.place.Verdict.{Verdict}
 use Rattle.mq_talk.specs.declared.place.Verdict.TheVariants as verdict
 use Rattle.mq_talk.specs.Mails.{has_room, box_at}
 use Rattle.mq_talk.specs.Packets.{flow_of}
+use Rattle.mq_outside.specs.Nets.{Arrival}
 use Rattle.mq_machine.specs.declared.event.Event.{Event}
 use Rattle.mq_machine.specs.declared.event.Event.TheVariants as event
 use Rattle.mq_machine.specs.declared.setup.Setup.{Setup}
@@ -28,7 +29,7 @@ use Rattle.mq_machine.specs.Want.{Want, Say, Bind, Ask, Judge, Push, Send, Over,
 use Rattle.mq_machine.specs.Done.{Done, done}
 use Rattle.mq_machine.specs.Shared.{Answers, Asks, written, where_full, asked_by, pushing, ports_after, inbox_of}
 use Rattle.mq_machine.specs.Steps.{framed, wrote, finished, failed, starved, received, queued, settled_note}
-use Rattle.mq_machine.specs.Turn.{Try, Act, Frame, Write, Read, Receive, HeldDone, with_conn, over_or, acted, ActNext, OwnNext, TakesNext, WriteNext, ReadNext, PortNext, ReceiveNext, TryNext, frame_done, write_done, received_from, write_failed, read_failed, receive_failed, write_count, most_read, Seat, Offers, Inbox, Of, accepted, replace, with_held, came_to, tunnel_in, popped, has_tunnel, SeatNext, source_of, PumpTry, PushHeld, SendHeld, SendNext, Receives, PumpNext, parcel_pushed, net_sent, net_popped, net_judged, IsMet, IsReceived, last_of, Actor, WorkerOf, ThePump, Turn}
+use Rattle.mq_machine.specs.Turn.{Try, Act, Frame, Write, Read, Receive, HeldDone, with_conn, over_or, acted, ActNext, OwnNext, TakesNext, WriteNext, ReadNext, PortNext, ReceiveNext, TryNext, frame_done, write_done, received_from, write_failed, read_failed, receive_failed, write_count, most_read, Seat, Offers, Inbox, Of, accepted, replace, with_held, came_to, tunnel_in, popped, has_tunnel, SeatNext, source_of, PumpTry, PushHeld, SendHeld, SendNext, Receives, PumpNext, parcel_pushed, net_sent, net_popped, net_judged, IsMet, IsReceived, with_arrivals, last_of, Actor, WorkerOf, ThePump, Turn}
 use Rattle.mq_machine.specs.Silent.{Reached, Heard, SeatStarves, SilentTurn}
 use Rattle.mq_machine.specs.Laws.{IsToldSetup}
 use Rattle.mq_play.specs.Events.{at_held, at_worker, at_link, with_ports, with_held_ports, with_port, offered_to, happen}
@@ -270,7 +271,7 @@ same_pushed p sh parcel true = refl
 same_pushed p sh parcel false = refl
 
 same_sent : (p : Pump) (sh : Shared) (parcel : Parcel) → SameBook sh.book (net_sent p sh parcel)
-same_sent p sh parcel = if_both (SameBook sh.book) p.net.send_fails _ _ refl (if_both (SameBook sh.book) p.net.send_waits _ _ refl refl)
+same_sent p sh parcel = if_both (SameBook sh.book) p.net.holds.send_fails _ _ refl (if_both (SameBook sh.book) p.net.holds.send_waits _ _ refl refl)
 
 same_judged : (p : Pump) (sh : Shared) (n : ℕ) (packet : List ℕ) (v : Verdict) → SameBook sh.book (net_judged p sh n packet v)
 same_judged p sh n packet (verdict.Pass to) = refl
@@ -297,10 +298,10 @@ same_met p sh n packet None d x = subst (SameBook sh.book) (sym x) refl
 same_met p sh n packet (Some flow) d x =
     same_match (nat_lt p.mtu (length packet)) sh.book _ _ d (λ e. subst (SameBook sh.book) (sym e) refl) (λ y. same_as sh.book d (net_judged p sh n packet y.0) y.2 (same_judged p sh n packet y.0)) x
 
-same_received : (p : Pump) (sh : Shared) (arrived : List (List ℕ)) (d : Note × Pump × Shared) → IsReceived p sh arrived d → SameBook sh.book d
+same_received : (p : Pump) (sh : Shared) (arrived : List Arrival) (d : Note × Pump × Shared) → IsReceived p sh arrived d → SameBook sh.book d
 same_received p sh [] d x = absurd x
-same_received p sh (packet ∷ others) d x =
-    same_met (record p { net = record p.net { arrived = others; received = p.net.received + 1 } }) sh p.net.received packet (flow_of packet) d x
+same_received p sh (first ∷ others) d x =
+    same_met (record p { net = with_arrivals others p.net }) sh p.net.received first.packet (flow_of first.packet) d x
 
 same_pump : (p : Pump) (sh : Shared) (try : PumpTry) (d : Note × Pump × Shared) → PumpNext p sh try d → SameBook sh.book d
 same_pump p sh PushHeld d x =
@@ -308,7 +309,7 @@ same_pump p sh PushHeld d x =
     subst (KeepsBook sh.book) x (same_option sh.book f p.to_push (λ parcel. same_pushed p sh parcel (has_room sh.boxes (inbox_of sh.boxes parcel.to))))
 same_pump p sh SendHeld d x = subst (KeepsBook sh.book) x (same_option sh.book (net_sent p sh) p.to_send (λ parcel. same_sent p sh parcel))
 same_pump p sh SendNext d x = subst (KeepsBook sh.book) x (same_popped p sh (last_of sh.boxes) (box_at sh.boxes (last_of sh.boxes)))
-same_pump p sh Receives d x = same_received p sh p.net.arrived d x
+same_pump p sh Receives d x = same_received p sh p.net.holds.arrived d x
 
 -- ---- what actors do
 

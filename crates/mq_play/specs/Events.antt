@@ -4,10 +4,11 @@ use Rattle.mq_talk.specs.declared.book.Call.{Call}
 use Rattle.mq_talk.specs.declared.book.Call.TheVariants as call
 use Rattle.mq_talk.specs.declared.book.Entry.{Entry}
 use Rattle.mq_talk.specs.declared.goal.Goal.TheVariants as goal
+use Rattle.mq_outside.specs.Nets.{NetHolds, by_itself}
 use Rattle.mq_machine.specs.declared.event.Event.{Event}
 use Rattle.mq_machine.specs.declared.event.Event.TheVariants as event
 use Rattle.mq_machine.specs.declared.setup.Setup.{Setup}
-use Rattle.mq_machine.specs.State.{Link, new_link, Port, Net, new_net, Offer, Held, Worker, new_worker, with_offer, Told, State}
+use Rattle.mq_machine.specs.State.{Link, new_link, Port, new_net, Offer, Held, Worker, new_worker, with_offer, Told, State}
 use Rattle.mq_machine.specs.Shared.{at_port}
 use Rattle.mq_play.specs.declared.plan.Plan.{Plan}
 
@@ -23,7 +24,7 @@ abbrev pub state_of : Plan → State
 state_of plan = record {
   links = [];
   workers = new_workers plan.setup plan.workers;
-  pump = record { mtu = plan.setup.mtu; to_push = None; to_send = None; net = new_net };
+  pump = record { mtu = plan.setup.mtu; to_push = None; to_send = None; net = new_net plan.hosts };
   shared = record { config = plan.book; book = []; boxes = replicate (plan.workers + 1) []; orders = record { bind = false } };
 }
 
@@ -52,8 +53,8 @@ with_held_ports tunnel change w = record w { conns = map (with_ports tunnel chan
 abbrev pub with_port : ℕ → (Port → Port) → State → State
 with_port tunnel change s = record s { workers = map (with_held_ports tunnel change) s.workers }
 
-abbrev pub with_net : (Net → Net) → State → State
-with_net change s = record s { pump = record s.pump { net = change s.pump.net } }
+abbrev pub with_net : (NetHolds → NetHolds) → State → State
+with_net change s = record s { pump = record s.pump { net = record s.pump.net { holds = change s.pump.net.holds } } }
 
 -- a new link is offered
 abbrev pub offered_to : ℕ → ℕ → List Worker → List Worker
@@ -80,8 +81,8 @@ happen s (event.FailWrite conn) = at_link conn (λ (l : Link). record l { write_
 happen s (event.Datagram tunnel bytes) = with_port tunnel (λ (p : Port). record p { arrived = p.arrived ++ bytes ∷ [] }) s
 happen s (event.FailPort tunnel) = with_port tunnel (λ (p : Port). record p { send_fails = true }) s
 happen s event.FailBind = record s { shared = record s.shared { orders = record { bind = true } } }
-happen s event.FailNet = with_net (λ (n : Net). record n { send_fails = true }) s
-happen s (event.Packet count bytes) = with_net (λ (n : Net). record n { arrived = n.arrived ++ replicate count bytes }) s
+happen s event.FailNet = with_net (λ (h : NetHolds). record h { send_fails = true }) s
+happen s (event.Packet count bytes) = with_net (λ (h : NetHolds). record h { arrived = h.arrived ++ replicate count (by_itself bytes) }) s
 happen s (event.Step actor) = s
 
 -- ---- what never was

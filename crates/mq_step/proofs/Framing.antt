@@ -8,14 +8,13 @@ use Rattle.mq_talk.specs.Mails.{IsTold}
 use Rattle.mq_talk.specs.Offices.{Seen}
 use Rattle.mq_machine.specs.declared.setup.Setup.{Setup}
 use Rattle.mq_machine.specs.State.{Conn, Link, Held, Orders, Shared}
-use Rattle.mq_machine.specs.Want.{Want, Nothing, Say, Bind, Ask, Judge, Push, Send, Over, Said, want_of}
+use Rattle.mq_machine.specs.Want.{Want, Nothing, Say, Bind, Ask, Judge, Push, Send, Over, Said, want_of, may_wait}
 use Rattle.mq_machine.specs.Steps.{framed, starved}
 use Rattle.mq_machine.specs.Silent.{Reached, Leaves}
 use Rattle.mq_machine.specs.Turn.{Try, Act, Frame, with_conn}
 use Rattle.mq_machine.specs.Acting.{Outside, Rose}
 use Rattle.mq_conn.specs.declared.conn.Conn.{Conn as Core}
 use Rattle.mq_conn.specs.Conns.{IsConn}
-use Rattle.mq_machine.specs.Lawful.{waits}
 use Rattle.mq_held.specs.declared.held.Held.{Held as HeldBy}
 use Rattle.mq_held.specs.declared.held.PortSeat.{PortSeat}
 use Rattle.mq_held.specs.Answers.{KeepsPorts}
@@ -35,7 +34,7 @@ use Rattle.mq_step.proofs.Trying.{first_true}
 
 -- ---- a connection that waits for its client, or for its port
 
-waits_bound : {Q : Type 0} (most : Q → ℕ) (table : Slab Q) (seats : List PortSeat) (w : Want) (bound : Option ℕ) → waits w ≡ true → IsBound most table seats w bound → bound ≡ None
+waits_bound : {Q : Type 0} (most : Q → ℕ) (table : Slab Q) (seats : List PortSeat) (w : Want) (bound : Option ℕ) → may_wait w ≡ true → IsBound most table seats w bound → bound ≡ None
 waits_bound most table seats Nothing bound wait is = is
 waits_bound most table seats Say bound wait is = absurd cc
 waits_bound most table seats (Bind stream goal) bound wait is = absurd cc
@@ -45,10 +44,10 @@ waits_bound most table seats (Push parcel) bound wait is = absurd cc
 waits_bound most table seats (Send tunnel n payload) bound wait is = is
 waits_bound most table seats (Over why) bound wait is = absurd cc
 
-pub still_bound : {L Q : Type 0} (most : Q → ℕ) (table : Slab Q) (h : HeldBy L) (s : Held) → IsHeld most table h s → waits (want_of s.conn) ≡ true → h.bound ≡ None
+pub still_bound : {L Q : Type 0} (most : Q → ℕ) (table : Slab Q) (h : HeldBy L) (s : Held) → IsHeld most table h s → may_wait (want_of s.conn) ≡ true → h.bound ≡ None
 still_bound most table h s held wait = waits_bound most table h.ports.items (want_of s.conn) h.bound wait held.bound
 
-pub still_opens : (c : Core) (s : Conn) → IsConn c s → waits (want_of s) ≡ true → NoOpens s.due
+pub still_opens : (c : Core) (s : Conn) → IsConn c s → may_wait (want_of s) ≡ true → NoOpens s.due
 still_opens c s is wait = none_opens c s is (λ conn id actor goal want. waits_unopened (want_of s) wait conn id actor goal want)
 
 -- ---- what is left, and for which state it stands
@@ -151,7 +150,7 @@ frame_done setup o n seen boxes orders s said t is same =
       then = refl;
     }
 
-pub frame_stands : {L Q : Type 0} (most : Q → ℕ) (table : Slab Q) (h g : HeldBy L) (o : Outside) (s : Held) (said : Note) (t : Conn) → IsHeld most table h s → waits (want_of s.conn) ≡ true
+pub frame_stands : {L Q : Type 0} (most : Q → ℕ) (table : Slab Q) (h g : HeldBy L) (o : Outside) (s : Held) (said : Note) (t : Conn) → IsHeld most table h s → may_wait (want_of s.conn) ≡ true
     → framed s.conn ≡ Some (said, t) → g.ports.items ≡ h.ports.items → g.number ≡ h.number → g.bound ≡ h.bound → IsConn g.conn t → IsHeld most table g (whole o idle s t (filled o idle s).link)
 frame_stands most table h g o s said t held wait is seats number bound conn =
     let go = framed_goes_on s.conn t said is in

@@ -11,13 +11,12 @@ use Rattle.mq_talk.specs.Mails.{IsTold}
 use Rattle.mq_talk.specs.Offices.{Seen}
 use Rattle.mq_machine.specs.declared.setup.Setup.{Setup}
 use Rattle.mq_machine.specs.State.{Conn, Tunnel, Link, Held}
-use Rattle.mq_machine.specs.Want.{want_of}
+use Rattle.mq_machine.specs.Want.{want_of, may_wait}
 use Rattle.mq_machine.specs.Steps.{can_read, starved}
 use Rattle.mq_machine.specs.Silent.{Leaves}
 use Rattle.mq_machine.specs.Turn.{Read, can_try, can_take, ReadNext, most_read}
 use Rattle.mq_machine.specs.Acting.{Outside, Binder}
 use Rattle.mq_conn.specs.Conns.{IsConn}
-use Rattle.mq_machine.specs.Lawful.{waits}
 use Rattle.mq_held.specs.declared.held.Held.{Held as HeldBy}
 use Rattle.mq_held.specs.declared.went.Went.TheVariants as went
 use Rattle.mq_held.specs.Links.{Calls, calls_of, ReadGives, ReadDoes, ReadWaits, FailsRead}
@@ -113,7 +112,7 @@ fails_read (Some l) after fails = let P : Option Link → Type 0 = λ a. IsTold 
 
 module _ {L Q : Type 0} (link : L → Option Link) (past : L → LinkPast) (counts : L → LinkCounts) (most : Q → ℕ) (holds : Q → Option PortHolds) (port_counts : Q → PortCounts) (binds binds_after : Binder) (table after : Slab Q)
     (old new fin : HeldBy L) (o n : Outside) (s : Held) where
-  pub read_fails_gives : (setup : Setup) (seen seen_after : Seen) (r : Result Stepped NoMemory) → IsHeld most table old s → waits (want_of s.conn) ≡ true
+  pub read_fails_gives : (setup : Setup) (seen seen_after : Seen) (r : Result Stepped NoMemory) → IsHeld most table old s → may_wait (want_of s.conn) ≡ true
       → Sees link counts holds port_counts binds table old o → Sees link counts holds port_counts binds_after after fin n
       → new ≡ record old { conn = new.conn; link = new.link } → fin ≡ record new { conn = fin.conn; ports = fin.ports; bound = fin.bound }
       → ReadGives setup (calls_of link past counts old.link new.link) (IsConn new.conn) s.conn (Ok went.Failed)

@@ -15,12 +15,11 @@ use Rattle.mq_talk.specs.Mails.{IsTold}
 use Rattle.mq_talk.specs.Offices.{Seen}
 use Rattle.mq_machine.specs.declared.setup.Setup.{Setup}
 use Rattle.mq_machine.specs.State.{Conn, Tunnel, Link, new_link, Held, owed}
-use Rattle.mq_machine.specs.Want.{want_of}
+use Rattle.mq_machine.specs.Want.{want_of, may_wait}
 use Rattle.mq_machine.specs.Steps.{failed, starved, wrote}
 use Rattle.mq_machine.specs.Turn.{Write, Read, can_try, has_room_for, WriteNext}
 use Rattle.mq_machine.specs.Acting.{Outside, Rose, Binder}
 use Rattle.mq_conn.specs.Conns.{IsConn}
-use Rattle.mq_machine.specs.Lawful.{waits}
 use Rattle.mq_held.specs.declared.held.Held.{Held as HeldBy}
 use Rattle.mq_held.specs.declared.held.PortSeat.{PortSeat}
 use Rattle.mq_held.specs.declared.went.Went.TheVariants as went
@@ -55,12 +54,12 @@ gives_err setup tries vain o n seen seen_after stands_for s (Err refused) is giv
 pub record Moves {L Q : Type 0} (link : L → Option Link) (past : L → LinkPast) (counts : L → LinkCounts) (most : Q → ℕ) (holds : Q → Option PortHolds) (port_counts : Q → PortCounts)
     (binds : Binder) (table : Slab Q) (old new : HeldBy L) (o n : Outside) (s : Held) : Type 0 where
   pub held : IsHeld most table old s
-  pub wait : waits (want_of s.conn) ≡ true
+  pub wait : may_wait (want_of s.conn) ≡ true
   pub rest : new ≡ record old { conn = new.conn; link = new.link }
   pub sees : Sees link counts holds port_counts binds table old o
   pub sees_after : Sees link counts holds port_counts binds table new n
 
-pub moved_held : {L Q : Type 0} (most : Q → ℕ) (table : Slab Q) (old new : HeldBy L) (s : Held) → IsHeld most table old s → waits (want_of s.conn) ≡ true
+pub moved_held : {L Q : Type 0} (most : Q → ℕ) (table : Slab Q) (old new : HeldBy L) (s : Held) → IsHeld most table old s → may_wait (want_of s.conn) ≡ true
     → new ≡ record old { conn = new.conn; link = new.link } → IsConn new.conn s.conn → IsHeld most table new s
 moved_held most table old new s held wait rest conn =
     let A : List PortSeat → Type 0 = λ xs. ArePorts most table xs s.ports in
@@ -69,7 +68,7 @@ moved_held most table old new s held wait rest conn =
     (ap (λ h. h.bound) rest ∙ still_bound most table old s held wait)
 
 -- the connection whose link failed, on any link
-pub fallen_held : {L Q : Type 0} (most : Q → ℕ) (table : Slab Q) (old new : HeldBy L) (s : Held) (link : Link) → IsHeld most table old s → waits (want_of s.conn) ≡ true
+pub fallen_held : {L Q : Type 0} (most : Q → ℕ) (table : Slab Q) (old new : HeldBy L) (s : Held) (link : Link) → IsHeld most table old s → may_wait (want_of s.conn) ≡ true
     → new ≡ record old { conn = new.conn; link = new.link } → IsConn new.conn (failed s.conn) → IsHeld most table new (fallen s link)
 fallen_held most table old new s link held wait rest conn =
     let A : List PortSeat → Type 0 = λ xs. ArePorts most table xs s.ports in
@@ -78,7 +77,7 @@ fallen_held most table old new s link held wait rest conn =
     (served_ending s.conn.ending end.Link s.conn.tunnels s.ports held.served) no_opens_nil
     (ap (λ h. h.bound) rest ∙ still_bound most table old s held wait)
 
-pub moved_known : {L Q : Type 0} (most : Q → ℕ) (table : Slab Q) (old new : HeldBy L) (s : Held) (seen : Seen) (actor : ℕ) → IsHeld most table old s → IsKnown seen actor s → waits (want_of s.conn) ≡ true
+pub moved_known : {L Q : Type 0} (most : Q → ℕ) (table : Slab Q) (old new : HeldBy L) (s : Held) (seen : Seen) (actor : ℕ) → IsHeld most table old s → IsKnown seen actor s → may_wait (want_of s.conn) ≡ true
     → new ≡ record old { conn = new.conn; link = new.link } → IsConn new.conn (failed s.conn) → (x : Held) × IsHeld most table new x × IsKnown seen actor x
 moved_known most table old new s seen actor held known wait rest conn =
     (fallen s s.link, fallen_held most table old new s s.link held wait rest conn, record { worker = known.worker; actor_is = known.actor_is; tunnels = known.tunnels })
@@ -202,7 +201,7 @@ module _ {L Q : Type 0} (link : L → Option Link) (past : L → LinkPast) (coun
       rose_risen (o.link_counts s.conn.number).faults (n.link_counts s.conn.number).faults
       (ap (λ (x : LinkCounts). x.faults) (b ∙ is) ∙ ap (λ (x : LinkCounts). risen x.faults) (sym a))
 
-  pub write_fails_gives : (setup : Setup) (seen seen_after : Seen) (r : Result Stepped NoMemory) → IsHeld most table old s → waits (want_of s.conn) ≡ true
+  pub write_fails_gives : (setup : Setup) (seen seen_after : Seen) (r : Result Stepped NoMemory) → IsHeld most table old s → may_wait (want_of s.conn) ≡ true
       → Sees link counts holds port_counts binds table old o → Sees link counts holds port_counts binds_after after fin n
       → new ≡ record old { conn = new.conn; link = new.link } → fin ≡ record new { conn = fin.conn; ports = fin.ports; bound = fin.bound }
       → WriteGives (calls_of link past counts old.link new.link) (IsConn new.conn) s.conn (Ok went.Failed)

@@ -13,12 +13,11 @@ use Rattle.mq_talk.specs.declared.goal.Goal.{Goal}
 use Rattle.mq_talk.specs.declared.note.End.{End}
 use Rattle.mq_talk.specs.Mails.{IsTold}
 use Rattle.mq_machine.specs.State.{Conn, Tunnel, Link, Held, Port, tunnel_of}
-use Rattle.mq_machine.specs.Want.{Want, Nothing, Say, Bind, Ask, Judge, Push, Send, Over, want_of, want_by, ending_want}
+use Rattle.mq_machine.specs.Want.{Want, Nothing, Say, Bind, Ask, Judge, Push, Send, Over, want_of, want_by, ending_want, may_wait}
 use Rattle.mq_machine.specs.Shared.{port_of}
 use Rattle.mq_machine.specs.Turn.{Try, Receive, can_try, can_receive_on}
 use Rattle.mq_machine.specs.Acting.{Outside, Rose, holding}
 use Rattle.mq_conn.specs.Conns.{IsConn}
-use Rattle.mq_machine.specs.Lawful.{waits}
 use Rattle.mq_conn.specs.declared.conn.Conn.{Conn as Core}
 use Rattle.mq_held.specs.Ready.{may_give}
 use Rattle.mq_held.specs.declared.held.Held.{Held as HeldBy}
@@ -47,14 +46,14 @@ same_seat xs place a b x y = let e : Some a ≡ Some b = sym x ∙ y in cc
 -- ---- a connection that waits
 
 -- it opens nothing
-waits_opens_not : (w : Want) → waits w ≡ true → (conn id actor : ℕ) (goal : Goal) → w ≡ Ask (call.Open conn id actor goal) → ⊥
-waits_opens_not w wait conn id actor goal is = let e : true ≡ false = sym wait ∙ ap waits is in cc
+waits_opens_not : (w : Want) → may_wait w ≡ true → (conn id actor : ℕ) (goal : Goal) → w ≡ Ask (call.Open conn id actor goal) → ⊥
+waits_opens_not w wait conn id actor goal is = let e : true ≡ false = sym wait ∙ ap may_wait is in cc
 
-pub waits_opens : (c : Core) (s : Conn) → IsConn c s → waits (want_of s) ≡ true → NoOpens s.due
+pub waits_opens : (c : Core) (s : Conn) → IsConn c s → may_wait (want_of s) ≡ true → NoOpens s.due
 waits_opens c s is wait = none_opens c s is (waits_opens_not (want_of s) wait)
 
 -- so no port is bound
-pub waits_bound : {Q : Type 0} (most : Q → ℕ) (table : Slab Q) (seats : List PortSeat) (w : Want) (bound : Option ℕ) → waits w ≡ true → IsBound most table seats w bound → bound ≡ None
+pub waits_bound : {Q : Type 0} (most : Q → ℕ) (table : Slab Q) (seats : List PortSeat) (w : Want) (bound : Option ℕ) → may_wait w ≡ true → IsBound most table seats w bound → bound ≡ None
 waits_bound most table seats Nothing bound wait is = is
 waits_bound most table seats Say bound wait is = absurd cc
 waits_bound most table seats (Bind id goal) bound wait is = absurd cc
@@ -65,15 +64,15 @@ waits_bound most table seats (Send tunnel n payload) bound wait is = is
 waits_bound most table seats (Over why) bound wait is = absurd cc
 
 -- with a port it isn't ending
-ending_by : (s : Conn) (why : End) (ts : List Tunnel) → s.tunnels ≡ ts → waits (ending_want s why ts) ≡ true → s.tunnels ≡ []
+ending_by : (s : Conn) (why : End) (ts : List Tunnel) → s.tunnels ≡ ts → may_wait (ending_want s why ts) ≡ true → s.tunnels ≡ []
 ending_by s why [] is wait = is
 ending_by s why (t ∷ ts) is wait = absurd cc
 
-pub alive_by : (s : Conn) (e : Option End) → s.ending ≡ e → waits (want_by s e) ≡ true → (s.ending ≡ None) ⊎ (s.tunnels ≡ [])
+pub alive_by : (s : Conn) (e : Option End) → s.ending ≡ e → may_wait (want_by s e) ≡ true → (s.ending ≡ None) ⊎ (s.tunnels ≡ [])
 alive_by s None is wait = inl is
 alive_by s (Some why) is wait = inr (ending_by s why s.tunnels refl wait)
 
-pub alive_with : (s : Held) (place : ℕ) (p : Port) → AreServed s.conn.ending s.conn.tunnels s.ports → slice_get s.ports place ≡ Some p → waits (want_of s.conn) ≡ true → s.conn.ending ≡ None
+pub alive_with : (s : Held) (place : ℕ) (p : Port) → AreServed s.conn.ending s.conn.tunnels s.ports → slice_get s.ports place ≡ Some p → may_wait (want_of s.conn) ≡ true → s.conn.ending ≡ None
 alive_with s place p served at wait = by_case (alive_by s.conn s.conn.ending refl wait) where
   by_case : (s.conn.ending ≡ None) ⊎ (s.conn.tunnels ≡ []) → s.conn.ending ≡ None
   by_case (inl alive) = alive
@@ -86,7 +85,7 @@ alive_with s place p served at wait = by_case (alive_by s.conn s.conn.ending ref
 -- the seat has a port, and that a live tunnel
 pub record Live {L Q : Type 0} (most : Q → ℕ) (holds : Q → Option PortHolds) (counts : Q → PortCounts) (table : Slab Q) (h : HeldBy L) (o : Outside) (s : Held) (seat : PortSeat) : Type 0 where
   pub held : IsHeld most table h s
-  pub wait : waits (want_of s.conn) ≡ true
+  pub wait : may_wait (want_of s.conn) ≡ true
   pub place : ℕ
   pub here : slice_get h.ports.items place ≡ Some seat
   pub t : Tunnel
@@ -100,7 +99,7 @@ pub record Live {L Q : Type 0} (most : Q → ℕ) (holds : Q → Option PortHold
   pub sees : (o.port seat.tunnel ≡ holds is.port) × (o.port_counts seat.tunnel ≡ counts is.port)
 
 pub live : {L Q : Type 0} (most : Q → ℕ) (holds : Q → Option PortHolds) (counts : Q → PortCounts) (table : Slab Q) (h : HeldBy L) (o : Outside) (s : Held) (seat : PortSeat) (place : ℕ)
-    → IsHeld most table h s → waits (want_of s.conn) ≡ true → SeesPorts holds counts table o h.ports.items → slice_get h.ports.items place ≡ Some seat
+    → IsHeld most table h s → may_wait (want_of s.conn) ≡ true → SeesPorts holds counts table o h.ports.items → slice_get h.ports.items place ≡ Some seat
     → Live most holds counts table h o s seat
 live {L} {Q} most holds counts table h o s seat place held wait so at =
     let p = seat_port most table h.ports.items s.ports held.ports place seat at in

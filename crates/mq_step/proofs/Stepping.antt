@@ -17,12 +17,11 @@ use Rattle.mq_talk.specs.declared.place.Parcel.{Parcel}
 use Rattle.mq_talk.specs.Offices.{Seen}
 use Rattle.mq_machine.specs.declared.setup.Setup.{Setup}
 use Rattle.mq_machine.specs.State.{Conn, Link, Held, Port, Orders}
-use Rattle.mq_machine.specs.Want.{Want, Nothing, Say, Bind, Ask, Judge, Push, Send, Over, want_of}
+use Rattle.mq_machine.specs.Want.{Want, Nothing, Say, Bind, Ask, Judge, Push, Send, Over, want_of, may_wait}
 use Rattle.mq_machine.specs.Steps.{framed, starved}
 use Rattle.mq_machine.specs.Turn.{Try, Act, Frame, Write, Read, can_do, tries_of}
 use Rattle.mq_machine.specs.Acting.{Outside, Rose, WantWaited, Binder}
 use Rattle.mq_conn.specs.Conns.{IsConn}
-use Rattle.mq_machine.specs.Lawful.{waits}
 use Rattle.mq_held.specs.declared.held.Held.{Held as HeldBy}
 use Rattle.mq_held.specs.declared.held.PortSeat.{PortSeat}
 use Rattle.mq_held.specs.Frames.{FrameGives}
@@ -84,7 +83,7 @@ frame_waits setup o n seen seen_after stands_for s r none gives =
 
 -- ---- the want
 
-pub vain_waits : (ports : List Port) (w : Want) → can_do ports w ≡ false → waits w ≡ true
+pub vain_waits : (ports : List Port) (w : Want) → can_do ports w ≡ false → may_wait w ≡ true
 vain_waits ports Nothing is = refl
 vain_waits ports Say is = absurd cc
 vain_waits ports (Bind stream goal) is = absurd cc
@@ -94,7 +93,7 @@ vain_waits ports (Push parcel) is = absurd cc
 vain_waits ports (Send tunnel k payload) is = refl
 vain_waits ports (Over why) is = absurd cc
 
-pub want_waits : (o n : Outside) (s : Held) (seen seen_after : Seen) → WantWaits o n seen seen_after s → waits (want_of s.conn) ≡ true
+pub want_waits : (o n : Outside) (s : Held) (seen seen_after : Seen) → WantWaits o n seen seen_after s → may_wait (want_of s.conn) ≡ true
 want_waits o n s seen seen_after w = vain_waits (ported o idle s).ports (want_of s.conn) (w.cannot idle (λ tunnel. (refl, refl)))
 
 -- ---- what the outside tells once a want was in vain

@@ -6,9 +6,8 @@ use Rattle.mq_outside.specs.Counts.{PortCounts}
 use Rattle.mq_outside.specs.Ports.{PortHolds}
 use Rattle.mq_talk.specs.Offices.{Seen}
 use Rattle.mq_machine.specs.State.{Held}
-use Rattle.mq_machine.specs.Want.{want_of}
+use Rattle.mq_machine.specs.Want.{want_of, may_wait}
 use Rattle.mq_machine.specs.Acting.{Outside, Binder}
-use Rattle.mq_machine.specs.Lawful.{waits}
 use Rattle.mq_held.specs.declared.held.Held.{Held as HeldBy}
 use Rattle.mq_held.specs.declared.held.PortSeat.{PortSeat}
 use Rattle.mq_step.specs.declared.stepped.Stepped.{Stepped}
@@ -24,7 +23,7 @@ use Rattle.mq_step.proofs.Stepping.{silent, want_waits}
 
 -- it stands for each state whose want waits and for which it stood
 abbrev pub Still : {L Q : Type 0} → (Q → ℕ) → Slab Q → Slab Q → HeldBy L → HeldBy L → Type 0
-Still {L} {Q} most table after old new = (s : Held) → IsHeld most table old s → waits (want_of s.conn) ≡ true → IsHeld most after new s
+Still {L} {Q} most table after old new = (s : Held) → IsHeld most table old s → may_wait (want_of s.conn) ≡ true → IsHeld most after new s
 
 -- where that holds of a call in vain, and of the one behind it
 pub still_from : {L Q : Type 0} (most : Q → ℕ) (table after : Slab Q) (old mid new : HeldBy L) (r : Result Stepped NoMemory) → Still most table table old mid
@@ -62,7 +61,7 @@ module _ {L Q : Type 0} (most : Q → ℕ) (holds : Q → Option PortHolds) (cou
   -- a want in vain waits, and changes nothing
   pub quiet_stands : IsHeld most table old s → new.ports.items ≡ old.ports.items
       → Acts most holds counts binds binds_after table after old new seen seen_after s (Ok Quiet)
-      → IsHeld most after new s × (waits (want_of s.conn) ≡ true)
+      → IsHeld most after new s × (may_wait (want_of s.conn) ≡ true)
   quiet_stands held stays acts =
       let gives = seen_acts (Ok Quiet) held stays acts in (
         gives.1,
@@ -86,7 +85,7 @@ fallen_still {L} {Q} most holds counts binds binds_after table after old new see
 
 -- a want in vain, and then what is done behind it
 pub still_then : {L Q : Type 0} (most : Q → ℕ) (table between after : Slab Q) (old mid new : HeldBy L) (r : Result Stepped NoMemory)
-    → ((s : Held) → IsHeld most table old s → IsHeld most between mid s × (waits (want_of s.conn) ≡ true))
+    → ((s : Held) → IsHeld most table old s → IsHeld most between mid s × (may_wait (want_of s.conn) ≡ true))
     → IfOk r (λ stepped. stepped ≡ Quiet → Still most between after mid new)
     → IfOk r (λ stepped. stepped ≡ Quiet → (s : Held) → IsHeld most table old s → IsHeld most after new s)
 still_then most table between after old mid new (Ok stepped) quiet still = λ is s held. let stood = quiet s held in still is s stood.0 stood.1

@@ -13,12 +13,12 @@ use Rattle.mq_machine.specs.declared.setup.Setup.{Setup}
 use Rattle.mq_machine.proofs.Settling.{settled_rests}
 use Rattle.mq_machine.specs.Settle.{passing, spending}
 use Rattle.mq_machine.specs.State.{Conn, Tunnel, Stream, owed}
-use Rattle.mq_machine.specs.Want.{Want, Nothing, Say, Bind, Ask, Judge, Push, Send, Over, want_of, want_by, due_want}
+use Rattle.mq_machine.specs.Want.{Want, Nothing, Say, Bind, Ask, Judge, Push, Send, Over, want_of, want_by, due_want, may_wait}
 use Rattle.mq_machine.specs.Steps.{is_nothing, is_ending, can_go_on, can_read, most_owed, finished}
 use Rattle.mq_machine.specs.Reading.{TookNext, StreamEvent, Request, Malformed, Content, Reset, ConnectionError, Leads, Refused, EventAsks, EventsAsk, ContentAsks, on_stream, mark_of, goal_act, ended_acts, error_acts, reset_acts, stream_of}
 use Rattle.mq_conn.specs.declared.conn.Conn.{Conn as Core}
 use Rattle.mq_conn.specs.Conns.{IsConn}
-use Rattle.mq_machine.specs.Lawful.{IsUdp, waits}
+use Rattle.mq_machine.specs.Lawful.{IsUdp}
 use Rattle.mq_step.proofs.Keeping.{Kept, no_open, no_opens_cons, no_opens_nil, nothing_due, finished_keeps}
 use Rattle.mq_step.proofs.Cores.{IsUdpWant, udp_want, none_opens, open_alive, go_on_opens}
 
@@ -190,7 +190,7 @@ pub finished_alone : (c : Core) (s : Conn) (inside : Bool) → IsConn c s → ca
 finished_alone c s inside is can = finished_keeps s inside (go_on_opens c s is (can_go s can))
 
 -- one that waits for its client or its port opens nothing
-pub waits_unopened : (w : Want) → waits w ≡ true → (conn id actor : ℕ) (goal : Goal) → w ≡ Ask (call.Open conn id actor goal) → ⊥
+pub waits_unopened : (w : Want) → may_wait w ≡ true → (conn id actor : ℕ) (goal : Goal) → w ≡ Ask (call.Open conn id actor goal) → ⊥
 waits_unopened Nothing is conn id actor g e = cc
 waits_unopened Say is conn id actor g e = cc
 waits_unopened (Bind on h) is conn id actor g e = cc

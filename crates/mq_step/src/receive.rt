@@ -5,8 +5,7 @@ ghost use Rattle.mq_talk.specs.declared.note.Note.{Note as Said};
 ghost use Rattle.mq_machine.specs.Acting.{Outside, binder};
 ghost use Rattle.mq_machine.specs.State as machine;
 ghost use Rattle.mq_machine.specs.Turn.{Receive};
-ghost use Rattle.mq_machine.specs.Want.{want_of};
-ghost use Rattle.mq_machine.specs.Lawful.{waits};
+ghost use Rattle.mq_machine.specs.Want.{want_of, may_wait};
 ghost use Rattle.mq_ports.specs.Tables.{IsBalanced};
 ghost use Rattle.mq_held.specs.declared.held.PortSeat.{PortSeat};
 ghost use Rattle.mq_step.specs.Rooms.{HasRooms};
@@ -36,11 +35,11 @@ fn receive_at<L: WriteReady, P: Ports, O: Office>(
 ) -> Result<Stepped, NoMemory>
 where
     P::P: ReceiveReady,
-    requires known { (s : machine.Held) × IsHeld P.P.most table.old.table held.old s × IsKnown (O.seen office.old) (O.seen office.old).actor s × (waits (want_of s.conn) ≡ true) }
+    requires known { (s : machine.Held) × IsHeld P.P.most table.old.table held.old s × IsKnown (O.seen office.old) (O.seen office.old).actor s × (may_wait (want_of s.conn) ≡ true) }
     requires rooms { HasRooms rooms.old }
     ensures gives { (o n : Outside) → Sees L.holds L.counts P.P.holds P.P.counts (binder P.holds P.faults table.old.ports) table.old.table held.old o
         → Sees L.holds L.counts P.P.holds P.P.counts (binder P.holds P.faults table.new.ports) table.new.table held.new n
-        → (s : machine.Held) → IsHeld P.P.most table.old.table held.old s → waits (want_of s.conn) ≡ true
+        → (s : machine.Held) → IsHeld P.P.most table.old.table held.old s → may_wait (want_of s.conn) ≡ true
         → (setup : Setup) (seat : PortSeat) → slice_get held.old.ports.items place ≡ Some seat
         → Gives setup (receive_alone seat.tunnel) (ReceivesWait seat.tunnel) o n (O.seen office.old) (O.seen office.new) (IsHeld P.P.most table.new.table held.new) s result }
     ensures passed { IfOk result (λ stepped. stepped ≡ Stepped.Quiet → (seat : PortSeat) → slice_get held.old.ports.items place ≡ Some seat
@@ -48,7 +47,7 @@ where
     ensures rest { held.new ≡ record held.old { conn = held.new.conn; ports = held.new.ports; bound = held.new.bound } }
     ensures rooms { HasRooms rooms.new }
     ensures stays { IfOk result (λ stepped. stepped ≡ Stepped.Quiet → held.new.ports.items ≡ held.old.ports.items) }
-    ensures still { IfOk result (λ stepped. stepped ≡ Stepped.Quiet → (s : machine.Held) → IsHeld P.P.most table.old.table held.old s → waits (want_of s.conn) ≡ true → IsHeld P.P.most table.new.table held.new s) }
+    ensures still { IfOk result (λ stepped. stepped ≡ Stepped.Quiet → (s : machine.Held) → IsHeld P.P.most table.old.table held.old s → may_wait (want_of s.conn) ≡ true → IsHeld P.P.most table.new.table held.new s) }
     ensures apart { SeatsApart held.new.ports.items }
     ensures ends { IfOk result (λ stepped. (said : Said) → stepped ≡ Stepped.Ended said → held.new.ports.items ≡ held.old.ports.items) }
     ensures calm { IfOk result (λ stepped. stepped ≡ Stepped.Quiet → (O.seen office.new ≡ O.seen office.old) × (binder P.holds P.faults table.new.ports ≡ binder P.holds P.faults table.old.ports)) }
@@ -79,16 +78,16 @@ pub fn receive<L: WriteReady, P: Ports, O: Office>(
 ) -> Result<Stepped, NoMemory>
 where
     P::P: ReceiveReady,
-    requires known { (s : machine.Held) × IsHeld P.P.most table.old.table held.old s × IsKnown (O.seen office.old) (O.seen office.old).actor s × (waits (want_of s.conn) ≡ true) }
+    requires known { (s : machine.Held) × IsHeld P.P.most table.old.table held.old s × IsKnown (O.seen office.old) (O.seen office.old).actor s × (may_wait (want_of s.conn) ≡ true) }
     requires rooms { HasRooms rooms.old }
     ensures gives { (o n : Outside) → Sees L.holds L.counts P.P.holds P.P.counts (binder P.holds P.faults table.old.ports) table.old.table held.old o
         → Sees L.holds L.counts P.P.holds P.P.counts (binder P.holds P.faults table.new.ports) table.new.table held.new n
-        → (s : machine.Held) → IsHeld P.P.most table.old.table held.old s → waits (want_of s.conn) ≡ true → (setup : Setup)
+        → (s : machine.Held) → IsHeld P.P.most table.old.table held.old s → may_wait (want_of s.conn) ≡ true → (setup : Setup)
         → Gives setup receives_of ReadsWait o n (O.seen office.old) (O.seen office.new) (IsHeld P.P.most table.new.table held.new) s result }
     ensures rest { held.new ≡ record held.old { conn = held.new.conn; ports = held.new.ports; bound = held.new.bound } }
     ensures rooms { HasRooms rooms.new }
     ensures stays { IfOk result (λ stepped. stepped ≡ Stepped.Quiet → held.new.ports.items ≡ held.old.ports.items) }
-    ensures still { IfOk result (λ stepped. stepped ≡ Stepped.Quiet → (s : machine.Held) → IsHeld P.P.most table.old.table held.old s → waits (want_of s.conn) ≡ true → IsHeld P.P.most table.new.table held.new s) }
+    ensures still { IfOk result (λ stepped. stepped ≡ Stepped.Quiet → (s : machine.Held) → IsHeld P.P.most table.old.table held.old s → may_wait (want_of s.conn) ≡ true → IsHeld P.P.most table.new.table held.new s) }
     ensures apart { SeatsApart held.new.ports.items }
     ensures ends { IfOk result (λ stepped. (said : Said) → stepped ≡ Stepped.Ended said → held.new.ports.items ≡ held.old.ports.items) }
     ensures calm { IfOk result (λ stepped. stepped ≡ Stepped.Quiet → (O.seen office.new ≡ O.seen office.old) × (binder P.holds P.faults table.new.ports ≡ binder P.holds P.faults table.old.ports)) }

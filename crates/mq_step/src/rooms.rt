@@ -2,7 +2,7 @@
 ghost use Rattle.std.specs.Prelude.{IfOk};
 ghost use Rattle.mq_step.specs.Rooms.{HasRooms};
 
-use mq_held::Datagrams;
+use mq_ports::Datagrams;
 use mq_wire::NoMemory;
 use std::alloc::Global;
 

@@ -23,8 +23,8 @@ and_false : (b : Bool) → (b && false) ≡ false
 and_false true = refl
 and_false false = refl
 
-pump_none : (p : Pump) (box : List Parcel) → p.to_push ≡ None → p.to_send ≡ None → p.net.arrived ≡ [] → box ≡ [] → is_some (pump_try p box) ≡ false
-pump_none p box push send arrived empty = rw (push, send, arrived, empty) (rw (and_false (not p.net.receive_fails)) refl)
+pump_none : (p : Pump) (box : List Parcel) → p.to_push ≡ None → p.to_send ≡ None → p.net.holds.arrived ≡ [] → box ≡ [] → is_some (pump_try p box) ≡ false
+pump_none p box push send arrived empty = rw (push, send, arrived, empty) (rw (and_false (not p.net.holds.receive_fails)) refl)
 
 pub pump_quiet : (old : Workers) (s : State) → IsWorld old s → has_turn s ThePump ≡ false
 pump_quiet old s is = pump_none s.pump (box_at s.shared.boxes (last_of s.shared.boxes)) is.pump.push is.pump.send is.pump.arrived is.pump.box

@@ -45,7 +45,7 @@ common_of world = record { office = world.office; mail = world.mail; bind_fails 
 pub record PumpRests (s : State) : Type 0 where
   pub push : s.pump.to_push ≡ None
   pub send : s.pump.to_send ≡ None
-  pub arrived : s.pump.net.arrived ≡ []
+  pub arrived : s.pump.net.holds.arrived ≡ []
   pub box : box_at s.shared.boxes (last_of s.shared.boxes) ≡ []
 
 -- its workers, what was said of links, the book, the inboxes and the orders are those of the state

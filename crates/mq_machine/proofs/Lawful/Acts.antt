@@ -1,5 +1,6 @@
 -- Of HTTP/2's state an act leaves what a connection's law speaks of.
 use Rattle.std.proofs.Common.{◌≡◌, ℕ, Bool, true, false, List, [], ◌∷◌, length, nat_lt, Option, Some, refl, ap, ◌∙◌, arith, ◌||◌}
+use Rattle.mq_h2.specs.Codes.{cancel}
 use Rattle.mq_h2.specs.Acts.{ends, with_headers, sends, ends_stream, resets_stream, where_live, consumes, gives_back}
 use Rattle.mq_h2.specs.State as h2
 use Rattle.mq_h2.specs.declared.block.OpenBlock.{OpenBlock}
@@ -9,7 +10,7 @@ use Rattle.mq_talk.specs.declared.note.Why.{Why}
 use Rattle.mq_talk.specs.declared.note.Why.TheVariants as why
 use Rattle.mq_machine.specs.declared.act.Due.{Due}
 use Rattle.mq_machine.specs.declared.act.Due.TheVariants as due
-use Rattle.mq_machine.specs.Http2.{status_field, capsule_field, grants, refuses, cancel, resets, ends_data, closes, puts_data}
+use Rattle.mq_machine.specs.Http2.{status_field, capsule_field, grants, refuses, resets, ends_data, closes, puts_data}
 use Rattle.mq_machine.specs.State.{Tunnel}
 use Rattle.mq_h2.specs.Laws.{is_block_of, may_come}
 use Rattle.mq_machine.specs.Lawful.{Http2Fits}

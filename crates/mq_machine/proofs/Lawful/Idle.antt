@@ -19,12 +19,12 @@ use Rattle.mq_machine.specs.declared.act.Due.TheVariants as due
 use Rattle.mq_machine.specs.Laws.{BeginsWithAct}
 use Rattle.mq_machine.specs.Settle.{gives_up}
 use Rattle.mq_machine.specs.State.{Conn, Front, Head, OverHttp1, OverHttp2, Stream, Tunnel, owed, tunnel_of, tunnel_on, values}
-use Rattle.mq_machine.specs.Want.{Want, Nothing, Say, Ask, Answer, Replied, Over, Bind, most_values, want_of, want_by, due_want, act_want, tunnel_want, stream_want, ending_want, over_want}
+use Rattle.mq_machine.specs.Want.{Want, Nothing, Say, Ask, Answer, Replied, Over, Bind, most_values, want_of, want_by, due_want, act_want, tunnel_want, stream_want, ending_want, over_want, may_wait}
 use Rattle.mq_machine.specs.Done.{done}
 use Rattle.mq_machine.specs.Steps.{is_nothing, is_ending, most_owed, can_go_on, can_read, finish_by, finished, starved, port_failed}
 use Rattle.mq_machine.specs.Silent.{tunnels_after}
 use Rattle.mq_h2.specs.Laws.{may_come}
-use Rattle.mq_machine.specs.Lawful.{IsUdp, IsAsked, has_on, Follows, NoOpens, begins_on, IsOfZero, IsOneRequest, Fits, IsOver, Loose, IsLoose, IsLawful, waits}
+use Rattle.mq_machine.specs.Lawful.{IsUdp, IsAsked, has_on, Follows, NoOpens, begins_on, IsOfZero, IsOneRequest, Fits, IsOver, Loose, IsLoose, IsLawful}
 use Rattle.mq_machine.proofs.Lawful.Lists.{either, itself, each_append, found_in, In, in_each, in_has, alone_one_more}
 use Rattle.mq_machine.proofs.Lawful.Steps.{nothing_left, given_front, settle_lawful}
 
@@ -124,7 +124,7 @@ finished_lawful c inside h can = settle_lawful (finish_by (record c { is_finishe
 -- ---- a port that failed
 
 -- it waits, so that no opening is in front
-waits_open : (c : Conn) (ds : List Due) → BeginsWithAct ds → NoOpens (drop 1 ds) → waits (due_want c ds) ≡ true → NoOpens ds
+waits_open : (c : Conn) (ds : List Due) → BeginsWithAct ds → NoOpens (drop 1 ds) → may_wait (due_want c ds) ≡ true → NoOpens ds
 waits_open c [] begins o h = refl
 waits_open c (due.Do (act.Bind id goal) ∷ rest) begins o h = absurd cc
 waits_open c (due.Do (act.Open id goal) ∷ rest) begins o h = absurd cc
@@ -134,7 +134,7 @@ waits_open c (due.Do (act.OfStream id a) ∷ rest) begins o h = o
 waits_open c (due.Spend id size ∷ rest) begins o h = absurd begins
 waits_open c (due.Fault code ∷ rest) begins o h = absurd begins
 
-waits_zero : (c : Conn) (ds : List Due) → BeginsWithAct ds → IsOneRequest ds → waits (due_want c ds) ≡ true → AllByRecursion IsOfZero ds
+waits_zero : (c : Conn) (ds : List Due) → BeginsWithAct ds → IsOneRequest ds → may_wait (due_want c ds) ≡ true → AllByRecursion IsOfZero ds
 waits_zero c [] begins o h = tt
 waits_zero c (due.Do (act.Bind id goal) ∷ rest) begins o h = absurd cc
 waits_zero c (due.Do (act.Open id goal) ∷ rest) begins o h = absurd cc
@@ -145,11 +145,11 @@ waits_zero c (due.Spend id size ∷ rest) begins o h = absurd begins
 waits_zero c (due.Fault code ∷ rest) begins o h = absurd begins
 
 -- an ending one doesn't wait before its tunnels are closed
-ending_waits : (c : Conn) (reason : End) (t : Tunnel) (ts : List Tunnel) → In t ts → waits (ending_want c reason ts) ≡ true → ⊥
+ending_waits : (c : Conn) (reason : End) (t : Tunnel) (ts : List Tunnel) → In t ts → may_wait (ending_want c reason ts) ≡ true → ⊥
 ending_waits c reason t [] i h = i
 ending_waits c reason t (u ∷ us) i h = absurd cc
 
-port_front : (c : Conn) (t : Tunnel) (ds : List Due) (ts : List Tunnel) (ss : List Stream) (f : Front) → BeginsWithAct ds → waits (due_want c ds) ≡ true → In t ts → Fits f None ds ts ss
+port_front : (c : Conn) (t : Tunnel) (ds : List Due) (ts : List Tunnel) (ss : List Stream) (f : Front) → BeginsWithAct ds → may_wait (due_want c ds) ≡ true → In t ts → Fits f None ds ts ss
     → Fits f None (due.Do (act.OfStream t.stream (stream.Close why.Port)) ∷ ds) ts ss
 port_front c t ds ts ss (Head bytes) begins w i h = absurd (let P : List Tunnel → Type 0 = λ us. In t us in subst P h.1 i)
 port_front c t ds ts ss OverHttp1 begins w i h = record {
@@ -164,7 +164,7 @@ port_front c t ds ts ss (OverHttp2 s) begins w i h = record {
   spends = λ k. (let n = h.spends k in omega (arith, n));
 }
 
-port_loose : (c : Conn) (t : Tunnel) (e : Option End) → BeginsWithAct c.due → waits (want_by c e) ≡ true → In t c.tunnels → Loose e c.due c.tunnels c.streams c.front
+port_loose : (c : Conn) (t : Tunnel) (e : Option End) → BeginsWithAct c.due → may_wait (want_by c e) ≡ true → In t c.tunnels → Loose e c.due c.tunnels c.streams c.front
     → Loose e (due.Do (act.OfStream t.stream (stream.Close why.Port)) ∷ c.due) c.tunnels c.streams c.front
 port_loose c t (Some reason) begins w i h = absurd (ending_waits c reason t c.tunnels i w)
 port_loose c t None begins w i h = record {
@@ -179,7 +179,7 @@ port_loose c t None begins w i h = record {
   front = port_front c t c.due c.tunnels c.streams c.front begins w i h.front;
 }
 
-pub port_failed_lawful : (c : Conn) (tunnel : ℕ) (t : Tunnel) → IsLawful c → tunnel_of c tunnel ≡ Some t → waits (want_of c) ≡ true → IsLawful (port_failed c t)
+pub port_failed_lawful : (c : Conn) (tunnel : ℕ) (t : Tunnel) → IsLawful c → tunnel_of c tunnel ≡ Some t → may_wait (want_of c) ≡ true → IsLawful (port_failed c t)
 port_failed_lawful c tunnel t h found w = record {
   loose = port_loose c t c.ending h.settled w (found_in (λ (t : Tunnel). t.id == tunnel) c.tunnels t found).1 h.loose;
   settled = tt;

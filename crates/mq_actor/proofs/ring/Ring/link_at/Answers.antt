@@ -1,7 +1,6 @@
 use Rattle.std.proofs.Common.{Option, Some, refl, sym, ap, ◌∙◌}
 use Rattle.std.proofs.lemmas.Option.{get_or_from_slice_get}
 use Rattle.mq_held.specs.declared.held.Held.{Held as HeldBy}
-use Rattle.mq_actor.specs.declared.offer.Offer.{Offer as OfferBy}
 use Rattle.mq_actor.proofs.Lending.{at_conn, at_offer, at_none}
 use Rattle.mq_actor.proofs.ring.Ring.link_at.Goals as goal
 
@@ -21,5 +20,4 @@ pub returns : goal.returns
 returns g c =
     let r = c.args.self.now in
     let x = at_offer r c.args.number c.in_ok-place.place (sym c.place_of.ensures ∙ c.in_default.is) (sym c.in_ok-place.ensures) in
-    let is = c.index-2.ensures ∙ get_or_from_slice_get r.offered.items c.in_ok-place.place x.0 c.index-2.result.now x.1 in
-    ap {B = Option g.row.L.Denot} (λ (f : OfferBy g.row.L.Denot). Some f.link) is ∙ sym x.2
+    ap {B = Option g.row.L.Denot} (λ (l : g.row.L.Denot). Some l) (c.link_at.ensures x.0 x.1) ∙ sym x.2

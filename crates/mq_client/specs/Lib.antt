@@ -1,0 +1,9 @@
+pub mod Heads
+pub mod Events
+pub mod Requests
+pub mod Brings
+pub mod State
+pub mod Laws
+pub mod Answers
+pub mod Standing
+pub mod Client

@@ -1,0 +1,179 @@
+//! What answers bring to a client, and what it owes.
+use super::{Client, ClientEvent};
+use mq_wire::Bytes;
+use std::alloc::Global;
+use std::process::Abort;
+use std::test::Fail;
+
+/// The answer that opens a tunnel.
+const OPENED: &[u8] =
+    b"HTTP/1.1 101 Switching Protocols\r\nConnection: Upgrade\r\nUpgrade: connect-udp\r\nCapsule-Protocol: ?1\r\n\r\n";
+
+/// A client of this path, at this host.
+fn client(alloc: Global) -> Result<Client, Fail> {
+    let path = Vec::from_slice(alloc, b"/.well-known/masque/udp/192.0.2.6/443/")?;
+    let host = Vec::from_slice(alloc, b"127.0.0.1:8080")?;
+    Ok(Client::new(alloc, Bytes::from_vec(path), Bytes::from_vec(host))?)
+}
+
+/// The line of an event.
+fn line(alloc: Global, event: &ClientEvent) -> Result<String, Fail> {
+    Ok(match event {
+        ClientEvent::Opened => format!(in alloc; "opened;")?,
+        ClientEvent::Refused { status } => format!(in alloc; "refused {status};")?,
+        ClientEvent::Datagram { payload } => {
+            format!(in alloc; "datagram of {};", payload.as_slice().len())?
+        }
+        ClientEvent::Closed => format!(in alloc; "closed;")?,
+        ClientEvent::BadPeer { code } => format!(in alloc; "bad peer {code};")?,
+    })
+}
+
+/// What these pieces bring to a new client, one behind the other.
+fn told(alloc: Global, pieces: &[&[u8]]) -> Result<String, Fail> {
+    let mut client = client(alloc)?;
+    let mut lines = String::new(alloc);
+    for piece in pieces {
+        let events = client.feed(alloc, piece)?;
+        for event in events.as_slice() {
+            lines.push_str(line(alloc, event)?.as_str())?;
+        }
+    }
+    Ok(lines)
+}
+
+#[test]
+fn owes_the_request_and_then_a_capsule(rt: HostRuntime) -> Result<(), Fail> {
+    let alloc = rt.alloc();
+    let request: &[u8] =
+        b"GET /.well-known/masque/udp/192.0.2.6/443/ HTTP/1.1\r\nHost: 127.0.0.1:8080\r\nConnection: Upgrade\r\nUpgrade: connect-udp\r\nCapsule-Protocol: ?1\r\n\r\n";
+    let mut client = client(alloc)?;
+    assert_eq!(rt; client.owed(), request);
+    client.wrote(100);
+    let (_, rest) = request.split_at(100);
+    assert_eq!(rt; client.owed(), rest);
+    let events = client.feed(alloc, OPENED)?;
+    assert!(rt; matches!(events.as_slice(), [ClientEvent::Opened]));
+    client.send(b"hi")?;
+    client.wrote(40);
+    assert_eq!(rt; client.owed(), b"\r\n\x00\x03\x00hi".as_slice());
+    client.wrote(2);
+    assert_eq!(rt; client.owed(), b"\x00\x03\x00hi".as_slice());
+    Ok(())
+}
+
+#[test]
+fn answers_bring_their_events(rt: HostRuntime) -> Result<(), Fail> {
+    let alloc = rt.alloc();
+    let cases: [(&[u8], &str); 9] = [
+        (
+            b"HTTP/1.1 403 Forbidden\r\nConnection: close\r\nContent-Length: 0\r\n\r\n",
+            "refused 403;",
+        ),
+        (b"HTTP/1.1 200 OK\r\n\r\n\x00\x03\x00ok", "refused 200;"),
+        (b"\r\nHTTP/1.0 502\n\n", "refused 502;"),
+        (b"x\r\n\r\n", "bad peer 1;"),
+        (b"HTTP/2.0 101 Switching Protocols\r\n\r\n", "bad peer 1;"),
+        (b"HTTP/1.1 101 Switching Protocols\r\n", ""),
+        (
+            b"HTTP/1.1 101\r\n\r\n\x00\x03\x00ok\x04\x01a\x00\x02\x02a\x00\x01\x00",
+            "opened;datagram of 2;datagram of 0;",
+        ),
+        (
+            b"HTTP/1.1 101\r\n\r\n\x00\x03\x00ok\x00\x00\x00\x03\x00ok",
+            "opened;datagram of 2;bad peer 1;",
+        ),
+        (b"HTTP/1.1 101\r\n\r\n\x00\x01\x40", "opened;bad peer 1;"),
+    ];
+    for (bytes, want) in cases {
+        let lines = told(alloc, &[bytes, b"\x00\x03\x00ok"])?;
+        let first = told(alloc, &[bytes])?;
+        assert_eq!(rt; first.as_str(), want);
+        assert!(rt; lines.as_str().starts_with(want));
+    }
+    Ok(())
+}
+
+#[test]
+fn each_cutting_brings_the_same(rt: HostRuntime) -> Result<(), Fail> {
+    let alloc = rt.alloc();
+    let mut bytes = Vec::from_slice(alloc, OPENED)?;
+    bytes.extend_from_slice(b"\x00\x03\x00ok\x00\x03\x00k")?;
+    let all = bytes.as_slice();
+    for at in 0..all.len() {
+        let (front, rest) = all.split_at(at);
+        let lines = told(alloc, &[front, rest, b"o"])?;
+        assert_eq!(rt;
+            lines.as_str(),
+            "opened;datagram of 2;datagram of 2;",
+            "cut at {at}"
+        );
+    }
+    Ok(())
+}
+
+/// A head that opens the tunnel, with so many fields.
+fn head_of_fields(alloc: Global, count: usize) -> Result<Vec<u8>, Fail> {
+    let mut head = Vec::from_slice(alloc, b"HTTP/1.1 101 Switching Protocols\r\n")?;
+    for _ in 0..count {
+        head.extend_from_slice(b"a: b\r\n")?;
+    }
+    head.extend_from_slice(b"\r\n")?;
+    Ok(head)
+}
+
+/// A head that opens the tunnel, of so many bytes and more.
+fn head_of_bytes(alloc: Global, count: usize) -> Result<Vec<u8>, Fail> {
+    let mut head = Vec::from_slice(alloc, b"HTTP/1.1 101 Switching Protocols\r\na: ")?;
+    for _ in 0..count {
+        head.push(b'b')?;
+    }
+    head.extend_from_slice(b"\r\n\r\n")?;
+    Ok(head)
+}
+
+#[test]
+fn heads_have_limits(rt: HostRuntime) -> Result<(), Fail> {
+    let alloc = rt.alloc();
+    let few = head_of_fields(alloc, 64)?;
+    let many = head_of_fields(alloc, 65)?;
+    let long = head_of_bytes(alloc, 8192 - 41)?;
+    let longer = head_of_bytes(alloc, 8192 - 40)?;
+    assert_eq!(rt; told(alloc, &[few.as_slice()])?.as_str(), "opened;");
+    assert_eq!(rt; told(alloc, &[many.as_slice()])?.as_str(), "bad peer 1;");
+    assert_eq!(rt; long.as_slice().len(), 8192);
+    assert_eq!(rt; told(alloc, &[long.as_slice()])?.as_str(), "opened;");
+    assert_eq!(rt; told(alloc, &[longer.as_slice()])?.as_str(), "bad peer 1;");
+    let (begun, _) = longer.as_slice().split_at(longer.len().min(8191));
+    assert_eq!(rt; told(alloc, &[begun])?.as_str(), "");
+    assert_eq!(rt; told(alloc, &[begun, b"b"])?.as_str(), "bad peer 1;");
+    Ok(())
+}
+
+/// The bytes of an opened tunnel with one DATAGRAM capsule, whose value is this front and so many bytes.
+fn tunnel_with(alloc: Global, front: &[u8], count: usize) -> Result<Vec<u8>, Fail> {
+    let mut bytes = Vec::from_slice(alloc, b"HTTP/1.1 101\r\n\r\n")?;
+    bytes.extend_from_slice(front)?;
+    for _ in 0..count {
+        bytes.push(0)?;
+    }
+    Ok(bytes)
+}
+
+#[test]
+fn payloads_have_a_limit(rt: HostRuntime) -> Result<(), Fail> {
+    let alloc = rt.alloc();
+    let longest = tunnel_with(alloc, b"\x00\x80\x00\xff\xf8\x00", 65_527)?;
+    let longer = tunnel_with(alloc, b"\x00\x80\x00\xff\xf9\x00", 65_528)?;
+    let other = tunnel_with(alloc, b"\x00\x80\x00\xff\xf9\x01", 65_528)?;
+    assert_eq!(rt;
+        told(alloc, &[longest.as_slice()])?.as_str(),
+        "opened;datagram of 65527;"
+    );
+    assert_eq!(rt;
+        told(alloc, &[longer.as_slice()])?.as_str(),
+        "opened;bad peer 1;"
+    );
+    assert_eq!(rt; told(alloc, &[other.as_slice()])?.as_str(), "opened;");
+    Ok(())
+}

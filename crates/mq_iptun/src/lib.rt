@@ -1,0 +1,21 @@
+//! The core of a tunnel for IP packets (RFC 9484): what each item of its data stream asks for, and the control capsule that
+//! answers a reply of the book.
+#![tactic(auto)]
+
+mod act;
+mod answer;
+mod asked;
+mod item;
+mod number;
+mod packet;
+mod tunnel;
+mod value;
+
+pub use act::IpAct;
+pub use answer::control_capsule;
+pub use item::item_act;
+pub use number::next_number;
+pub use tunnel::IpTunnel;
+
+#[cfg(test)]
+mod tests;

@@ -1,0 +1,10 @@
+pub mod Rises
+pub mod Owners
+pub mod Shared
+pub mod Turns
+pub mod Pushing
+pub mod Sending
+pub mod Receiving
+pub mod Stepping
+pub mod Telling
+pub mod Coming

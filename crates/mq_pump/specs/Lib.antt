@@ -1,0 +1,5 @@
+pub mod Ready
+pub mod Holds
+pub mod Pushes
+pub mod Sends
+pub mod Receives

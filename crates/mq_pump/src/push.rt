@@ -1,0 +1,48 @@
+//! A parcel goes to the inbox of its place.
+ghost use Rattle.std.specs.Prelude.{◌≡◌, ◌+◌};
+ghost use Rattle.mq_machine.specs.Turn.{source_of as source_is};
+ghost use Rattle.mq_pump.specs.Holds.{CanGo, inbox_in};
+ghost use Rattle.mq_pump.specs.Pushes.{Pushes};
+
+use mq_talk::{Cause, From, Mail, Note, Origin, Parcel, Place, Pushed};
+
+/// Where a note says that a packet comes from.
+pub fn source_of(origin: Origin) -> From
+    ensures { result ≡ source_is origin }
+{
+    match origin {
+        Origin::Tunnel(tunnel) => From::Tunnel(tunnel),
+        Origin::Net => From::Net,
+    }
+}
+
+/// The inbox of a place: the pump's is behind those of so many workers.
+fn inbox_of(workers: u32, to: Place) -> u32
+    ensures { result ≡ inbox_in workers to }
+{
+    match to {
+        Place::Tunnel { actor, .. } => actor,
+        Place::Net => workers,
+    }
+}
+
+/// Pushes a parcel to the inbox of its place, or drops it where that is full.
+pub fn push<M: Mail>(workers: u32, parcel: Parcel, mail: &mut M) -> Note
+    requires parcel { CanGo workers parcel }
+    requires inboxes { M.count mail.old ≡ workers + 1 }
+    ensures gives { Pushes (M.count mail.old) (M.boxes mail.old) (inbox_in workers parcel.to) parcel result (M.boxes mail.new) }
+    ensures actor { M.actor mail.new ≡ M.actor mail.old }
+    ensures count { M.count mail.new ≡ M.count mail.old }
+{
+    let from = source_of(parcel.from);
+    let n = parcel.n;
+    let to = parcel.to;
+    match mail.push(inbox_of(workers, to), parcel) {
+        Pushed::Taken => Note::PushedNote { from, n, to },
+        Pushed::Full(_) => Note::Dropped {
+            from,
+            n,
+            cause: Cause::InboxFull,
+        },
+    }
+}

@@ -1,0 +1,18 @@
+use Rattle.std.proofs.Common.{◌≡◌, sym, ap, ◌∙◌, Some, arith}
+use Rattle.mq_turn.proofs.Sharing.{joins}
+use Rattle.mq_turn.proofs.pass.Pass.join.Goals as goal
+
+pub join_seat-requires : goal.join_seat-requires
+join_seat-requires g c = let k = g.V.Kept in
+    let is = c.self.view_is in
+    let other_is = c.other.view_is in
+    let turn_is = sym c.turn.view_is in
+    let size : c.turn.inside.table.shared.table_id.words ≡ 33 = c.turn.inside.sized.0 in (
+      ap (λ z. z.turn) is ∙ c.requires.turn.turn_is ∙ ap (λ z. z.id) turn_is,
+      ap (λ z. z.turn) other_is ∙ c.requires.other.turn_is ∙ ap (λ z. z.id) turn_is,
+      c.other.invariant.1,
+      omega arith,
+      joins k.settings k.history _ k.maker k.is_sound _ _ c.self.inside.seat.me.0 c.other.inside.seat.me.0
+          (ap (λ z. z.settings) is ∙ c.requires.turn.settings_are ∙ ap (λ z. Some z.settings) turn_is)
+          (ap (λ z. z.settings) other_is ∙ c.requires.other.settings_are ∙ ap (λ z. Some z.settings) turn_is) c.self.invariant.0 c.other.invariant.0,
+    )

@@ -1,0 +1,5 @@
+pub mod Calls
+pub mod History
+pub mod Passes
+pub mod Rule
+pub mod Steps

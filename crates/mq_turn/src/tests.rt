@@ -1,0 +1,106 @@
+//! A list of who added to it, as several passes ask it.
+ghost use Rattle.std.specs.Prelude.{◌≡◌, ◌≤◌, [], length};
+
+use crate::{Kept, Turn};
+use mq_wire::NoMemory;
+use std::alloc::Global;
+use std::test::*;
+
+/// Who added, one after another, up to a count.
+#[derive(Drop)]
+pub struct Names {
+    names: Vec<u32>,
+    most: usize,
+    ghost few: { length names.items ≤ 1000 },
+}
+
+impl Names {
+    fn new(alloc: Global, most: usize) -> Names
+        ensures { result.names.items ≡ [] }
+    {
+        Names {
+            names: Vec::new(alloc),
+            most,
+        }
+    }
+}
+
+impl Kept for Names {
+    ghost use Rattle.std.specs.Prelude.{◌≡◌, ⊤, ◌++◌, ◌∷◌, [], length, MatchResult};
+
+    type Ask = u32;
+
+    type Answer = Result<u32, NoMemory>;
+
+    type Entry = u32;
+
+    type Settings = ();
+
+    ghost settings = { λ _. tt };
+
+    ghost history = { λ n. n.names.items };
+
+    ghost asker = { λ n. n };
+
+    ghost maker = { λ n. n };
+
+    ghost is_sound = { λ _ _. ⊤ };
+
+    ghost may_ask = { λ _ _ _. ⊤ };
+
+    ghost serves = { λ _ h n r new. MatchResult r (λ at. (at ≡ length h) × (new ≡ h ++ n ∷ [])) (λ _. new ≡ h) };
+
+    fn serve(&mut self, ask: u32) -> Result<u32, NoMemory> {
+        let at = self.names.len();
+        if at >= self.most || at >= 1000 {
+            return Err(NoMemory);
+        }
+        self.names.push(ask)?;
+        Ok(at as u32)
+    }
+
+    fn entries(&self) -> u32 {
+        self.names.len() as u32
+    }
+
+    ghost begins_sound = { λ _. tt };
+
+    ghost stays_asked = { λ _ _ _ _ _ _ _. tt };
+}
+
+#[test]
+fn two_passes_add_one_each(rt: HostRuntime) -> Result<(), Fail> {
+    let (turn, mut first) = Turn::new(rt.alloc(), Names::new(rt.alloc(), 1000))?;
+    let mut second = first.split(&turn)?;
+    assert_eq!(rt; first.with_turn(&rt, &turn, 0), Ok(0));
+    assert_eq!(rt; second.with_turn(&rt, &turn, 1), Ok(1));
+    first.join(&turn, second);
+    let names = turn.close(first);
+    assert_eq!(rt; names.names.as_slice(), [0, 1].as_slice());
+    Ok(())
+}
+
+#[test]
+fn one_that_is_refused_adds_nothing(rt: HostRuntime) -> Result<(), Fail> {
+    let (turn, mut pass) = Turn::new(rt.alloc(), Names::new(rt.alloc(), 1))?;
+    assert_eq!(rt; pass.with_turn(&rt, &turn, 0), Ok(0));
+    assert_eq!(rt; pass.with_turn(&rt, &turn, 0), Err(NoMemory));
+    let names = turn.close(pass);
+    assert_eq!(rt; names.names.as_slice(), [0].as_slice());
+    Ok(())
+}
+
+#[test]
+fn joined_the_other_way_round(rt: HostRuntime) -> Result<(), Fail> {
+    let (turn, mut first) = Turn::new(rt.alloc(), Names::new(rt.alloc(), 1000))?;
+    let mut second = first.split(&turn)?;
+    let mut third = first.split(&turn)?;
+    assert_eq!(rt; third.with_turn(&rt, &turn, 2), Ok(0));
+    assert_eq!(rt; second.with_turn(&rt, &turn, 1), Ok(1));
+    second.join(&turn, first);
+    third.join(&turn, second);
+    assert_eq!(rt; third.with_turn(&rt, &turn, 2), Ok(2));
+    let names = turn.close(third);
+    assert_eq!(rt; names.names.as_slice(), [2, 1, 2].as_slice());
+    Ok(())
+}
