@@ -13,11 +13,11 @@ use std::alloc::Global;
 use std::marker::Model;
 
 /// The most answers that wait.
-const MOST: u32 = 65_536;
+const MOST_ANSWERS: u32 = 65_536;
 /// Their most bytes.
-const MOST_BYTES: u32 = 16_777_216;
+const MOST_ANSWERED: u32 = 16_777_216;
 /// The most bytes of a packet.
-const PACKET: usize = 65_535;
+const MAX_PACKET: usize = 65_535;
 
 /// A network whose hosts answer: a UDP payload comes back, and a request for an echo is answered.
 #[derive(Drop)]
@@ -57,7 +57,12 @@ impl SimNet {
         if hosts.is_empty() {
             return SimNet::with_room(alloc, hosts, Store::new(alloc, 0, 0)?, 0);
         }
-        SimNet::with_room(alloc, hosts, Store::new(alloc, MOST, MOST_BYTES)?, PACKET)
+        SimNet::with_room(
+            alloc,
+            hosts,
+            Store::new(alloc, MOST_ANSWERS, MOST_ANSWERED)?,
+            MAX_PACKET,
+        )
     }
 
     fn with_room(

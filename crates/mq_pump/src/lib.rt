@@ -7,6 +7,8 @@ mod push;
 mod ready;
 mod receive;
 mod send;
+#[cfg(test)]
+mod tests;
 
 pub use pump::Pump;
 pub use ready::NetReady;
