@@ -1,5 +1,5 @@
 -- What an ask in its turn is to the office of an actor.
-use Rattle.std.proofs.Common.{◌≡◌, ◌≢◌, ℕ, List, ◌++◌, ap, sym, refl, ◌∙◌, subst, true, false, length}
+use Rattle.std.proofs.Common.{◌≡◌, ◌≢◌, ℕ, ◌++◌, ap, sym, refl, ◌∙◌, subst, length}
 use Rattle.std.specs.Prelude.{IsOk, Result, Ok, Err}
 use Rattle.std.specs.List.{All}
 use Rattle.mq_wire.specs.declared.NoMemory.{NoMemory}
@@ -20,7 +20,7 @@ use Rattle.mq_desk.specs.declared.ask.Answer.{Answer}
 use Rattle.mq_desk.specs.declared.ask.Answer.TheVariants as answer
 use Rattle.mq_desk.specs.declared.ask.Ask.{Ask}
 use Rattle.mq_desk.specs.declared.ask.Ask.TheVariants as ask
-use Rattle.mq_desk.specs.Asks.{actor_of, asker, Serves}
+use Rattle.mq_desk.specs.Asks.{actor_of, Serves}
 use Rattle.mq_desk.specs.Keys.{AddsOwn, KeyOf, own_entries, seen_by}
 use Rattle.mq_desk.proofs.Others.{are_of_others, recorded_own, same_own}
 

@@ -1,2 +1,3 @@
 pub mod Answering
 pub mod Others
+pub mod Mine

@@ -1,5 +1,5 @@
 -- What a clause says of a desk and of its keys.
-use Rattle.std.specs.Prelude.{◌≡◌, ℕ, List, Result, Ok, Err, false}
+use Rattle.std.specs.Prelude.{◌≡◌, Result, Ok, Err, false}
 use Rattle.mq_wire.specs.declared.NoMemory.{NoMemory}
 use Rattle.mq_talk.specs.declared.book.Call.{Call}
 use Rattle.mq_talk.specs.declared.book.Config.{Config}

@@ -1,6 +1,6 @@
 -- What an actor may ask it may ask still when others have written more: they close none of its tunnels.
-use Rattle.std.proofs.Common.{◌≡◌, ◌≢◌, ℕ, zero, suc, ◌+◌, ◌<◌, ◌≤◌, Bool, true, false, not, ◌&&◌, List, [], ◌∷◌, ◌++◌, length, get_or, take, ap, sym, refl, ◌∙◌, subst, arith, append_assoc, length-append, ne_eqb}
-use Rattle.std.specs.Prelude.{slice_get, IsTrue}
+use Rattle.std.proofs.Common.{◌≡◌, ◌≢◌, ℕ, zero, suc, ◌<◌, false, not, ◌&&◌, [], ◌∷◌, ◌++◌, length, get_or, take, ap, sym, refl, ◌∙◌, subst, arith, append_assoc, length-append, ne_eqb}
+use Rattle.std.specs.Prelude.{slice_get}
 use Rattle.std.specs.List.{All}
 use Rattle.std.proofs.lemmas.List.{append-nil, take_at}
 use Rattle.std.proofs.lemmas.List.Elements.{All-head, All-tail}
@@ -9,7 +9,7 @@ use Rattle.mq_talk.specs.declared.book.Call.TheVariants.{Open, Assign, Advertise
 use Rattle.mq_talk.specs.declared.book.Config.{Config}
 use Rattle.mq_talk.specs.declared.book.Entry.{Entry}
 use Rattle.mq_talk.specs.declared.place.Origin.TheVariants as origin
-use Rattle.mq_talk.specs.Book.{History, actor_at, closes, is_live}
+use Rattle.mq_talk.specs.Book.{History, actor_at, closes}
 use Rattle.mq_talk.specs.Answers.{Follows, IsLegal, IsMine, MayCall}
 use Rattle.mq_book.proofs.More.{live_old, live_within}
 use Rattle.mq_desk.specs.declared.ask.Ask.{Ask}
@@ -58,7 +58,7 @@ mine_stays config h e actor t follows other mine =
       actor_is = ap actor_at (entry_stays h (e ∷ []) t less) ∙ mine.actor_is;
     }
 
-all_stay : (config : Config) (h more : History) (actor t : ℕ) → IsLegal config (h ++ more) → All (λ e. actor_of e ≢ actor) more → IsMine h actor t → IsMine (h ++ more) actor t
+pub all_stay : (config : Config) (h more : History) (actor t : ℕ) → IsLegal config (h ++ more) → All (λ e. actor_of e ≢ actor) more → IsMine h actor t → IsMine (h ++ more) actor t
 all_stay config h [] actor t legal others mine = subst (λ l. IsMine l actor t) (sym (append-nil h)) mine
 all_stay config h (e ∷ more) actor t legal others mine =
     let same : (h ++ e ∷ []) ++ more ≡ h ++ e ∷ more = append_assoc h (e ∷ []) more in

@@ -1,18 +1,21 @@
 //! A book that actors share, in one thread and in several.
-ghost use Rattle.std.specs.Prelude.{◌≡◌, ◌<◌, [], IfOk};
+ghost use Rattle.std.specs.Prelude.{◌≡◌, ◌<◌};
 ghost use Rattle.mq_turn.specs.Passes.{IsOf, first_pass};
+
+mod joins;
+mod replay;
+mod tunnels;
 
 use crate::{Desk, DeskKey, DeskPass};
 use mq_addr::Addr;
-use mq_book::{Book, Config};
 use mq_talk::{Call, Goal, Office, Reply};
-use mq_wire::{NoMemory, Seq};
-use std::alloc::Global;
+use mq_wire::NoMemory;
 use std::process::Abort;
 use std::sync::Wait;
 use std::test::*;
 use std::thread;
 use std::thread::Threads;
+use tunnels::desk_of;
 
 /// Where all tunnels lead.
 const DNS: Goal = Goal::Udp {
@@ -23,31 +26,9 @@ const DNS: Goal = Goal::Udp {
 /// How many tunnels a thread opens.
 const MANY: u32 = 100;
 
-fn nothing<T: Drop>(alloc: Global) -> Seq<T>
-    ensures { result ≡ [] }
-{
-    Seq::from_vec(Vec::new(alloc))
-}
-
-/// A desk of two actors, whose book has room for 1,000 entries, with the keys of both.
-fn desk_of_two(alloc: Global) -> Result<(Desk, DeskKey), NoMemory>
-    ensures workers { IfOk result (λ made. made.0.settings.workers ≡ 2) }
-    ensures key { IfOk result (λ made. made.1 ≡ first_pass made.0) }
-{
-    let config = Config {
-        pool: nothing(alloc),
-        reach: nothing(alloc),
-        routes: nothing(alloc),
-        history: 1000,
-        workers: 2,
-    };
-    Desk::new(alloc, Book::new(alloc, config)?)
-}
-
 /// The actor opens a tunnel.
 fn opens<R: Wait>(pass: &mut DeskPass<'_, R>, actor: u32) -> Result<Reply, NoMemory>
-    requires workers { pass.old.desk.now.settings.workers ≡ 2 }
-    requires actor { (pass.old.key.number ≡ actor) × (actor < 2) }
+    requires { (pass.old.key.number ≡ actor) × (actor < pass.old.desk.now.settings.workers) }
     ensures desk { pass.new.desk ≡ pass.old.desk }
     ensures key { pass.new.key ≡ record pass.old.key { seen = pass.new.key.seen } }
 {
@@ -65,7 +46,7 @@ fn is_opened(reply: &Reply, number: u32) -> bool {
 
 #[test]
 fn two_actors_open_a_tunnel_each(rt: HostRuntime) -> Result<(), Fail> {
-    let (desk, key) = desk_of_two(rt.alloc())?;
+    let (desk, key) = desk_of(rt.alloc(), 2)?;
     let mut first = desk.sit(&rt, key);
     let mut second = desk.sit(&rt, first.split(1)?);
     assert!(rt; is_opened(&opens(&mut first, 0)?, 0));
@@ -81,7 +62,7 @@ fn two_actors_open_a_tunnel_each(rt: HostRuntime) -> Result<(), Fail> {
 #[test]
 fn two_threads_open_a_hundred_tunnels_each(rt: HostRuntime) -> Result<(), Fail> {
     for _ in 0..100 {
-        let (desk, key) = desk_of_two(rt.alloc())?;
+        let (desk, key) = desk_of(rt.alloc(), 2)?;
         both_open(&rt, desk, key)?;
     }
     Ok(())

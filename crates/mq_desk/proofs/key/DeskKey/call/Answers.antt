@@ -1,4 +1,4 @@
-use Rattle.std.proofs.Common.{◌≡◌, ap, ◌∙◌, subst}
+use Rattle.std.proofs.Common.{ap, ◌∙◌, subst}
 use Rattle.mq_desk.specs.declared.ask.Ask.TheVariants as ask
 use Rattle.mq_desk.specs.Keys.{DeskOf, KeyOf}
 use Rattle.mq_desk.proofs.Answering.{calls, Did}
