@@ -1,18 +1,18 @@
 // What `mq_bench book_N COUNT`, `book_any_N COUNT` and `judge_N COUNT` do, as a plain program over the same lists:
-// `book_plain WORD COUNT` prints the same checksum.
+// `book_plain WORD COUNT` prints the same checksum. `desk_plain.rs` has the same book behind a mutex.
 use std::env;
 
 #[derive(Clone, Copy, PartialEq)]
-struct Prefix {
-    addr: u32,
-    length: u8,
+pub struct Prefix {
+    pub addr: u32,
+    pub length: u8,
 }
 
 #[derive(Clone, Copy)]
-struct Range {
-    first: u32,
-    last: u32,
-    protocol: u8,
+pub struct Range {
+    pub first: u32,
+    pub last: u32,
+    pub protocol: u8,
 }
 
 #[derive(Clone, Copy)]
@@ -47,7 +47,7 @@ struct Tunnel {
     routes: Vec<Range>,
 }
 
-enum Verdict {
+pub enum Verdict {
     Source,
     NoRoute,
     Net,
@@ -109,7 +109,7 @@ impl Tunnel {
     }
 }
 
-struct Book {
+pub struct Book {
     pool: Vec<Prefix>,
     routes: Vec<Range>,
     history: Vec<Entry>,
@@ -117,20 +117,24 @@ struct Book {
 }
 
 impl Book {
-    fn write(&mut self, call: Call, reply: Reply) {
-        self.history.push(Entry { actor: 0, call, reply });
+    pub fn new(pool: Prefix, routes: Range) -> Book {
+        Book { pool: vec![pool], routes: vec![routes], history: Vec::new(), live: Vec::new() }
     }
 
-    fn open(&mut self) -> u32 {
+    fn write(&mut self, actor: u32, call: Call, reply: Reply) {
+        self.history.push(Entry { actor, call, reply });
+    }
+
+    pub fn open(&mut self, actor: u32) -> u32 {
         let number = self.history.len() as u32;
         let routes = self.routes.clone();
-        self.live.push(Tunnel { number, actor: 0, held: Vec::new(), ranges: Vec::new(), routes: routes.clone() });
-        self.write(Call::Open, Reply::Opened { tunnel: number, routes });
+        self.live.push(Tunnel { number, actor, held: Vec::new(), ranges: Vec::new(), routes: routes.clone() });
+        self.write(actor, Call::Open, Reply::Opened { tunnel: number, routes });
         number
     }
 
-    fn is_mine(&self, tunnel: u32) -> bool {
-        self.live.iter().any(|one| one.number == tunnel) && self.history[tunnel as usize].actor == 0
+    fn is_mine(&self, actor: u32, tunnel: u32) -> bool {
+        self.live.iter().any(|one| one.number == tunnel) && self.history[tunnel as usize].actor == actor
     }
 
     fn offer(&self, taken: &[Prefix], block: &Prefix) -> Option<Prefix> {
@@ -142,8 +146,8 @@ impl Book {
         if inside && !taken.iter().any(|other| overlaps(other, block)) { Some(*block) } else { None }
     }
 
-    fn assign(&mut self, tunnel: u32, block: Prefix) -> u64 {
-        assert!(self.is_mine(tunnel));
+    pub fn assign(&mut self, actor: u32, tunnel: u32, block: Prefix) -> u64 {
+        assert!(self.is_mine(actor, tunnel));
         let asked = vec![Given { id: 1, block }];
         let held = self.live.iter().flat_map(|one| &one.held);
         let mut taken: Vec<Prefix> = held.map(|given| given.block).collect();
@@ -167,17 +171,17 @@ impl Book {
         let last = u64::from(list.last().unwrap().block.addr);
         self.live[place].held = held;
         let at = self.history.len() as u32;
-        self.write(Call::Assign { tunnel, asked }, Reply::Assigned { list, at });
+        self.write(actor, Call::Assign { tunnel, asked }, Reply::Assigned { list, at });
         last
     }
 
-    fn close(&mut self, tunnel: u32) {
-        assert!(self.is_mine(tunnel));
+    pub fn close(&mut self, actor: u32, tunnel: u32) {
+        assert!(self.is_mine(actor, tunnel));
         self.live.retain(|one| one.number != tunnel);
-        self.write(Call::Close { tunnel }, Reply::Closed);
+        self.write(actor, Call::Close { tunnel }, Reply::Closed);
     }
 
-    fn judge(&self, from: u32, source: u32, target: u32, protocol: u8) -> Verdict {
+    pub fn judge(&self, from: u32, source: u32, target: u32, protocol: u8) -> Verdict {
         let Some(own) = self.live.iter().find(|one| one.number == from) else {
             return Verdict::Source;
         };
@@ -201,12 +205,11 @@ fn addr_of(tunnel: u32) -> u32 {
 }
 
 fn filled(live: u32) -> Book {
-    let pool = vec![Prefix { addr: 0x0a00_0000, length: 16 }];
-    let routes = vec![Range { first: 0, last: u32::MAX, protocol: 0 }];
-    let mut book = Book { pool, routes, history: Vec::new(), live: Vec::new() };
+    let routes = Range { first: 0, last: u32::MAX, protocol: 0 };
+    let mut book = Book::new(Prefix { addr: 0x0a00_0000, length: 16 }, routes);
     for tunnel in 0..live {
-        let number = book.open();
-        book.assign(number, Prefix { addr: addr_of(tunnel), length: 32 });
+        let number = book.open(0);
+        book.assign(0, number, Prefix { addr: addr_of(tunnel), length: 32 });
     }
     book
 }
@@ -215,9 +218,9 @@ fn rounds(live: u32, count: u32, block: Prefix) -> u64 {
     let mut book = filled(live);
     let mut sum = 0u64;
     for _ in 0..count {
-        let number = book.open();
-        let told = book.assign(number, block);
-        book.close(number);
+        let number = book.open(0);
+        let told = book.assign(0, number, block);
+        book.close(0, number);
         sum = sum.wrapping_add(u64::from(number)).wrapping_add(told);
     }
     sum + u64::from(keeps(&book))

@@ -3,6 +3,7 @@ ghost use Rattle.std.specs.Prelude.{◌≡◌, ◌<◌};
 ghost use Rattle.mq_turn.specs.Passes.{IsOf, first_pass};
 
 mod joins;
+mod many;
 mod replay;
 mod tunnels;
 
