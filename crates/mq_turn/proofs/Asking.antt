@@ -1,9 +1,9 @@
 -- What an ask in its turn comes to.
-use Rattle.std.proofs.Common.{◌≡◌, ◌≢◌, ℕ, List, [], ◌∷◌, ◌++◌, sym, refl, ap, ◌∙◌, subst}
+use Rattle.std.proofs.Common.{◌≡◌, ◌≢◌, ℕ, List, ◌++◌, sym, refl, ap, ◌∙◌, subst}
 use Rattle.std.specs.List.{All}
 use Rattle.atomic_table.specs.Seated.{TableId}
 use Rattle.mq_turn.specs.History.{StartsWith, Adds, by}
-use Rattle.mq_turn.specs.Passes.{PassOf, Turned, mine}
+use Rattle.mq_turn.specs.Passes.{PassOf, Turned}
 use Rattle.mq_turn.specs.Steps.{Seated}
 use Rattle.mq_turn.proofs.Histories.{by_all, by_append, others_made}
 

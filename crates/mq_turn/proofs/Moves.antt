@@ -1,7 +1,6 @@
 -- Each step of a call in its turn keeps the rule.
-use Rattle.std.proofs.Common.{◌≡◌, ◌≢◌, ℕ, zero, suc, eqb, ◌+◌, ◌^◌, ◌<◌, ◌≤◌, ◌⊎◌, inl, inr, ⊎_elim, List, [], ◌∷◌, ◌++◌, map, length, get_or, set, sym, refl, ap, ◌∙◌, subst, arith}
-use Rattle.std.specs.Prelude.{Option, Some, None}
-use Rattle.std.specs.List.{All}
+use Rattle.std.proofs.Common.{◌≡◌, ◌≢◌, ℕ, zero, suc, eqb, ◌+◌, ◌^◌, ◌<◌, ◌≤◌, ◌⊎◌, inl, inr, ⊎_elim, List, [], ◌∷◌, map, length, get_or, set, sym, refl, ap, ◌∙◌, subst, arith}
+use Rattle.std.specs.Prelude.{Option, Some}
 use Rattle.std.specs.Option.{unwrap_or}
 use Rattle.std.proofs.lemmas.List.Elements.{All-nil}
 use mathlib.Core.Option.{none, some, some-injective, some-ne-none}
@@ -10,18 +9,17 @@ use mathlib.Core.Logic.{dite}
 use native.Mathlib.Decide.{ℕ_discrete, dec_lt}
 use lib.ListN.{get_elem?}
 use prog.Atomic.{either}
-use Rattle.atomic_table.specs.Table.{State, Me, Act, Step, step, keeps, takes, gives, Valid, Allows, stepped, carried_after, opening, rest, put_back}
+use Rattle.atomic_table.specs.Table.{State, Me, Act, step, keeps, takes, gives, Valid, Allows, stepped, carried_after, opening, put_back}
 use Rattle.atomic_table.proofs.Lists.{at_set, set_else, set_again, exchanged}
 use Rattle.mq_turn.specs.declared.view.Stage.{Stage}
 use Rattle.mq_turn.specs.declared.view.Stage.TheVariants.{Idle, Waiting, Serving}
 use Rattle.mq_turn.specs.declared.view.View.{View}
 use Rattle.mq_turn.specs.declared.view.Known.{Known}
 use Rattle.mq_turn.specs.History.{StartsWith, Fits, by, Adds}
-use Rattle.mq_turn.specs.Passes.{IsNamed}
 use Rattle.mq_turn.specs.Rule.{HasWords, InStage, HasTicket, newcomer, IsLive, HasNumber, Stands, IsHome, IsSlot, IsTurn}
-use Rattle.mq_turn.specs.Steps.{Draws, Looks, Takes, GoesOn, Publishes, PassesOn}
+use Rattle.mq_turn.specs.Steps.{Draws, Looks, Publishes, PassesOn}
 use Rattle.mq_turn.proofs.Histories.{by_none, by_append, stands_whole, fits_more, all_fit_more}
-use Rattle.mq_turn.proofs.Words.{set_next, set_served, set_count, no_words}
+use Rattle.mq_turn.proofs.Words.{set_next, set_served, set_count}
 
 -- what was set is there
 pub there : {A : Type 0} (l : List A) (i : ℕ) (a b : A) → get_elem? l i ≡ some a → get_elem? (set l i b) i ≡ some b

@@ -1,24 +1,21 @@
 -- A pass makes another, or takes one in, and the rule is kept.
-use Rattle.std.proofs.Common.{◌≡◌, ◌≢◌, ℕ, zero, suc, ◌+◌, ◌<◌, ◌≤◌, ◌⊎◌, inl, inr, ⊎_elim, List, [], ◌∷◌, ◌++◌, length, set, sym, refl, ap, ◌∙◌, subst, arith, true, false}
-use Rattle.std.specs.Prelude.{Option, Some, None, nat_lt, if◌then◌else◌}
-use Rattle.std.specs.List.{All}
+use Rattle.std.proofs.Common.{◌≡◌, ◌≢◌, ℕ, zero, suc, ◌<◌, ◌⊎◌, inl, inr, ⊎_elim, List, [], ◌∷◌, ◌++◌, length, set, sym, refl, ap, ◌∙◌, subst, arith}
+use Rattle.std.specs.Prelude.{Option, Some, None}
 use Rattle.std.proofs.lemmas.List.Elements.{All-nil, All-cons, All-append}
-use mathlib.Core.Option.{none, some, some-injective, some-ne-none}
+use mathlib.Core.Option.{some, some-injective, some-ne-none}
 use mathlib.Core.Logic.{dite}
 use native.Mathlib.Decide.{ℕ_discrete}
 use lib.ListN.{get_elem?}
 use Rattle.atomic_table.specs.Table.{State, Splits, Joins}
 use Rattle.atomic_table.proofs.Lists.{at_set, set_else, at_longer}
-use Rattle.mq_turn.specs.declared.view.Stage.{Stage}
-use Rattle.mq_turn.specs.declared.view.Stage.TheVariants.{Idle, Waiting, Serving}
+use Rattle.mq_turn.specs.declared.view.Stage.TheVariants.{Idle, Serving}
 use Rattle.mq_turn.specs.declared.view.View.{View}
 use Rattle.mq_turn.specs.declared.view.Known.{Known}
-use Rattle.mq_turn.specs.History.{StartsWith, Fits, by, longer}
-use Rattle.mq_turn.specs.Passes.{IsNamed}
-use Rattle.mq_turn.specs.Rule.{InStage, HasTicket, IsLive, HasNumber, Stands, IsSlot, IsTurn}
+use Rattle.mq_turn.specs.History.{Fits, by, longer}
+use Rattle.mq_turn.specs.Rule.{InStage, HasTicket, IsLive, HasNumber, Stands, IsTurn}
 use Rattle.mq_turn.specs.Steps.{made_more, made_of, joined, known_of, spent}
 use Rattle.mq_turn.proofs.Histories.{none_before, fits_longer, named_append, named_front, named_back}
-use Rattle.mq_turn.proofs.Moves.{held_by, moved, slot_stays, there}
+use Rattle.mq_turn.proofs.Moves.{held_by, moved, slot_stays}
 
 -- the last is where the list ended
 at_end : {A : Type 0} (l : List A) (a b : A) (j : ℕ) → get_elem? (l ++ a ∷ []) j ≡ some b → (get_elem? l j ≡ some b) ⊎ ((j ≡ length l) × (a ≡ b))

@@ -1,5 +1,5 @@
 -- A step changes one of the three words.
-use Rattle.std.proofs.Common.{◌≡◌, ℕ, List, length, set, get_or, ◌∙◌, arith, length-set, get_or-set_other, get_or-set_same, replicate, refl}
+use Rattle.std.proofs.Common.{◌≡◌, ℕ, List, length, set, ◌∙◌, arith, length-set, get_or-set_other, get_or-set_same, replicate, refl}
 use Rattle.mq_turn.specs.Rule.{HasWords}
 
 pub set_next : (ws : List ℕ) (next served count n m : ℕ) → HasWords ws next served count → n ≡ m → HasWords (set ws 0 n) m served count

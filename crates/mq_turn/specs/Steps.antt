@@ -1,9 +1,7 @@
 -- What each step of a turn tells the pass that makes it.
 use Rattle.std.specs.Prelude.{◌≡◌, ◌≢◌, ℕ, suc, ◌+◌, List, [], ◌∷◌, ◌++◌, Option, Some, None}
-use mathlib.Core.Option as maybe
 use Rattle.atomic_table.specs.Table.{Me, Step, rest}
 use Rattle.mq_turn.specs.declared.view.Known.{Known}
-use Rattle.mq_turn.specs.declared.view.Stage.{Stage}
 use Rattle.mq_turn.specs.declared.view.Stage.TheVariants.{Idle, Waiting, Serving}
 use Rattle.mq_turn.specs.declared.view.View.{View}
 use Rattle.mq_turn.specs.History.{StartsWith, by, longer}

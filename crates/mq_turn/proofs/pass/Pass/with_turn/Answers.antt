@@ -1,4 +1,4 @@
-use Rattle.std.proofs.Common.{◌≡◌, sym, ap, ap₂, refl, ◌∙◌, subst, Some, None, ◌∷◌, []}
+use Rattle.std.proofs.Common.{◌≡◌, sym, ap, ap₂, ◌∙◌, subst, []}
 use Rattle.mq_turn.specs.declared.view.Stage.TheVariants.{Idle}
 use Rattle.mq_turn.specs.Calls.{serving, passed}
 use Rattle.mq_turn.specs.History.{StartsWith, Adds, by}

@@ -1,4 +1,4 @@
-use Rattle.std.proofs.Common.{◌≡◌, sym, ap, refl, ◌∙◌, subst, arith, Some, ◌∷◌, []}
+use Rattle.std.proofs.Common.{◌≡◌, sym, ap, ◌∙◌, arith, Some, ◌∷◌}
 use Rattle.atomic_table.specs.Table.{rest}
 use Rattle.mq_turn.specs.declared.view.Stage.TheVariants.{Waiting}
 use Rattle.mq_turn.proofs.Moves.{looks}

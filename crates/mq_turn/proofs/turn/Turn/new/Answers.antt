@@ -1,4 +1,4 @@
-use Rattle.std.proofs.Common.{◌≡◌, sym, ap, refl, ◌∙◌, subst, arith, Some, ◌∷◌, ◌++◌, []}
+use Rattle.std.proofs.Common.{sym, ap, ◌∙◌, Some, ◌∷◌, ◌++◌, []}
 use Rattle.mq_turn.proofs.Moves.{begins}
 use Rattle.mq_turn.proofs.Words.{no_words}
 use Rattle.mq_turn.proofs.turn.Turn.new.Goals as goal
