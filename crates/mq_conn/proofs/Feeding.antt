@@ -44,7 +44,7 @@ takes_so c mid d setup piece g h once told udp fronted keeps reads settles s sta
         let idle = reads_on c p is can in
         let R : Option Front → Type 0 = λ o. IsRead o c.ending p.front p.streams (drop p.given p.out) in
         let read = subst R fronted is.read in
-        let r = reads udp p.front p.streams (drop p.given p.out) read.1 in
+        let r = reads p.front p.streams (drop p.given p.out) read.1 in
         let acts_are : mid.due ≡ r.acts = r.after_is ∙ ap (λ (ds : List Due). ds ++ r.acts) idle.due in
         let loose = took_loose setup x piece r.events r.text r.front r.acts r.others once told udp is.lawful can r.brings r.asks in
         let y : machine.Conn = record x { front = r.front; streams = r.others; due = r.acts; out = p.out ++ r.text } in

@@ -1,5 +1,5 @@
 -- What a reply of the book does to what the core stands for.
-use Rattle.std.proofs.Common.{◌≡◌, ◌≢◌, ℕ, ◌<◌, ◌==◌, Bool, true, cond, List, [], ◌∷◌, ◌++◌, drop, Option, Some, None, Result, Ok, Err, refl, sym, ap, ◌∙◌, subst}
+use Rattle.std.proofs.Common.{◌≡◌, ◌≢◌, ℕ, ◌<◌, ◌==◌, Bool, true, false, cond, List, [], ◌∷◌, ◌++◌, drop, Option, Some, None, Result, Ok, Err, refl, sym, ap, ◌∙◌, subst}
 use Rattle.std.specs.Prelude.{find, slice_get, vec_len, vec_capacity}
 use Rattle.std.specs.Result.{IsErr}
 use Rattle.std.specs.Option.{is_some, unwrap_or}
@@ -18,8 +18,8 @@ use Rattle.mq_machine.specs.declared.act.StreamAct.{StreamAct}
 use Rattle.mq_machine.specs.declared.act.StreamAct.TheVariants as stream
 use Rattle.mq_machine.specs.declared.act.Due.{Due}
 use Rattle.mq_machine.specs.declared.act.Due.TheVariants as due
-use Rattle.mq_machine.specs.Done.{Done, closed, done_by, ending_done, opened, refused, tunnel_done}
-use Rattle.mq_machine.specs.Lawful.{Follows, IsLawful, IsLoose, IsOver, IsUdp, has_on}
+use Rattle.mq_machine.specs.Done.{Done, closed, done_by, due_done, ending_done, opened, refused, stream_done, tunnel_done}
+use Rattle.mq_machine.specs.Lawful.{Follows, IsLawful, IsLoose, IsOver, IsUdp, kind_on}
 use Rattle.mq_machine.specs.Settle.{settle}
 use Rattle.mq_machine.specs.Silent.{tunnels_after}
 use Rattle.mq_machine.specs.State as machine
@@ -33,14 +33,20 @@ use Rattle.mq_conn.specs.declared.conn.Conn.{Conn}
 use Rattle.mq_conn.specs.declared.conn.First.{First}
 use Rattle.mq_conn.specs.declared.conn.First.TheVariants as first
 use Rattle.mq_conn.specs.declared.conn.Tunnel.{Tunnel}
-use Rattle.mq_conn.specs.Closing.{ClosesSo, OpensOn, closes_due, closes_dues, closing}
+use Rattle.mq_conn.specs.Closing.{ClosesSo, OpensOn, closes_due, closes_dues, closes_stream, closing}
 use Rattle.mq_conn.specs.Conns.{Does, GivesUp, HasRoom, Hears, HearsNone, HearsOne, Leaves, Stands, behind, tunnel_is, tunnels_of}
 use Rattle.mq_conn.proofs.Standing.{due_is, ending_is, fronted, gone, gone_left, tunnels_are}
 use Rattle.mq_conn.proofs.Answering.{does_due, leads, not_over, some_done, stream_leads}
 
 -- ---- a tunnel closes
 
-closes_is : (d : Due) (c : Closing) → closes_due d ≡ Some c → d ≡ due.Do (act.OfStream c.stream (stream.Close c.why))
+-- what closes the tunnel of this stream, where the book has closed it
+pub record ClosesBy (d : Due) (c : Closing) : Type 0 where
+  pub asks : StreamAct
+  pub is : d ≡ due.Do (act.OfStream c.stream asks)
+  pub closes : (x : machine.Conn) (t : machine.Tunnel) → stream_done x t asks (Replied reply.Closed) ≡ Some (closed x t c.why)
+
+closes_is : (d : Due) (c : Closing) → closes_due d ≡ Some c → ClosesBy d c
 closes_is (due.Do (act.Bind id goal)) c h = absurd cc
 closes_is (due.Do (act.Open id goal)) c h = absurd cc
 closes_is (due.Do (act.Refuse id status rule)) c h = absurd cc
@@ -49,20 +55,28 @@ closes_is (due.Do (act.OfStream id (stream.Payload n payload))) c h = absurd cc
 closes_is (due.Do (act.OfStream id (stream.Packet n packet flow))) c h = absurd cc
 closes_is (due.Do (act.OfStream id (stream.Push n to packet))) c h = absurd cc
 closes_is (due.Do (act.OfStream id (stream.Drop n cause))) c h = absurd cc
-closes_is (due.Do (act.OfStream id (stream.Assign asked))) c h = absurd cc
-closes_is (due.Do (act.OfStream id (stream.Advertise ranges))) c h = absurd cc
+closes_is (due.Do (act.OfStream id (stream.Assign asked))) c h =
+    let P : Closing → Type 0 = λ k. ClosesBy (due.Do (act.OfStream id (stream.Assign asked))) k in
+    subst P (ap (λ (o : Option Closing). unwrap_or o c) h) (record { asks = stream.Assign asked; is = refl; closes = λ x t. refl })
+closes_is (due.Do (act.OfStream id (stream.Advertise ranges))) c h =
+    let P : Closing → Type 0 = λ k. ClosesBy (due.Do (act.OfStream id (stream.Advertise ranges))) k in
+    subst P (ap (λ (o : Option Closing). unwrap_or o c) h) (record { asks = stream.Advertise ranges; is = refl; closes = λ x t. refl })
 closes_is (due.Do (act.OfStream id (stream.Close reason))) c h =
-    ap (λ (o : Option Closing). due.Do (act.OfStream (unwrap_or o c).stream (stream.Close (unwrap_or o c).why))) h
+    let P : Closing → Type 0 = λ k. ClosesBy (due.Do (act.OfStream id (stream.Close reason))) k in
+    subst P (ap (λ (o : Option Closing). unwrap_or o c) h) (record { asks = stream.Close reason; is = refl; closes = λ x t. refl })
 closes_is (due.Spend id size) c h = absurd cc
 closes_is (due.Fault code) c h = absurd cc
 
 -- this closes a tunnel first
-abbrev pub ClosesFirst : List Due → Closing → Type 0
-ClosesFirst dues c = (rest : List Due) × (dues ≡ due.Do (act.OfStream c.stream (stream.Close c.why)) ∷ rest)
+pub record ClosesFirst (dues : List Due) (c : Closing) : Type 0 where
+  pub d : Due
+  pub rest : List Due
+  pub is : dues ≡ d ∷ rest
+  pub by : ClosesBy d c
 
 dues_close : (dues : List Due) (c : Closing) → closes_dues dues ≡ Some c → ClosesFirst dues c
 dues_close [] c h = absurd cc
-dues_close (d ∷ rest) c h = (rest, ap (λ (x : Due). x ∷ rest) (closes_is d c h))
+dues_close (d ∷ rest) c h = record { d = d; rest = rest; is = refl; by = closes_is d c h }
 
 closing_all : (f : Option First) (dues : List Due) → closing f dues ≡ closes_dues (behind f dues)
 closing_all None dues = refl
@@ -71,6 +85,37 @@ closing_all (Some (first.Close id reason)) dues = refl
 
 pub closing_first : (f : Option First) (dues : List Due) (c : Closing) → closing f dues ≡ Some c → ClosesFirst (behind f dues) c
 closing_first f dues c h = dues_close (behind f dues) c (sym (closing_all f dues) ∙ h)
+
+-- where nothing closes one, no tunnel was to close
+stream_open : (id : ℕ) (o : Option machine.Tunnel) (x : machine.Conn) (a : StreamAct) → closes_stream id a ≡ None → tunnel_done x o a (Replied reply.Closed) ≡ None
+stream_open id None x a h = refl
+stream_open id (Some t) x (stream.Payload n payload) h = refl
+stream_open id (Some t) x (stream.Packet n packet flow) h = refl
+stream_open id (Some t) x (stream.Push n to packet) h = refl
+stream_open id (Some t) x (stream.Drop n cause) h = refl
+stream_open id (Some t) x (stream.Assign asked) h = absurd cc
+stream_open id (Some t) x (stream.Advertise ranges) h = absurd cc
+stream_open id (Some t) x (stream.Close reason) h = absurd cc
+
+dues_open : (x : machine.Conn) (dues : List Due) → closes_dues dues ≡ None → due_done x dues (Replied reply.Closed) ≡ None
+dues_open x [] h = refl
+dues_open x (due.Do (act.Bind id goal) ∷ rest) h = refl
+dues_open x (due.Do (act.Open id goal) ∷ rest) h = refl
+dues_open x (due.Do (act.Refuse id status rule) ∷ rest) h = refl
+dues_open x (due.Do (act.Reset id code) ∷ rest) h = refl
+dues_open x (due.Do (act.OfStream id a) ∷ rest) h = stream_open id (tunnel_on x id) (record x { due = rest }) a h
+dues_open x (due.Spend id size ∷ rest) h = refl
+dues_open x (due.Fault code ∷ rest) h = refl
+
+open_by : (s : machine.Conn) (e : Option End) → e ≡ None → closes_dues s.due ≡ None → done_by s e (Replied reply.Closed) ≡ None
+open_by s None over h = dues_open s s.due h
+open_by s (Some reason) over h = absurd cc
+
+pub closes_none : (old e : Conn) (said : Note) → closing old.first old.due ≡ None → old.ending ≡ None → Does old e (Replied reply.Closed) said
+closes_none old e said is over s conn some =
+    let none = open_by s s.ending (ending_is old s conn.stands ∙ over) (ap closes_dues (due_is old s conn.stands) ∙ sym (closing_all old.first old.due) ∙ is) in
+    let f : true ≡ false = sym (some_done s (Replied reply.Closed) some) ∙ ap (λ (o : Done). is_some o) none in
+    absurd cc
 
 -- the tunnel of a stream that has one
 record Has (s : machine.Conn) (id : ℕ) : Type 0 where
@@ -87,22 +132,22 @@ pub closes_due_one : (old mid e : Conn) (c : Closing) (said : Note) → closing 
     → ClosesSo mid e c.stream c.why said → Does old e (Replied reply.Closed) said
 closes_due_one old mid e c said is over takes closes s conn some =
     let all = closing_first old.first old.due c is in
-    let rest = all.0 in
-    let d : Due = due.Do (act.OfStream c.stream (stream.Close c.why)) in
-    let mid_is = takes d rest all.1 in
+    let rest = all.rest in
+    let a = all.by.asks in
+    let mid_is = takes all.d rest all.is in
     let x = record s { due = rest } in
     let P : Conn → Type 0 = λ k. Stands k x in
-    let st : Stands mid x = subst P (sym mid_is) (fronted old s d rest all.1 conn.stands) in
+    let st : Stands mid x = subst P (sym mid_is) (fronted old s all.d rest all.is conn.stands) in
     let none : s.ending ≡ None = ending_is old s conn.stands ∙ over in
     let first_so : mid.first ≡ None = ap (λ (k : Conn). k.first) mid_is in
-    let due_so = due_is old s conn.stands ∙ all.1 in
+    let due_so = due_is old s conn.stands ∙ all.is ∙ ap (λ (d : Due). d ∷ rest) all.by.is in
     let D : Done → Type 0 = λ o. is_some o ≡ true in
-    let h = has_tunnel s x c.stream (stream.Close c.why) (Replied reply.Closed) (tunnel_on s c.stream) refl
-    (subst D (does_due s (act.OfStream c.stream (stream.Close c.why)) rest (Replied reply.Closed) none due_so) (some_done s (Replied reply.Closed) some)) in
+    let h = has_tunnel s x c.stream a (Replied reply.Closed) (tunnel_on s c.stream) refl
+    (subst D (does_due s (act.OfStream c.stream a) rest (Replied reply.Closed) none due_so) (some_done s (Replied reply.Closed) some)) in
     let r = closes x h.t st first_so (λ ending. absurd (ending none)) h.on in
     leads e s (Replied reply.Closed) said conn.lawful tt (record {
       x = (closed x h.t c.why).1;
-      does = stream_leads s c.stream (stream.Close c.why) rest (Replied reply.Closed) h.t none due_so h.on ∙ ap (λ (n : Note). Some (n, (closed x h.t c.why).1)) (sym r.0);
+      does = stream_leads s c.stream a rest (Replied reply.Closed) h.t none due_so h.on ∙ all.by.closes x h.t ∙ ap (λ (n : Note). Some (n, (closed x h.t c.why).1)) (sym r.0);
       stands = r.1;
     })
 
@@ -152,7 +197,7 @@ open_taken c mid s id goal waiting is mid_is st =
 
 udp_open : (s : machine.Conn) (id : ℕ) (goal : Goal) (rest : List Due) → IsLawful s → s.due ≡ due.Do (act.Open id goal) ∷ rest → IsUdp goal
 udp_open s id goal rest lawful is =
-    let P : List Due → Type 0 = λ ds. Follows (has_on s.tunnels) ds in
+    let P : List Due → Type 0 = λ ds. Follows (kind_on s.tunnels) ds in
     (subst P is lawful.loose.follows).1
 
 -- it opened

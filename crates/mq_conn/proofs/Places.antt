@@ -1,5 +1,5 @@
 -- The tunnel at a place.
-use Rattle.std.proofs.Common.{◌≡◌, ◌≢◌, ℕ, zero, suc, ◌≤◌, ◌<◌, ◌+◌, ◌==◌, cond, Bool, true, false, not, List, [], ◌∷◌, ◌++◌, length, filter, map, nat_le, nat_lt, Option, Some, None, slice_get, slice_set, inl, inr, refl, sym, ap, ◌∙◌, subst, arith, eq-eqb, ne_eqb}
+use Rattle.std.proofs.Common.{eqb-true, ◌≡◌, ◌≢◌, ℕ, zero, suc, ◌≤◌, ◌<◌, ◌+◌, ◌==◌, cond, Bool, true, false, not, List, [], ◌∷◌, ◌++◌, length, filter, map, nat_le, nat_lt, Option, Some, None, slice_get, slice_set, inl, inr, refl, sym, ap, ◌∙◌, subst, arith, eq-eqb, ne_eqb}
 use Rattle.std.specs.Prelude.{find, sum_by}
 use Rattle.std.proofs.lemmas.List.Sums.{sum_by-cons}
 use Rattle.mq_machine.specs.Done.{waits}
@@ -7,7 +7,7 @@ use Rattle.mq_machine.specs.Lawful.{Alone, has_on}
 use Rattle.mq_machine.specs.State as machine
 use Rattle.mq_machine.specs.State.{Waiting}
 use Rattle.mq_machine.specs.Steps.{set_waiting}
-use Rattle.mq_machine.proofs.Lawful.Lists.{In, in_has, itself, other_than}
+use Rattle.mq_machine.proofs.Lawful.Lists.{In, in_has, itself, unless_true, never}
 use Rattle.mq_conn.specs.declared.conn.Tunnel.{Tunnel}
 use Rattle.mq_conn.specs.Conns.{tunnel_is, tunnels_of}
 use Rattle.mq_conn.specs.Frames.{IsPlaceOf, HasNone, on_side}
@@ -53,6 +53,10 @@ in_at [] place t at = absurd cc
 in_at (x ∷ ts) zero t at = let same : x ≡ t = (let e = at in cc) in inl (ap tunnel_is same)
 in_at (x ∷ ts) (suc k) t at = inr (in_at ts k t at)
 
+-- a stream that none is on is none of theirs
+apart_on : (ts : List machine.Tunnel) (t : machine.Tunnel) (id : ℕ) → In t ts → has_on ts id ≡ false → (id == t.stream) ≡ false
+apart_on ts t id i none = unless_true (id == t.stream) (λ e. never (has_on ts id) (ap (has_on ts) (eqb-true id t.stream e) ∙ in_has ts t i) none)
+
 pub set_at : (ts : List Tunnel) (place : ℕ) (t : Tunnel) (ws : List Waiting) → Alone (tunnels_of ts) → slice_get ts place ≡ Some t
     → set_waiting t.stream ws (tunnels_of ts) ≡ tunnels_of (slice_set ts place (record t { waiting = ws }))
 set_at [] place t ws alone at = absurd cc
@@ -61,7 +65,7 @@ set_at (x ∷ ts) zero t ws alone at =
     let P : Tunnel → Type 0 = λ y. set_waiting y.stream ws (tunnel_is x ∷ tunnels_of ts) ≡ tunnel_is (record y { waiting = ws }) ∷ tunnels_of ts in
     subst P same (ap (λ (b : Bool). cond b (tunnel_is (record x { waiting = ws }) ∷ tunnels_of ts) (tunnel_is x ∷ set_waiting x.stream ws (tunnels_of ts))) (itself x.stream))
 set_at (x ∷ ts) (suc k) t ws alone at =
-    let other : (x.stream == t.stream) ≡ false = other_than (has_on (tunnels_of ts)) t.stream x.stream (in_has (tunnels_of ts) (tunnel_is t) (in_at ts k t at)) alone.0 in
+    let other : (x.stream == t.stream) ≡ false = apart_on (tunnels_of ts) (tunnel_is t) x.stream (in_at ts k t at) alone.0 in
     ap (λ (b : Bool). cond b (tunnel_is (record x { waiting = ws }) ∷ tunnels_of ts) (tunnel_is x ∷ set_waiting t.stream ws (tunnels_of ts))) other
     ∙ ap (λ (us : List machine.Tunnel). tunnel_is x ∷ us) (set_at ts k t ws alone.1 at)
 

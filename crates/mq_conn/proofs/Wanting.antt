@@ -15,7 +15,10 @@ use Rattle.mq_machine.specs.declared.act.StreamAct.{StreamAct}
 use Rattle.mq_machine.specs.declared.act.StreamAct.TheVariants as stream
 use Rattle.mq_machine.specs.declared.act.Due.{Due}
 use Rattle.mq_machine.specs.declared.act.Due.TheVariants as due
-use Rattle.mq_machine.specs.Lawful.{Follows, IsAsked, IsUdp, has_on}
+use Rattle.mq_machine.specs.Lawful.{Follows, IsAsked, IsUdp, kind_on}
+use Rattle.mq_addr.specs.declared.kind.Kind.TheVariants as kind
+use Rattle.mq_machine.proofs.Lawful.Idle.{served_asked}
+use Rattle.mq_machine.proofs.Lawful.Lists.{kind_there, some_asked}
 use Rattle.mq_machine.specs.Settle.{gives_up}
 use Rattle.mq_machine.specs.State as machine
 use Rattle.mq_machine.specs.State.{Stream, owed}
@@ -58,14 +61,14 @@ live_on None h = absurd cc
 live_on (Some t) h = (t, refl)
 
 -- what is due first follows
-pub follows_first : (c : Conn) (p : Past) (a : Act) (rest : List Due) → Is c p → behind c.first c.due ≡ due.Do a ∷ rest → Follows (has_on (state c p).tunnels) (due.Do a ∷ rest)
-follows_first c p a rest h is = subst (λ (ds : List Due). Follows (has_on (state c p).tunnels) ds) is h.lawful.loose.follows
+pub follows_first : (c : Conn) (p : Past) (a : Act) (rest : List Due) → Is c p → behind c.first c.due ≡ due.Do a ∷ rest → Follows (kind_on (state c p).tunnels) (due.Do a ∷ rest)
+follows_first c p a rest h is = subst (λ (ds : List Due). Follows (kind_on (state c p).tunnels) ds) is h.lawful.loose.follows
 
 -- no act in front lets it wait for its client, but a payload
-pub first_waits : (c : Conn) (p : Past) (f : First) (rest : List Due) → Follows (has_on (state c p).tunnels) (due.Do (act_of f) ∷ rest) → may_wait (act_want (state c p) (act_of f)) ≡ true → ⊥
+pub first_waits : (c : Conn) (p : Past) (f : First) (rest : List Due) → Follows (kind_on (state c p).tunnels) (due.Do (act_of f) ∷ rest) → may_wait (act_want (state c p) (act_of f)) ≡ true → ⊥
 first_waits c p (first.Open id goal waiting) rest h k = absurd cc
 first_waits c p (first.Close id reason) rest h k =
-    let live = live_on (find_on c id) h.0 in
+    let live = live_on (find_on c id) (sym (kind_there (state c p).tunnels id) ∙ some_asked (kind_on (state c p).tunnels id) (stream.Close reason) h.0) in
     let e : may_wait (tunnel_want (find_on c id) (stream.Close reason)) ≡ false = ap (λ (o : Option machine.Tunnel). may_wait (tunnel_want o (stream.Close reason))) live.1 in
     let f : true ≡ false = sym k ∙ e in
     absurd cc
@@ -191,11 +194,11 @@ bind_want c id goal rest w none front is wants =
     let dues = due_front c (due.Do (act.Bind id goal) ∷ rest) front is in
     wants_by c (due.Do (act.Bind id goal) ∷ rest) w none dues (λ p h. wants (follows_first c p (act.Bind id goal) rest h dues).1 id)
 
-pub asked_want : (c : Conn) (id : ℕ) (a : StreamAct) (rest : List Due) (w : CoreWant) → c.ending ≡ None → c.first ≡ None → c.due ≡ due.Do (act.OfStream id a) ∷ rest → (IsAsked a → IsWant w (tunnel_want (find_on c id) a))
+pub asked_want : (c : Conn) (id : ℕ) (a : StreamAct) (rest : List Due) (w : CoreWant) → c.ending ≡ None → c.first ≡ None → c.due ≡ due.Do (act.OfStream id a) ∷ rest → (IsAsked kind.Udp a → IsWant w (tunnel_want (find_on c id) a))
     → (s : machine.Conn) → IsConn c s → IsWant w (want_of s)
 asked_want c id a rest w none front is wants =
     let dues = due_front c (due.Do (act.OfStream id a) ∷ rest) front is in
-    wants_by c (due.Do (act.OfStream id a) ∷ rest) w none dues (λ p h. wants (follows_first c p (act.OfStream id a) rest h dues).1)
+    wants_by c (due.Do (act.OfStream id a) ∷ rest) w none dues (λ p h. wants (served_asked (state c p).tunnels id a h.lawful.loose.served (follows_first c p (act.OfStream id a) rest h dues).0))
 
 pub open_want : (c : Conn) (id : ℕ) (goal : Goal) (rest : List Due) (w : CoreWant) → c.ending ≡ None → behind c.first c.due ≡ due.Do (act.Open id goal) ∷ rest → w ≡ core_want.Ask (call.Open c.number id c.actor goal)
     → (s : machine.Conn) → IsConn c s → IsWant w (want_of s)

@@ -34,8 +34,8 @@ closes_stream id (stream.Payload n payload) = None
 closes_stream id (stream.Packet n packet flow) = None
 closes_stream id (stream.Push n to packet) = None
 closes_stream id (stream.Drop n cause) = None
-closes_stream id (stream.Assign asked) = None
-closes_stream id (stream.Advertise ranges) = None
+closes_stream id (stream.Assign asked) = Some (record { stream = id; why = why.Full })
+closes_stream id (stream.Advertise ranges) = Some (record { stream = id; why = why.Full })
 
 abbrev pub closes_act : Act → Option Closing
 closes_act (act.OfStream id a) = closes_stream id a

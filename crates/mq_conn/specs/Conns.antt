@@ -102,7 +102,7 @@ pub record Stands (c : Conn) (s : machine.Conn) : Type 0 where
   pub room : HasRoom c.first (vec_len c.tunnels) (vec_capacity c.tunnels)
   pub opens : NoOpens c.due
 
--- The core stands for this state of a connection whose tunnels are for UDP.
+-- The core stands for this lawful state.
 pub record IsConn (c : Conn) (s : machine.Conn) : Type 0 where
   pub stands : Stands c s
   pub lawful : IsLawful s

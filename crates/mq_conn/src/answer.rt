@@ -4,27 +4,16 @@ ghost use Rattle.mq_addr.specs.declared.range.Range.{Range};
 ghost use Rattle.mq_machine.specs.Done.{without_tunnel};
 ghost use Rattle.mq_machine.specs.declared.act.Due.{Due};
 ghost use Rattle.mq_machine.specs.State as machine;
-ghost use Rattle.mq_machine.specs.State.{kind_of};
 ghost use Rattle.mq_machine.specs.Want.{Replied};
 ghost use Rattle.mq_conn.specs.Conns.{Does, Hears, MayHear, Refuses, Stands, behind};
 ghost use Rattle.mq_conn.specs.Closing.{ClosesFront, ClosesOn, ClosesSo, OpensOn, closing, closes_first, closes_due, closes_act, closes_stream};
 
 use crate::conn::{Conn, First, Tunnel};
 use crate::queue::Queue;
-use mq_addr::Kind;
+use mq_front::kind_of;
 use mq_machine::{Act, Due, StreamAct};
 use mq_talk::{Goal, Note, Reply, Why};
 use mq_wire::NoMemory;
-
-/// The kind of tunnel that leads to a goal.
-fn kind_of(goal: Goal) -> Kind
-    ensures { result ≡ kind_of goal }
-{
-    match goal {
-        Goal::Udp { .. } => Kind::Udp,
-        Goal::Ip { .. } => Kind::Ip,
-    }
-}
 
 /// The stream whose tunnel is to close, and why.
 #[derive(Clone, Copy)]
@@ -51,6 +40,10 @@ fn closes_stream(stream: u32, act: &StreamAct) -> Option<Closing>
 {
     match act {
         StreamAct::Close { why } => Some(Closing { stream, why: *why }),
+        StreamAct::Assign { .. } | StreamAct::Advertise { .. } => Some(Closing {
+            stream,
+            why: Why::Full,
+        }),
         _ => None,
     }
 }

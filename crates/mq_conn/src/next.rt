@@ -3,6 +3,7 @@ ghost use Rattle.std.specs.Prelude.{◌≡◌, ◌≤◌, ◌∷◌, Some, None,
 ghost use Rattle.mq_machine.specs.State as machine;
 ghost use Rattle.mq_machine.specs.Steps as steps;
 ghost use Rattle.mq_machine.specs.Steps.{is_nothing};
+ghost use Rattle.mq_addr.specs.declared.kind.Kind.TheVariants as kind;
 ghost use Rattle.mq_machine.specs.Lawful.{IsUdp, IsAsked};
 ghost use Rattle.mq_machine.specs.Want as machine_want;
 ghost use Rattle.mq_machine.specs.Want.{want_of, stream_want, tunnel_want};
@@ -177,7 +178,7 @@ impl Conn {
 
     /// What is asked of a stream's live tunnel.
     fn want_of_stream(&self, stream: u32, act: &StreamAct) -> Want
-        ensures { IsAsked act.now → IsWant result (tunnel_want (find_on self.now stream) act.now) }
+        ensures { IsAsked kind.Udp act.now → IsWant result (tunnel_want (find_on self.now stream) act.now) }
     {
         match self.on(stream) {
             None => Want::Nothing,
@@ -188,7 +189,7 @@ impl Conn {
 
 /// What is asked of this tunnel.
 fn want_of(tunnel: &Tunnel, act: &StreamAct) -> Want
-    ensures { IsAsked act.now → IsWant result (stream_want (tunnel_is tunnel.now) act.now) }
+    ensures { IsAsked kind.Udp act.now → IsWant result (stream_want (tunnel_is tunnel.now) act.now) }
 {
     match act {
         StreamAct::Payload { n, .. } => Want::SendUdp {

@@ -261,6 +261,7 @@ frames_to apart setup ts piece before after old new h streams owes was r =
       others = r.puts.others;
       brings = record { told = r.told; next = alone; reads = subst Q (sym was.is) behind.reads; brings = r.puts.brings; text_is = refl; new_is = refl };
       asks = r.puts.asks;
+      may = r.puts.may;
       after_is = r.puts.after_is;
       stands = record {
         core = r.next;
@@ -273,17 +274,17 @@ frames_to apart setup ts piece before after old new h streams owes was r =
 -- one behind the preface
 pub reads_on : ReadsApart → (setup : Setup) (ts : List Tunnel) (piece : List ℕ) (before after : List Due) (old new : Many) → ReadsFrames setup ts piece before after old new
     → Reads setup ts piece before after (Http2 old) (Http2 new)
-reads_on apart setup ts piece before after old new reads udp (machine.Head bytes) streams owes is = absurd is
-reads_on apart setup ts piece before after old new reads udp OverHttp1 streams owes is = absurd is
-reads_on apart setup ts piece before after old new reads udp (OverHttp2 h) streams owes is =
-    frames_to apart setup ts piece before after old new h streams owes is (reads udp is.core streams is.stands)
+reads_on apart setup ts piece before after old new reads (machine.Head bytes) streams owes is = absurd is
+reads_on apart setup ts piece before after old new reads OverHttp1 streams owes is = absurd is
+reads_on apart setup ts piece before after old new reads (OverHttp2 h) streams owes is =
+    frames_to apart setup ts piece before after old new h streams owes is (reads is.core streams is.stands)
 
 -- and the one that ends it
 pub reads_frames : ReadsApart → (setup : Setup) (ts : List Tunnel) (count : ℕ) (piece frames : List ℕ) (before after : List Due) (old new : Many) → opening_of (take count preface ++ piece) ≡ Whole frames → IsHttp2 old new_state []
     → ReadsFrames setup ts frames before after old new → ReadsBehind setup ts count piece before after (Http2 new)
 unfolding bare
-reads_frames apart setup ts count piece frames before after old new whole stands reads udp few =
-    let r : FramesReadTo setup ts new_state [] frames before after new = reads udp new_state [] stands in
+reads_frames apart setup ts count piece frames before after old new whole stands reads few =
+    let r : FramesReadTo setup ts new_state [] frames before after new = reads new_state [] stands in
     let again = apart [] 0 new_state frames r.told r.next r.reads in
     let none : r.next.given ≡ 0 = ap (λ (t : State). t.given) again.is in
     let front : machine.Front = OverHttp2 (record r.next { out = [] }) in
@@ -296,6 +297,7 @@ reads_frames apart setup ts count piece frames before after old new whole stands
       others = r.puts.others;
       brings = subst P (sym whole) (record { told = r.told; next = r.next; reads = r.reads; brings = r.puts.brings; text_is = refl; new_is = refl });
       asks = r.puts.asks;
+      may = r.puts.may;
       after_is = r.puts.after_is;
       stands = record {
         core = r.next;

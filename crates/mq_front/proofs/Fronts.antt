@@ -1,5 +1,5 @@
 -- The calls of a front, by how far its bytes were read.
-use Rattle.std.proofs.Common.{◌≡◌, ◌==◌, ◌+◌, ◌<◌, ◌≤◌, not, ℕ, Bool, false, cond, List, [], ◌∷◌, ◌++◌, length, take, drop, filter, Some, None, Result, Ok, Err, refl, sym, ap, ◌∙◌, subst, append-nil, arith, eq-eqb, ne_eqb}
+use Rattle.std.proofs.Common.{◌≡◌, ◌==◌, ◌<◌, not, ℕ, Bool, false, cond, List, [], ◌∷◌, ◌++◌, length, take, filter, Some, None, Result, Ok, Err, refl, sym, ap, ◌∙◌, subst, append-nil, arith, eq-eqb, ne_eqb}
 use Rattle.std.proofs.lemmas.List.{length-take-le}
 use Rattle.std.specs.Prelude.{OnOk, IfOk}
 use Rattle.mq_h2.specs.Acts as acts
@@ -8,7 +8,6 @@ use Rattle.mq_h2.specs.Laws.{ReadsApart}
 use Rattle.mq_h2.specs.Stand.{IsH2}
 use Rattle.mq_h2.specs.State as h2
 use Rattle.mq_h2.specs.State.{owed}
-use Rattle.mq_streams.specs.History.{total, arrived_on, consumed_on}
 use Rattle.mq_head.specs.declared.reader.HeadReader.{HeadReader}
 use Rattle.mq_head.specs.declared.step.HeadStep.{HeadStep}
 use Rattle.mq_head.specs.declared.step.HeadStep.TheVariants.{More}
@@ -22,8 +21,7 @@ use Rattle.mq_machine.specs.declared.act.Due.{Due}
 use Rattle.mq_machine.specs.declared.setup.Setup.{Setup}
 use Rattle.mq_machine.specs.Done.{is_begun}
 use Rattle.mq_machine.specs.Http2.{closes}
-use Rattle.mq_machine.specs.Settle.{spending, updating}
-use Rattle.mq_machine.specs.Steps.{frame_size}
+use Rattle.mq_machine.specs.Settle.{updating}
 use Rattle.mq_machine.specs.Reading.{Opening, Part, Other, OpeningBrings, OtherBrings, EndsIn, opening_of, preface, stream_of}
 use Rattle.mq_machine.specs.State as machine
 use Rattle.mq_machine.specs.State.{Stream, Tunnel, OverHttp1, OverHttp2}
@@ -33,10 +31,10 @@ use Rattle.mq_front.specs.declared.front.Front.{Front}
 use Rattle.mq_front.specs.declared.front.Front.TheVariants.{Preface, Head, Http1, Http2}
 use Rattle.mq_front.specs.declared.http1.Http1.{Http1 as One}
 use Rattle.mq_front.specs.declared.http2.Http2.{Http2 as Many}
-use Rattle.mq_front.specs.Fronts.{IsHttp1, IsFront, OverFrames, HasPut, Closed, Framed, CanSpend, ReadsTo, Reads, Finishes, finish_of}
+use Rattle.mq_front.specs.Fronts.{IsHttp1, IsFront, OverFrames, HasPut, Closed, Framed, ReadsTo, Reads, Finishes, finish_of}
 use Rattle.mq_front.specs.Events.{IsHttp2, ReadsFrames}
 use Rattle.mq_front.specs.Parts.{HasPutFrames, AnswersHead, LedTo, ReadsBehind, ReadsData, ReadsOther, EndsData}
-use Rattle.mq_front.proofs.Apart.{framed_by, reads_on, room_by, spent_by, updated_by, wrote_by}
+use Rattle.mq_front.proofs.Apart.{framed_by, reads_on, updated_by}
 use Rattle.mq_front.proofs.Starts.{other_stays, part_is}
 
 -- ---- how far the bytes were read
@@ -76,7 +74,7 @@ nothing v f streams owes is = subst (λ (xs : List ℕ). IsFront v f streams xs)
 pub waits : (setup : Setup) (ts : List Tunnel) (count : ℕ) (piece : List ℕ) (more : ℕ) (before : List Due)
     → (count < 24 → (opening_of (take count preface ++ piece) ≡ Part) × (more < 24) × (take count preface ++ piece ≡ take more preface))
     → ReadsBehind setup ts count piece before before (Preface more)
-waits setup ts count piece more before so udp few =
+waits setup ts count piece more before so few =
     let part = so few in
     let known : List ℕ = take count preface in
     let P : Opening → Type 0 = λ o. OpeningBrings setup o known piece [] [] (machine.Head (known ++ piece)) in
@@ -88,6 +86,7 @@ waits setup ts count piece more before so udp few =
       others = [];
       brings = subst P (sym part.0) (refl, refl, refl);
       asks = (refl, refl);
+      may = tt;
       after_is = sym (append-nil before);
       stands = (part.1, part.2, refl, refl);
     }
@@ -103,8 +102,8 @@ other_brings setup count piece few other events front brings =
 
 pub other_led : (setup : Setup) (count : ℕ) (piece bytes : List ℕ) (before after : List Due) (step : HeadStep) (one : One) → (count < 24 → bytes ≡ take count preface ++ piece) → IsStep [] bytes step
     → AnswersHead setup step bytes before after (Some one) → ReadsOther setup count piece before after (Http1 one)
-other_led setup count piece bytes before after step one bytes_is is answers other ts udp few =
-    let led : LedTo setup ts [] bytes before after one = answers udp ts [] is in
+other_led setup count piece bytes before after step one bytes_is is answers other ts few =
+    let led : LedTo setup ts [] bytes before after one = answers ts [] is in
     let P : List ℕ → Type 0 = λ xs. OtherBrings setup Part [] xs led.events OverHttp1 in
     record {
       events = led.events;
@@ -114,13 +113,14 @@ other_led setup count piece bytes before after step one bytes_is is answers othe
       others = led.others;
       brings = other_brings setup count piece few other led.events OverHttp1 (subst P (bytes_is few) led.brings);
       asks = led.asks;
+      may = led.may;
       after_is = led.after_is;
       stands = led.stands;
     }
 
 pub other_waits : (setup : Setup) (count : ℕ) (piece bytes : List ℕ) (before after : List Due) (step : HeadStep) (reader : HeadReader) → (count < 24 → bytes ≡ take count preface ++ piece) → IsStep [] bytes step
     → AnswersHead setup step bytes before after None → (step ≡ More → IsHeadOf reader bytes) → ReadsOther setup count piece before after (Head reader)
-other_waits setup count piece bytes before after step reader bytes_is is answers stands other ts udp few =
+other_waits setup count piece bytes before after step reader bytes_is is answers stands other ts few =
     let S : HeadStep → Type 0 = λ step. IsStep [] bytes step in
     let known : List ℕ = take count preface in
     let P : List ℕ → Type 0 = λ xs. OtherBrings setup Part [] xs [] (machine.Head xs) in
@@ -133,6 +133,7 @@ other_waits setup count piece bytes before after step reader bytes_is is answers
       others = [];
       brings = other_brings setup count piece few other [] (machine.Head (known ++ piece)) (subst P (bytes_is few) (More, subst S answers.0 is, (refl, refl)));
       asks = (refl, refl);
+      may = tt;
       after_is = answers.1 ∙ sym (append-nil before);
       stands = (subst R (bytes_is few) (stands answers.0), other, refl, refl);
     }
@@ -148,10 +149,10 @@ head_brings setup known piece other events front brings =
 
 pub head_led : (setup : Setup) (ts : List Tunnel) (piece : List ℕ) (before after : List Due) (step : HeadStep) (reader : HeadReader) (one : One) → ((known : List ℕ) → IsHeadOf reader known → IsStep known piece step)
     → AnswersHead setup step piece before after (Some one) → Reads setup ts piece before after (Head reader) (Http1 one)
-head_led setup ts piece before after step reader one steps answers udp OverHttp1 streams owes is = absurd is
-head_led setup ts piece before after step reader one steps answers udp (OverHttp2 h) streams owes is = absurd is
-head_led setup ts piece before after step reader one steps answers udp (machine.Head known) streams owes (begun, other, none, owed_none) =
-    let led : LedTo setup ts known piece before after one = answers udp ts known (steps known begun) in
+head_led setup ts piece before after step reader one steps answers OverHttp1 streams owes is = absurd is
+head_led setup ts piece before after step reader one steps answers (OverHttp2 h) streams owes is = absurd is
+head_led setup ts piece before after step reader one steps answers (machine.Head known) streams owes (begun, other, none, owed_none) =
+    let led : LedTo setup ts known piece before after one = answers ts known (steps known begun) in
     let P : List Stream → Type 0 = λ ss. ReadsTo setup ts (machine.Head known) ss owes piece before after (Http1 one) in
     let Q : List ℕ → Type 0 = λ xs. ReadsTo setup ts (machine.Head known) [] xs piece before after (Http1 one) in
     subst P (sym none) (subst Q (sym owed_none) (record {
@@ -162,15 +163,16 @@ head_led setup ts piece before after step reader one steps answers udp (machine.
       others = led.others;
       brings = head_brings setup known piece other led.events OverHttp1 led.brings;
       asks = led.asks;
+      may = led.may;
       after_is = led.after_is;
       stands = led.stands;
     }))
 
 pub head_waits : (setup : Setup) (ts : List Tunnel) (piece : List ℕ) (before after : List Due) (step : HeadStep) (reader new : HeadReader) → ((known : List ℕ) → IsHeadOf reader known → IsStep known piece step)
     → AnswersHead setup step piece before after None → ((known : List ℕ) → IsHeadOf reader known → step ≡ More → IsHeadOf new (known ++ piece)) → Reads setup ts piece before after (Head reader) (Head new)
-head_waits setup ts piece before after step reader new steps answers stands udp OverHttp1 streams owes is = absurd is
-head_waits setup ts piece before after step reader new steps answers stands udp (OverHttp2 h) streams owes is = absurd is
-head_waits setup ts piece before after step reader new steps answers stands udp (machine.Head known) streams owes (begun, other, none, owed_none) =
+head_waits setup ts piece before after step reader new steps answers stands OverHttp1 streams owes is = absurd is
+head_waits setup ts piece before after step reader new steps answers stands (OverHttp2 h) streams owes is = absurd is
+head_waits setup ts piece before after step reader new steps answers stands (machine.Head known) streams owes (begun, other, none, owed_none) =
     let S : HeadStep → Type 0 = λ step. IsStep known piece step in
     let P : List Stream → Type 0 = λ ss. ReadsTo setup ts (machine.Head known) ss owes piece before after (Head new) in
     let Q : List ℕ → Type 0 = λ xs. ReadsTo setup ts (machine.Head known) [] xs piece before after (Head new) in
@@ -182,17 +184,18 @@ head_waits setup ts piece before after step reader new steps answers stands udp 
       others = [];
       brings = head_brings setup known piece other [] (machine.Head (known ++ piece)) (More, subst S answers.0 (steps known begun), (refl, refl));
       asks = (refl, refl);
+      may = tt;
       after_is = answers.1 ∙ sym (append-nil before);
       stands = (stands known begun answers.0, other_stays preface known piece other, refl, refl);
     }))
 
 -- ---- behind it
 
-pub reads_more : (setup : Setup) (ts : List Tunnel) (piece : List ℕ) (before after : List Due) (old new : One) → ReadsData old piece before after new → Reads setup ts piece before after (Http1 old) (Http1 new)
-reads_more setup ts piece before after old new reads udp (machine.Head known) streams owes is = absurd is
-reads_more setup ts piece before after old new reads udp (OverHttp2 h) streams owes is = absurd is
-reads_more setup ts piece before after old new reads udp OverHttp1 streams owes is =
-    let r = reads setup.mtu ts streams owes is in
+pub reads_more : (setup : Setup) (ts : List Tunnel) (piece : List ℕ) (before after : List Due) (old new : One) → ReadsData setup.mtu old piece before after new → Reads setup ts piece before after (Http1 old) (Http1 new)
+reads_more setup ts piece before after old new reads (machine.Head known) streams owes is = absurd is
+reads_more setup ts piece before after old new reads (OverHttp2 h) streams owes is = absurd is
+reads_more setup ts piece before after old new reads OverHttp1 streams owes is =
+    let r = reads ts streams owes is in
     record {
       events = _;
       text = [];
@@ -201,6 +204,7 @@ reads_more setup ts piece before after old new reads udp OverHttp1 streams owes 
       others = r.others;
       brings = (refl, refl, refl);
       asks = r.asks;
+      may = r.may;
       after_is = r.after_is;
       stands = nothing (Http1 new) OverHttp1 r.others owes r.stands;
     }
@@ -271,12 +275,12 @@ forgot_one v old new id v_is forgets f streams owes is =
 pub other_all : (setup : Setup) (ts : List Tunnel) (count : ℕ) (piece : List ℕ) (before after : List Due) (result : Result Front NoMemory) → IfOk result (λ new. ReadsOther setup count piece before after new)
     → (count < 24 → opening_of (take count preface ++ piece) ≡ Other) → IfOk result (λ new. ReadsBehind setup ts count piece before after new)
 other_all setup ts count piece before after (Err refused) h other = tt
-other_all setup ts count piece before after (Ok new) h other = λ udp few. h (other few) ts udp few
+other_all setup ts count piece before after (Ok new) h other = λ few. h (other few) ts few
 
 pub reads_as : (setup : Setup) (ts : List Tunnel) (piece : List ℕ) (before after : List Due) (v w new : Front) → v ≡ w → Reads setup ts piece before after w new → Reads setup ts piece before after v new
-reads_as setup ts piece before after v w new v_is reads udp f streams owes is = reads udp f streams owes (as_is v w v_is f streams owes is)
+reads_as setup ts piece before after v w new v_is reads f streams owes is = reads f streams owes (as_is v w v_is f streams owes is)
 
-pub more_all : (setup : Setup) (ts : List Tunnel) (piece : List ℕ) (before after : List Due) (v : Front) (old new : One) (result : Result (Unit {0}) NoMemory) → v ≡ Http1 old → OnOk result (ReadsData old piece before after new)
+pub more_all : (setup : Setup) (ts : List Tunnel) (piece : List ℕ) (before after : List Due) (v : Front) (old new : One) (result : Result (Unit {0}) NoMemory) → v ≡ Http1 old → OnOk result (ReadsData setup.mtu old piece before after new)
     → OnOk result (Reads setup ts piece before after v (Http1 new))
 more_all setup ts piece before after v old new (Err refused) v_is h = tt
 more_all setup ts piece before after v old new (Ok done) v_is h = reads_as setup ts piece before after v (Http1 old) (Http1 new) v_is (reads_more setup ts piece before after old new h)

@@ -1,18 +1,21 @@
 -- What items ask for, one behind the other.
-use Rattle.std.proofs.Common.{◌≡◌, ℕ, ◌+◌, Bool, true, false, cond, ◌||◌, List, [], ◌∷◌, ◌++◌, refl, sym, ap, ◌∙◌, arith, append_assoc, append-nil}
+use Rattle.std.proofs.Common.{◌≡◌, ℕ, ◌+◌, Bool, true, false, cond, ◌||◌, List, [], ◌∷◌, ◌++◌, refl, sym, ap, ◌∙◌, subst, arith, append_assoc, append-nil}
 use Rattle.std.proofs.lemmas.List.{nil_from_length}
 use Rattle.std.specs.Iterator.{Yields}
 use Rattle.std.specs.List.{list_any}
 use Rattle.std.specs.Vec.Iter.{into_iter_items, into_iter_len, into_iter_steps}
 use Rattle.std.specs.declared.vec.IntoIter.{IntoIter}
-use Rattle.mq_addr.specs.declared.kind.Kind.TheVariants as kind
+use Rattle.mq_addr.specs.declared.kind.Kind.{Kind}
 use Rattle.mq_capsule.specs.declared.item.Item.{Item}
 use Rattle.mq_machine.specs.declared.act.Act.TheVariants as act
 use Rattle.mq_machine.specs.declared.act.Due.{Due}
 use Rattle.mq_machine.specs.declared.act.Due.TheVariants as due
 use Rattle.mq_machine.specs.declared.act.StreamAct.{StreamAct}
 use Rattle.mq_machine.specs.Reading.{item_acts, acts_of, payload_count, is_payload, is_close, on_stream, then_acts}
-use Rattle.mq_front.specs.Items.{HasNoValue, HaveNoValue, PutsUnless}
+use Rattle.mq_front.specs.declared.items.Carrier.{Carrier}
+use Rattle.mq_front.specs.Items.{PutsItems, PutsUnless}
+use Rattle.mq_front.specs.Limits.{AllMayAct}
+use Rattle.mq_front.proofs.Limits.{all_both}
 
 abbrev pub close_in : List StreamAct → Bool
 close_in acts = list_any is_close acts
@@ -46,14 +49,13 @@ then_none a = either (close_in a) ∙ append-nil a
     either false = refl
 
 -- what one more item asks for
-pub acts_last : (mtu n : ℕ) (xs : List Item) (i : Item)
-    → acts_of kind.Udp mtu n (xs ++ i ∷ []) ≡ then_acts (acts_of kind.Udp mtu n xs) (item_acts kind.Udp mtu (n + payload_count xs) i)
-acts_last mtu n [] i = then_none (item_acts kind.Udp mtu n i) ∙ ap (λ (k : ℕ). item_acts kind.Udp mtu k i) (omega arith)
-acts_last mtu n (x ∷ xs) i =
+pub acts_last : (k : Kind) (mtu n : ℕ) (xs : List Item) (i : Item) → acts_of k mtu n (xs ++ i ∷ []) ≡ then_acts (acts_of k mtu n xs) (item_acts k mtu (n + payload_count xs) i)
+acts_last k mtu n [] i = then_none (item_acts k mtu n i) ∙ ap (λ (m : ℕ). item_acts k mtu m i) (omega arith)
+acts_last k mtu n (x ∷ xs) i =
     let here = n + cond (is_payload x) 1 0 in
-    ap (λ (acts : List StreamAct). then_acts (item_acts kind.Udp mtu n x) acts) (acts_last mtu here xs i)
-    ∙ then_more_of (item_acts kind.Udp mtu n x) (acts_of kind.Udp mtu here xs) (item_acts kind.Udp mtu (here + payload_count xs) i)
-    ∙ ap (λ (k : ℕ). then_acts (acts_of kind.Udp mtu n (x ∷ xs)) (item_acts kind.Udp mtu k i)) (omega arith)
+    ap (λ (acts : List StreamAct). then_acts (item_acts k mtu n x) acts) (acts_last k mtu here xs i)
+    ∙ then_more_of (item_acts k mtu n x) (acts_of k mtu here xs) (item_acts k mtu (here + payload_count xs) i)
+    ∙ ap (λ (m : ℕ). then_acts (acts_of k mtu n (x ∷ xs)) (item_acts k mtu m i)) (omega arith)
 
 pub payloads_last : (xs : List Item) (i : Item) → payload_count (xs ++ i ∷ []) ≡ payload_count xs + cond (is_payload i) 1 0
 payloads_last [] i = omega arith
@@ -63,39 +65,29 @@ pub on_both : (id : ℕ) (xs ys : List StreamAct) → on_stream id (xs ++ ys) �
 on_both id [] ys = refl
 on_both id (x ∷ xs) ys = ap (λ (ds : List Due). due.Do (act.OfStream id x) ∷ ds) (on_both id xs ys)
 
-no_values_both : (xs ys : List Item) → HaveNoValue (xs ++ ys) → HaveNoValue xs × HaveNoValue ys
-no_values_both [] ys h = (tt, h)
-no_values_both (x ∷ xs) ys h = let r = no_values_both xs ys h.1 in ((h.0, r.0), r.1)
-
--- what the items so far ask for was put
-abbrev pub Went : ℕ → ℕ → List Item → List Due → List Due → ℕ → Bool → Type 0
-Went id n items old new next closes = (mtu : ℕ) → HaveNoValue items
-    → (new ≡ old ++ on_stream id (acts_of kind.Udp mtu n items)) × (next ≡ n + payload_count items) × (closes ≡ close_in (acts_of kind.Udp mtu n items))
-
-pub went_none : (id n : ℕ) (old : List Due) → Went id n [] old old n false
-went_none id n old = λ mtu h. (sym (append-nil old), omega arith, refl)
+pub puts_none : (o : Carrier) (n : ℕ) (old : List Due) → PutsItems o n [] old old n false
+puts_none o n old = (sym (append-nil old), omega arith, refl, tt)
 
 -- one more item
-unless_puts : (b c : Bool) (id n : ℕ) (i : Item) (mid new : List Due) (mtu : ℕ) → PutsUnless b id n i mid new c → HasNoValue i
-    → (new ≡ mid ++ on_stream id (cond b [] (item_acts kind.Udp mtu n i))) × (c ≡ (b || close_in (cond b [] (item_acts kind.Udp mtu n i))))
-unless_puts true c id n i mid new mtu p h = (p.0 ∙ sym (append-nil mid), p.1)
-unless_puts false c id n i mid new mtu p h = p mtu h
+unless_puts : (b c : Bool) (o : Carrier) (n : ℕ) (i : Item) (mid new : List Due) → PutsUnless b o n i mid new c
+    → (new ≡ mid ++ on_stream o.stream (cond b [] (item_acts o.kind o.mtu n i))) × (c ≡ (b || close_in (cond b [] (item_acts o.kind o.mtu n i)))) × AllMayAct (cond b [] (item_acts o.kind o.mtu n i))
+unless_puts true c o n i mid new p = (p.0 ∙ sym (append-nil mid), p.1, tt)
+unless_puts false c o n i mid new p = p
 
-pub went_more : (id n k : ℕ) (xs : List Item) (i : Item) (old mid new : List Due) (next : ℕ) (b c : Bool) → Went id n xs old mid k b → PutsUnless b id k i mid new c
-    → next ≡ k + cond (is_payload i) 1 0 → Went id n (xs ++ i ∷ []) old new next c
-went_more id n k xs i old mid new next b c was puts next_is mtu h =
-    let parts = no_values_both xs (i ∷ []) h in
-    let w = was mtu parts.0 in
-    let u = unless_puts b c id k i mid new mtu puts parts.1.0 in
-    let acts = acts_of kind.Udp mtu n xs in
-    let F : ℕ → Bool → List StreamAct = λ m d. cond d [] (item_acts kind.Udp mtu m i) in
-    let here : F k b ≡ F (n + payload_count xs) (close_in acts) = ap (λ (m : ℕ). F m b) w.1 ∙ ap (λ (d : Bool). F (n + payload_count xs) d) w.2 in
-    let whole : acts ++ F k b ≡ acts_of kind.Udp mtu n (xs ++ i ∷ []) = ap (λ (ys : List StreamAct). acts ++ ys) here ∙ sym (acts_last mtu n xs i) in
+pub puts_more : (o : Carrier) (n k : ℕ) (xs : List Item) (i : Item) (old mid new : List Due) (next : ℕ) (b c : Bool) → PutsItems o n xs old mid k b → PutsUnless b o k i mid new c
+    → next ≡ k + cond (is_payload i) 1 0 → PutsItems o n (xs ++ i ∷ []) old new next c
+puts_more o n k xs i old mid new next b c was puts next_is =
+    let u = unless_puts b c o k i mid new puts in
+    let acts = acts_of o.kind o.mtu n xs in
+    let F : ℕ → Bool → List StreamAct = λ m d. cond d [] (item_acts o.kind o.mtu m i) in
+    let here : F k b ≡ F (n + payload_count xs) (close_in acts) = ap (λ (m : ℕ). F m b) was.1 ∙ ap (λ (d : Bool). F (n + payload_count xs) d) was.2 in
+    let whole : acts ++ F k b ≡ acts_of o.kind o.mtu n (xs ++ i ∷ []) = ap (λ (ys : List StreamAct). acts ++ ys) here ∙ sym (acts_last o.kind o.mtu n xs i) in
     let pay = payloads_last xs i in (
-      u.0 ∙ ap (λ (ds : List Due). ds ++ on_stream id (F k b)) w.0 ∙ append_assoc old (on_stream id acts) (on_stream id (F k b))
-          ∙ ap (λ (ds : List Due). old ++ ds) (sym (on_both id acts (F k b)) ∙ ap (λ (ys : List StreamAct). on_stream id ys) whole),
-      omega (arith, next_is, pay, w.1),
-      u.1 ∙ ap (λ (d : Bool). d || close_in (F k b)) w.2 ∙ sym (any_both acts (F k b)) ∙ ap close_in whole,
+      u.0 ∙ ap (λ (ds : List Due). ds ++ on_stream o.stream (F k b)) was.0 ∙ append_assoc old (on_stream o.stream acts) (on_stream o.stream (F k b))
+          ∙ ap (λ (ds : List Due). old ++ ds) (sym (on_both o.stream acts (F k b)) ∙ ap (λ (ys : List StreamAct). on_stream o.stream ys) whole),
+      omega (arith, next_is, pay, was.1),
+      u.1 ∙ ap (λ (d : Bool). d || close_in (F k b)) was.2 ∙ sym (any_both acts (F k b)) ∙ ap close_in whole,
+      subst AllMayAct whole (all_both _ acts (F k b) was.3 u.2),
     )
 
 -- what the iterator of a vector has given is a front of its items

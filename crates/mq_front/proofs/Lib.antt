@@ -1,7 +1,7 @@
+pub mod Limits
 pub mod ItemLists
 pub mod Values
 pub mod Tables
-pub mod UdpPaths
 mod Asking
 mod OneStream
 mod Starts

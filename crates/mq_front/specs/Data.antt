@@ -1,5 +1,5 @@
 -- What a data stream stands for, and what more of its bytes ask for.
-use Rattle.std.specs.Prelude.{◌≡◌, ℕ, Bool, true, false, List, ◌++◌, if◌then◌else◌}
+use Rattle.std.specs.Prelude.{◌≡◌, ℕ, Bool, true, List, ◌++◌, if◌then◌else◌}
 use Rattle.mq_capsule.specs.declared.item.Item.{Item}
 use Rattle.mq_capsule.specs.Items.{ItemsOf}
 use Rattle.mq_capsule.specs.Readers.{Stands, TellsBegun}
@@ -7,18 +7,18 @@ use Rattle.mq_talk.specs.declared.note.Why.{Why}
 use Rattle.mq_talk.specs.declared.note.Why.TheVariants as why
 use Rattle.mq_machine.specs.declared.act.Due.{Due}
 use Rattle.mq_machine.specs.declared.act.StreamAct.{StreamAct}
-pub use Rattle.mq_machine.specs.Lawful.{IsUdp}
-use Rattle.mq_machine.specs.Reading.{BytesAsk, on_stream, payload_count}
-use Rattle.mq_machine.specs.State.{Stream}
+use Rattle.mq_machine.specs.Reading.{BytesAsk, has_values, on_stream, payload_count}
+use Rattle.mq_machine.specs.State.{Stream, kind_of}
 use Rattle.mq_front.specs.declared.data.DataStream.{DataStream}
+use Rattle.mq_front.specs.Limits.{AllMayAct}
 
--- the data stream of a tunnel for UDP, whose bytes the reader was fed, and the number of its next payload
+-- the data stream of a tunnel of this kind, whose bytes the reader was fed, and the number of its next payload
 pub record IsStream (d : DataStream) (s : Stream) : Type 0 where
   pub id_is : d.id ≡ s.id
-  pub udp : IsUdp s.goal
+  pub kind_is : d.kind ≡ kind_of s.goal
   pub items : List Item
-  pub stands : Stands d.reader false s.bytes
-  pub items_are : ItemsOf false s.bytes items
+  pub stands : Stands d.reader (has_values s.goal) s.bytes
+  pub items_are : ItemsOf (has_values s.goal) s.bytes items
   pub next : d.n ≡ payload_count items
 
 -- why its end closes the tunnel
@@ -29,9 +29,10 @@ EndsAs d end = (inside : Bool) × (end ≡ (if inside then why.Truncated else wh
 pub record Took (mtu : ℕ) (s : Stream) (bytes : List ℕ) (ends : Bool) (before after : List Due) (new : DataStream) : Type 0 where
   pub asked : List StreamAct
   pub asks : BytesAsk mtu s bytes ends asked
+  pub may : AllMayAct asked
   pub after_is : after ≡ before ++ on_stream s.id asked
   pub stands : IsStream new (record s { bytes = s.bytes ++ bytes })
 
 -- whatever was read of it before
-abbrev pub Takes : DataStream → List ℕ → Bool → List Due → List Due → DataStream → Type 0
-Takes old bytes ends before after new = (mtu : ℕ) (s : Stream) → IsStream old s → Took mtu s bytes ends before after new
+abbrev pub Takes : ℕ → DataStream → List ℕ → Bool → List Due → List Due → DataStream → Type 0
+Takes mtu old bytes ends before after new = (s : Stream) → IsStream old s → Took mtu s bytes ends before after new

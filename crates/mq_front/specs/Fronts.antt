@@ -1,6 +1,5 @@
 -- What the front end of a connection stands for, and what its calls do.
 use Rattle.std.specs.Prelude.{◌≡◌, ℕ, ◌+◌, ◌<◌, ◌≤◌, Bool, List, [], ◌∷◌, ◌++◌, take, length, Option, None, Some, if◌then◌else◌, Result, Ok, Err}
-use Rattle.mq_addr.specs.declared.kind.Kind.TheVariants as kind
 use Rattle.mq_h2.specs.State as h2
 use Rattle.mq_head.specs.Reader.{IsHeadOf}
 use Rattle.mq_streams.specs.History.{total, arrived_on, consumed_on}
@@ -26,6 +25,7 @@ use Rattle.mq_front.specs.declared.http1.Http1.{Http1 as One}
 use Rattle.mq_front.specs.declared.http2.Http2.{Http2 as Many}
 use Rattle.mq_front.specs.Data.{IsStream}
 use Rattle.mq_front.specs.Events.{IsHttp2}
+use Rattle.mq_front.specs.Limits.{AllMayBeDue}
 
 -- ---- what it stands for
 
@@ -70,7 +70,7 @@ abbrev pub Puts : Front → Result (Unit {0}) NoMemory → machine.Front → Put
 Puts new (Ok done) old put streams owed = HasPut new put streams owed
 Puts new (Err refused) old put streams owed = IsFront new old streams owed
 
--- A read: what it brings and asks for, and how far the bytes were read then.
+-- A read: what it brings and asks for, of which the book takes what it is asked, and how far the bytes were read then.
 pub record ReadsTo (setup : Setup) (ts : List Tunnel) (f : machine.Front) (streams : List Stream) (owed piece : List ℕ) (before after : List Due) (new : Front) : Type 0 where
   pub events : List StreamEvent
   pub text : List ℕ
@@ -79,12 +79,13 @@ pub record ReadsTo (setup : Setup) (ts : List Tunnel) (f : machine.Front) (strea
   pub others : List Stream
   pub brings : Brings setup f piece events text front
   pub asks : EventsAsk setup.mtu ts streams events acts others
+  pub may : AllMayBeDue acts
   pub after_is : after ≡ before ++ acts
   pub stands : IsFront new front others (owed ++ text)
 
--- of a connection whose tunnels are for UDP
+-- however far the bytes were read before
 abbrev pub Reads : Setup → List Tunnel → List ℕ → List Due → List Due → Front → Front → Type 0
-Reads setup ts piece before after old new = setup.udp.kind ≡ kind.Udp → (f : machine.Front) (streams : List Stream) (owed : List ℕ) → IsFront old f streams owed
+Reads setup ts piece before after old new = (f : machine.Front) (streams : List Stream) (owed : List ℕ) → IsFront old f streams owed
     → ReadsTo setup ts f streams owed piece before after new
 
 -- the stream of a closed tunnel, of which a part of a capsule was framed or wasn't

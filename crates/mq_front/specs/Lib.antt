@@ -1,4 +1,5 @@
 pub mod Meanings
+pub mod Limits
 pub mod Items
 pub mod Data
 pub mod Streams

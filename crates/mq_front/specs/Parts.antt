@@ -1,6 +1,5 @@
 -- What the functions below the calls of a front do. Only the crate's own functions cite these words.
 use Rattle.std.specs.Prelude.{◌≡◌, ℕ, ◌<◌, Bool, List, [], ◌∷◌, ◌++◌, take, Option, Some, None, Result, Ok, Err, if◌then◌else◌}
-use Rattle.mq_addr.specs.declared.kind.Kind.TheVariants as kind
 use Rattle.mq_h2.specs.State as h2
 use Rattle.mq_head.specs.declared.step.HeadStep.{HeadStep}
 use Rattle.mq_head.specs.declared.step.HeadStep.TheVariants.{More}
@@ -17,8 +16,8 @@ use Rattle.mq_machine.specs.State.{Stream, Tunnel, OverHttp1}
 use Rattle.mq_front.specs.declared.front.Front.{Front}
 use Rattle.mq_front.specs.declared.http1.Http1.{Http1 as One}
 use Rattle.mq_front.specs.declared.http2.Http2.{Http2 as Many}
-use Rattle.mq_front.specs.Data.{IsUdp}
 use Rattle.mq_front.specs.Fronts.{IsHttp1, OverFrames, ReadsTo}
+use Rattle.mq_front.specs.Limits.{AllMayBeDue}
 
 -- ---- HTTP/1.1
 
@@ -27,17 +26,18 @@ pub record ReadsOn (mtu : ℕ) (ts : List Tunnel) (streams : List Stream) (owed 
   pub acts : List Due
   pub others : List Stream
   pub asks : EventsAsk mtu ts streams (content_of bytes) acts others
+  pub may : AllMayBeDue acts
   pub after_is : after ≡ before ++ acts
   pub stands : IsHttp1 new others owed
 
 -- whatever was read of it before
-abbrev pub ReadsData : One → List ℕ → List Due → List Due → One → Type 0
-ReadsData old bytes before after new = (mtu : ℕ) (ts : List Tunnel) (streams : List Stream) (owed : List ℕ) → IsHttp1 old streams owed → ReadsOn mtu ts streams owed bytes before after new
+abbrev pub ReadsData : ℕ → One → List ℕ → List Due → List Due → One → Type 0
+ReadsData mtu old bytes before after new = (ts : List Tunnel) (streams : List Stream) (owed : List ℕ) → IsHttp1 old streams owed → ReadsOn mtu ts streams owed bytes before after new
 
 -- the first bytes of the data stream that leads there
-abbrev pub ReadsFirst : Goal → List ℕ → List Due → List Due → One → Type 0
-ReadsFirst goal bytes before after new =
-    (mtu : ℕ) (ts : List Tunnel) → IsUdp goal → ReadsOn mtu ts (record { id = 0; goal = goal; bytes = [] } ∷ []) [] bytes before after new
+abbrev pub ReadsFirst : ℕ → Goal → List ℕ → List Due → List Due → One → Type 0
+ReadsFirst mtu goal bytes before after new =
+    (ts : List Tunnel) → ReadsOn mtu ts (record { id = 0; goal = goal; bytes = [] } ∷ []) [] bytes before after new
 
 -- the answer to bytes of a head led to HTTP/1.1, and what they ask for was put
 pub record LedTo (setup : Setup) (ts : List Tunnel) (known bytes : List ℕ) (before after : List Due) (new : One) : Type 0 where
@@ -46,6 +46,7 @@ pub record LedTo (setup : Setup) (ts : List Tunnel) (known bytes : List ℕ) (be
   pub others : List Stream
   pub brings : HeadBrings setup known bytes events OverHttp1
   pub asks : EventsAsk setup.mtu ts [] events acts others
+  pub may : AllMayBeDue acts
   pub after_is : after ≡ before ++ acts
   pub stands : IsHttp1 new others []
 
@@ -53,7 +54,7 @@ pub record LedTo (setup : Setup) (ts : List Tunnel) (known bytes : List ℕ) (be
 abbrev pub AnswersHead : Setup → HeadStep → List ℕ → List Due → List Due → Option One → Type 0
 AnswersHead setup step bytes before after None = (step ≡ More) × (after ≡ before)
 AnswersHead setup step bytes before after (Some new) =
-    setup.udp.kind ≡ kind.Udp → (ts : List Tunnel) (known : List ℕ) → IsStep known bytes step → LedTo setup ts known bytes before after new
+    (ts : List Tunnel) (known : List ℕ) → IsStep known bytes step → LedTo setup ts known bytes before after new
 
 -- why the end of the link closes the tunnel: inside a capsule, or between two
 abbrev pub EndsData : One → Why → Type 0
@@ -62,10 +63,10 @@ EndsData one reason = (streams : List Stream) (owed : List ℕ) → IsHttp1 one 
 
 -- ---- the first bytes
 
--- bytes behind a part of the preface, of a connection whose tunnels are for UDP
+-- bytes behind a part of the preface
 abbrev pub ReadsBehind : Setup → List Tunnel → ℕ → List ℕ → List Due → List Due → Front → Type 0
 ReadsBehind setup ts count piece before after new =
-    setup.udp.kind ≡ kind.Udp → count < 24 → ReadsTo setup ts (machine.Head (take count preface)) [] [] piece before after new
+    count < 24 → ReadsTo setup ts (machine.Head (take count preface)) [] [] piece before after new
 
 -- where they are no preface with that part
 abbrev pub ReadsOther : Setup → ℕ → List ℕ → List Due → List Due → Front → Type 0

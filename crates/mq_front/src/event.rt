@@ -11,6 +11,7 @@ ghost use Rattle.mq_front.specs.Streams.{HasNone, IsPlaceOf};
 
 use crate::data::DataStream;
 use crate::dues::Dues;
+use crate::goal::goal_act;
 use crate::items::put_if;
 use crate::judge::Verdict;
 use crate::request::judge_request;
@@ -49,16 +50,17 @@ fn place_of(streams: &[DataStream], id: u32) -> Option<usize>
 /// Contents of the data stream of this number, if there is one.
 fn take(
     alloc: Global,
+    mtu: u32,
     id: u32,
     bytes: &[u8],
     ends: bool,
     streams: &mut Vec<DataStream>,
     due: &mut Dues,
 ) -> Result<(), NoMemory>
-    ensures { OnOk result (Contains id bytes.now ends due.old due.new streams.old.items streams.new.items) }
+    ensures { OnOk result (Contains mtu id bytes.now ends due.old due.new streams.old.items streams.new.items) }
 {
     match place_of(streams.as_slice(), id) {
-        Some(place) => streams[place].take(alloc, bytes, ends, due),
+        Some(place) => streams[place].take(alloc, mtu, bytes, ends, due),
         None => Ok(()),
     }
 }
@@ -66,6 +68,7 @@ fn take(
 /// The contents of a DATA frame, of so many bytes in all.
 fn content(
     alloc: Global,
+    mtu: u32,
     id: u32,
     bytes: &[u8],
     length: u32,
@@ -73,16 +76,17 @@ fn content(
     streams: &mut Vec<DataStream>,
     due: &mut Dues,
 ) -> Result<(), NoMemory>
-    ensures { OnOk result ((setup : Rules) (ts : List Tunnel) → EventTo setup ts (told.Content id bytes.now length ends) due.old due.new streams.old.items streams.new.items) }
+    ensures { OnOk result ((setup : Rules) (ts : List Tunnel) → setup.mtu ≡ mtu → EventTo setup ts (told.Content id bytes.now length ends) due.old due.new streams.old.items streams.new.items) }
 {
-    take(alloc, id, bytes, ends, streams, due)?;
+    take(alloc, mtu, id, bytes, ends, streams, due)?;
     due.push(Due::Spend {
         stream: id,
         size: length,
     })
 }
 
-/// A request that leads there: its port is to be bound. Where it ends the client's side, its tunnel is to close then.
+/// A request that leads there: its port is to be bound, or its tunnel is to open. Where it ends the client's side, its
+/// tunnel is to close then.
 fn lead(
     id: u32,
     goal: Goal,
@@ -92,9 +96,9 @@ fn lead(
 ) -> Result<(), NoMemory>
     ensures { OnOk result (Leads id goal ends due.old due.new streams.old.items streams.new.items) }
 {
-    due.push(Due::Do(Act::Bind { stream: id, goal }))?;
+    due.push(Due::Do(goal_act(id, goal)))?;
     put_if(ends, id, StreamAct::Close { why: Why::End }, due)?;
-    streams.push(DataStream::new(id))?;
+    streams.push(DataStream::new(id, goal))?;
     Ok(())
 }
 
@@ -175,7 +179,16 @@ pub fn ask<T: Tunnels>(
             bytes,
             length,
             end,
-        } => content(alloc, stream, bytes.as_slice(), length, end, streams, due),
+        } => content(
+            alloc,
+            setup.mtu,
+            stream,
+            bytes.as_slice(),
+            length,
+            end,
+            streams,
+            due,
+        ),
         StreamEvent::Reset { stream, .. } => reset(stream, tunnels.is_on(stream), due),
         StreamEvent::ConnectionError { code } => due.push(Due::Fault { code }),
     }

@@ -121,9 +121,8 @@ impl Front {
         }
     }
 
-    /// Takes the bytes of one read, and puts what they ask for at the back of the list: requests judged by the setup of the
-    /// proxy, whose template for UDP tunnels is one of that kind, and the capsules of their data streams. After an `Err` it is of
-    /// no use.
+    /// Takes the bytes of one read, and puts what they ask for at the back of the list: requests, judged by the setup
+    /// of the proxy, and the capsules of their data streams. After an `Err` it is of no use.
     pub fn read<T: Tunnels>(
         &mut self,
         alloc: Global,
@@ -147,7 +146,7 @@ impl Front {
                 }
                 Ok(())
             }
-            Front::Http1(one) => one.read(alloc, piece, due),
+            Front::Http1(one) => one.read(alloc, setup.mtu, piece, due),
             Front::Http2(many) => {
                 reads_stand_apart();
                 many.read(alloc, setup, tunnels, piece, due)

@@ -4,11 +4,13 @@ ghost use Rattle.mq_machine.specs.declared.act.Act.TheVariants as asks;
 ghost use Rattle.mq_machine.specs.declared.act.Due.TheVariants.{Do};
 ghost use Rattle.mq_machine.specs.State.{Stream};
 ghost use Rattle.mq_machine.specs.Done.{http1_end};
+ghost use Rattle.mq_machine.specs.Reading.{goal_act};
 ghost use Rattle.mq_front.specs.Fronts.{IsHttp1};
 ghost use Rattle.mq_front.specs.Parts.{ReadsFirst, AnswersHead, ReadsData, EndsData};
 
 use crate::data::DataStream;
 use crate::dues::Dues;
+use crate::goal::goal_act;
 use crate::judge::{Verdict, judge_path};
 use crate::owed::Owed;
 use mq_head::HeadStep;
@@ -51,16 +53,22 @@ fn refuse(alloc: Global, status: u16, rule: u32, due: &mut Dues) -> Result<Http1
     })
 }
 
-/// The request may open: its port is to be bound, and behind its head its data stream begins.
-fn lead(alloc: Global, goal: Goal, bytes: &[u8], due: &mut Dues) -> Result<Http1, NoMemory>
-    ensures { IfOk result (λ one. ReadsFirst goal bytes.now (due.old ++ Do (asks.Bind 0 goal) ∷ []) due.new one) }
+/// The request leads there: its port is to be bound, or its tunnel is to open. Behind its head its data stream begins.
+fn lead(
+    alloc: Global,
+    mtu: u32,
+    goal: Goal,
+    bytes: &[u8],
+    due: &mut Dues,
+) -> Result<Http1, NoMemory>
+    ensures { IfOk result (λ one. ReadsFirst mtu goal bytes.now (due.old ++ Do (goal_act 0 goal) ∷ []) due.new one) }
 {
-    due.push(Due::Do(Act::Bind { stream: 0, goal }))?;
+    due.push(Due::Do(goal_act(0, goal)))?;
     let mut one = Http1 {
-        stream: Some(DataStream::new(0)),
+        stream: Some(DataStream::new(0, goal)),
         owed: Owed::new(alloc),
     };
-    one.read(alloc, bytes, due)?;
+    one.read(alloc, mtu, bytes, due)?;
     Ok(one)
 }
 
@@ -89,7 +97,7 @@ pub fn behind_head(
                 }
                 Verdict::Leads(goal) => {
                     let (_, rest) = bytes.split_at((used as usize).min(bytes.len()));
-                    let one = lead(alloc, goal, rest, due)?;
+                    let one = lead(alloc, setup.mtu, goal, rest, due)?;
                     Ok(Some(one))
                 }
             }
@@ -98,15 +106,22 @@ pub fn behind_head(
 }
 
 impl Http1 {
-    /// Reads more bytes of the data stream, and puts what they ask for at the back of the list.
-    pub fn read(&mut self, alloc: Global, bytes: &[u8], due: &mut Dues) -> Result<(), NoMemory>
-        ensures { OnOk result (ReadsData self.old bytes.now due.old due.new self.new) }
+    /// Reads more bytes of the data stream, and puts what they ask for at the back of the list. A packet has at most
+    /// `mtu` bytes.
+    pub fn read(
+        &mut self,
+        alloc: Global,
+        mtu: u32,
+        bytes: &[u8],
+        due: &mut Dues,
+    ) -> Result<(), NoMemory>
+        ensures { OnOk result (ReadsData mtu self.old bytes.now due.old due.new self.new) }
     {
         if bytes.is_empty() {
             return Ok(());
         }
         match &mut self.stream {
-            Some(stream) => stream.take(alloc, bytes, false, due),
+            Some(stream) => stream.take(alloc, mtu, bytes, false, due),
             None => Ok(()),
         }
     }

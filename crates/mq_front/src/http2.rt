@@ -54,9 +54,8 @@ impl Http2 {
         })
     }
 
-    /// Takes the bytes of one read, and puts what they ask for at the back of the list: requests judged by the setup of the
-    /// proxy, whose template for UDP tunnels is one of that kind, and the capsules of their data streams. After an `Err` it is
-    /// of no use.
+    /// Takes the bytes of one read, and puts what they ask for at the back of the list: requests, judged by the setup
+    /// of the proxy, and the capsules of their data streams. After an `Err` it is of no use.
     pub fn read<T: Tunnels>(
         &mut self,
         alloc: Global,

@@ -1,20 +1,32 @@
-//! What the capsules of a tunnel for UDP ask for (RFC 9298, section 5).
-ghost use Rattle.std.specs.Prelude.{◌≡◌, ℕ, ◌+◌, ◌++◌, ◌∷◌, [], IfOk, OnOk, if◌then◌else◌};
-ghost use Rattle.std.specs.Option.{option_to_list};
+//! What the items of a data stream ask for.
+ghost use Rattle.std.specs.Prelude.{◌≡◌, ◌+◌, ◌++◌, ◌∷◌, [], IfOk, OnOk, if◌then◌else◌};
+ghost use Rattle.std.specs.Option.{IfSome, option_to_list};
 ghost use Rattle.mq_addr.specs.declared.kind.Kind.TheVariants as kind;
+ghost use Rattle.mq_iptun.specs.Acts.{MayAct};
 ghost use Rattle.mq_machine.specs.Reading.{udp_act, in_context, item_acts, is_payload, is_close, on_stream};
-ghost use Rattle.mq_front.specs.Items.{HasNoValue, PutsItem, PutsUnless, PutsItems};
+ghost use Rattle.mq_front.specs.Items.{PutsItem, PutsUnless, PutsItems};
 
 use crate::dues::Dues;
+use mq_addr::Kind;
 use mq_capsule::Item;
+use mq_iptun::{item_act, next_number};
 use mq_machine::{Act, Due, StreamAct};
 use mq_talk::{Cause, Why};
 use mq_wire::{Bytes, NoMemory};
+use std::alloc::Global;
 
 /// The longest payload of UDP, in bytes (RFC 9298, section 5).
 const MAX_UDP: usize = 65_527;
 
-/// What a payload asks for.
+/// The data stream that items come from: its stream, the kind of its tunnel, and how many bytes a packet has at most.
+#[derive(Clone, Copy)]
+pub struct Carrier {
+    pub stream: u32,
+    pub kind: Kind,
+    pub mtu: u32,
+}
+
+/// What a payload of a tunnel for UDP asks for.
 fn udp_act(n: u64, payload: Bytes) -> StreamAct
     ensures { result ≡ udp_act n payload }
 {
@@ -41,34 +53,39 @@ fn in_context(context: u64, n: u64, act: StreamAct) -> StreamAct
     }
 }
 
-/// What an item of a reader that tells no control capsules asks for.
-fn item_act(n: u64, item: Item) -> Option<StreamAct>
-    ensures { (mtu : ℕ) → HasNoValue item → item_acts kind.Udp mtu n item ≡ option_to_list result }
+/// What an item of a tunnel for UDP asks for. What isn't a payload is as for IP packets; the reader of a tunnel for UDP
+/// tells no control capsule.
+fn udp_item_act(alloc: Global, mtu: u32, n: u64, item: Item) -> Result<Option<StreamAct>, NoMemory>
+    ensures is { IfOk result (λ act. item_acts kind.Udp mtu n item ≡ option_to_list act) }
+    ensures limits { IfOk result (λ act. IfSome act MayAct) }
 {
     match item {
-        Item::Datagram { context, payload } => Some(in_context(context, n, udp_act(n, payload))),
+        Item::Datagram { context, payload } => {
+            Ok(Some(in_context(context, n, udp_act(n, payload))))
+        }
         Item::TooLongDatagram { context, .. } => {
             let act = StreamAct::Close {
                 why: Why::Malformed,
             };
-            Some(in_context(context, n, act))
+            Ok(Some(in_context(context, n, act)))
         }
-        Item::Control { .. } => None,
-        Item::Bad { .. } => Some(StreamAct::Close {
-            why: Why::Malformed,
-        }),
+        other => item_act(alloc, mtu, n, other),
     }
 }
 
-/// Whether an item is a payload, which has a number.
-fn is_payload(item: &Item) -> bool
-    ensures { result ≡ is_payload item.now }
+/// What an item asks for as payload `n`.
+fn act_of(
+    alloc: Global,
+    carrier: Carrier,
+    n: u64,
+    item: Item,
+) -> Result<Option<StreamAct>, NoMemory>
+    ensures is { IfOk result (λ act. item_acts carrier.kind carrier.mtu n item ≡ option_to_list act) }
+    ensures limits { IfOk result (λ act. IfSome act MayAct) }
 {
-    match item {
-        Item::Datagram { .. } => true,
-        Item::TooLongDatagram { .. } => true,
-        Item::Control { .. } => false,
-        Item::Bad { .. } => false,
+    match carrier.kind {
+        Kind::Udp => udp_item_act(alloc, carrier.mtu, n, item),
+        Kind::Ip => item_act(alloc, carrier.mtu, n, item),
     }
 }
 
@@ -79,18 +96,6 @@ fn is_close(act: &StreamAct) -> bool
     match act {
         StreamAct::Close { .. } => true,
         _ => false,
-    }
-}
-
-/// The number of the payload behind an item.
-fn next_number(n: u64, item: &Item) -> Result<u64, NoMemory>
-    ensures { IfOk result (λ next. next ≡ n + (if is_payload item.now then 1 else 0)) }
-{
-    if is_payload(item) {
-        let next = n.checked_add(1).ok_or(NoMemory)?;
-        Ok(next)
-    } else {
-        Ok(n)
     }
 }
 
@@ -119,29 +124,18 @@ pub(crate) fn put_if(
 }
 
 /// Puts what an item asks for at the back of the list, and answers whether it closes the tunnel.
-fn put_item(stream: u32, n: u64, item: Item, due: &mut Dues) -> Result<bool, NoMemory>
-    ensures { IfOk result (λ closes. PutsItem stream n item due.old due.new closes) }
-{
-    match item_act(n, item) {
-        Some(act) => put_act(stream, act, due),
-        None => Ok(false),
-    }
-}
-
-/// The same, where nothing asked for a close before, else nothing.
-fn put_unless(
-    closes: bool,
-    stream: u32,
+fn put_item(
+    alloc: Global,
+    carrier: Carrier,
     n: u64,
     item: Item,
     due: &mut Dues,
 ) -> Result<bool, NoMemory>
-    ensures { IfOk result (λ closed. PutsUnless closes stream n item due.old due.new closed) }
+    ensures { IfOk result (λ closes. PutsItem carrier n item due.old due.new closes) }
 {
-    if closes {
-        Ok(true)
-    } else {
-        put_item(stream, n, item, due)
+    match act_of(alloc, carrier, n, item)? {
+        Some(act) => put_act(carrier.stream, act, due),
+        None => Ok(false),
     }
 }
 
@@ -152,30 +146,54 @@ pub struct Asked {
     pub closes: bool,
 }
 
-/// Puts what one more item asks for.
-fn put_next(stream: u32, asked: Asked, item: Item, due: &mut Dues) -> Result<Asked, NoMemory>
-    ensures { IfOk result (λ next. PutsUnless asked.closes stream asked.n item due.old due.new next.closes × (next.n ≡ asked.n + (if is_payload item then 1 else 0))) }
+/// The same, unless a close was asked for before. Answers whether the tunnel is to close.
+fn put_unless(
+    alloc: Global,
+    carrier: Carrier,
+    asked: Asked,
+    item: Item,
+    due: &mut Dues,
+) -> Result<bool, NoMemory>
+    ensures { IfOk result (λ closed. PutsUnless asked.closes carrier asked.n item due.old due.new closed) }
+{
+    if asked.closes {
+        Ok(true)
+    } else {
+        put_item(alloc, carrier, asked.n, item, due)
+    }
+}
+
+/// The same, and counts a payload.
+fn put_next(
+    alloc: Global,
+    carrier: Carrier,
+    asked: Asked,
+    item: Item,
+    due: &mut Dues,
+) -> Result<Asked, NoMemory>
+    ensures { IfOk result (λ next. PutsUnless asked.closes carrier asked.n item due.old due.new next.closes × (next.n ≡ asked.n + (if is_payload item then 1 else 0))) }
 {
     let n = next_number(asked.n, &item)?;
-    let closes = put_unless(asked.closes, stream, asked.n, item, due)?;
+    let closes = put_unless(alloc, carrier, asked, item, due)?;
     Ok(Asked { n, closes })
 }
 
 /// Puts what the items ask for at the back of the list, behind a close nothing. `first` is the number of their first payload.
 pub fn put_items(
-    stream: u32,
+    alloc: Global,
+    carrier: Carrier,
     first: u64,
     items: Vec<Item>,
     due: &mut Dues,
 ) -> Result<Asked, NoMemory>
-    ensures { IfOk result (λ asked. PutsItems stream first items.items due.old due.new asked.n asked.closes) }
+    ensures { IfOk result (λ asked. PutsItems carrier first items.items due.old due.new asked.n asked.closes) }
 {
     let mut asked = Asked {
         n: first,
         closes: false,
     };
     for item in items {
-        asked = put_next(stream, asked, item, due)?;
+        asked = put_next(alloc, carrier, asked, item, due)?;
     }
     Ok(asked)
 }

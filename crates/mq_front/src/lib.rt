@@ -7,6 +7,7 @@ mod event;
 mod fields;
 mod finish;
 mod front;
+mod goal;
 mod http1;
 mod http2;
 mod items;
@@ -19,6 +20,7 @@ pub use dues::Dues;
 pub use event::Tunnels;
 pub use finish::Finish;
 pub use front::Front;
+pub use goal::kind_of;
 
 #[cfg(test)]
 mod tests;

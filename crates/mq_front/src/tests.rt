@@ -1,5 +1,6 @@
 //! What the frames of a client ask for, written as lines.
 
+use crate::data::DataStream;
 use crate::http2::Http2;
 use crate::{Dues, Finish, Front, Tunnels};
 use mq_addr::{Addr, Kind};
@@ -59,6 +60,16 @@ fn stream_line(alloc: Global, stream: u32, act: &StreamAct) -> Result<String, Fa
         StreamAct::Payload { n, payload } => {
             let payload = hex::encode(alloc, payload.as_slice())?;
             format!(in alloc; "{stream} payload {n} {payload}\n")?
+        }
+        StreamAct::Packet { n, packet, .. } => {
+            let packet = hex::encode(alloc, packet.as_slice())?;
+            format!(in alloc; "{stream} packet {n} {packet}\n")?
+        }
+        StreamAct::Assign { asked } => {
+            format!(in alloc; "{stream} assign {:?}\n", asked.as_slice())?
+        }
+        StreamAct::Advertise { ranges } => {
+            format!(in alloc; "{stream} advertise {:?}\n", ranges.as_slice())?
         }
         StreamAct::Drop { n, cause } => format!(in alloc; "{stream} drop {n} {cause:?}\n")?,
         StreamAct::Close { why } => format!(in alloc; "{stream} close {why:?}\n")?,
@@ -277,6 +288,30 @@ fn every_cut_asks_for_the_same(rt: HostRuntime) -> Result<(), Fail> {
         text.push_str(rest.as_str())?;
         assert_eq!(rt; text, format!(in alloc; "{want}")?);
     }
+    Ok(())
+}
+
+/// The capsules of a tunnel for IP packets: a DATAGRAM with a UDP packet from 192.0.2.1 to 198.51.100.9, an
+/// ADDRESS_REQUEST for any address, and a ROUTE_ADVERTISEMENT of 10.0.0.0 to 10.0.0.255 for UDP.
+const IP_CAPSULES: &str =
+    "001600450000150000000040118e9ac0000201c6336409aa020701040000000020030a040a0000000a0000ff11";
+
+#[test]
+fn items_of_ip_packets_become_acts_in_order(rt: HostRuntime) -> Result<(), Fail> {
+    let alloc = rt.alloc();
+    let goal = Goal::Ip {
+        area: None,
+        protocol: None,
+    };
+    let mut stream = DataStream::new(1, goal);
+    let piece = bytes(alloc, IP_CAPSULES)?;
+    let mut dues = Dues::new(alloc);
+    stream.take(alloc, 1500, piece.as_slice(), false, &mut dues)?;
+    let text = lines(alloc, &mut dues)?;
+    let packet = "1 packet 0 450000150000000040118e9ac0000201c6336409aa";
+    let request = "1 assign [Asked { id: 1, block: Prefix { addr: V4(0), length: 32 } }]";
+    let routes = "1 advertise [Range { first: V4(167772160), last: V4(167772415), protocol: 17 }]";
+    assert_eq!(rt; text, format!(in alloc; "{packet}\n{request}\n{routes}\n")?);
     Ok(())
 }
 

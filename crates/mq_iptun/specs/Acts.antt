@@ -45,10 +45,11 @@ pub record MayAdvertise (ranges : List Range) : Type 0 where
   pub few : length ranges ≤ 32
   pub ordered : IsOrdered ranges
 
+-- what a data stream may ask for: a push comes of a verdict alone
 abbrev pub MayAct : StreamAct → Type 0
 MayAct (stream.Payload n payload) = Unit {0}
 MayAct (stream.Packet n packet flow) = Unit {0}
-MayAct (stream.Push n to packet) = Unit {0}
+MayAct (stream.Push n to packet) = ⊥
 MayAct (stream.Drop n cause) = Unit {0}
 MayAct (stream.Assign asked) = MayAssign asked
 MayAct (stream.Advertise ranges) = MayAdvertise ranges

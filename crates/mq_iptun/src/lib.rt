@@ -6,6 +6,7 @@ mod act;
 mod answer;
 mod asked;
 mod item;
+mod laws;
 mod number;
 mod packet;
 mod tunnel;
@@ -14,6 +15,7 @@ mod value;
 pub use act::IpAct;
 pub use answer::control_capsule;
 pub use item::item_act;
+pub use laws::answers_can_be_told;
 pub use number::next_number;
 pub use tunnel::IpTunnel;
 

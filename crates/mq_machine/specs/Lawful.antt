@@ -1,10 +1,11 @@
--- What holds of each connection that the machine leads to, where its tunnels are for UDP.
-use Rattle.std.specs.Prelude.{◌≡◌, ◌≢◌, ℕ, ◌+◌, ◌≤◌, ◌==◌, ◌||◌, Bool, true, false, List, [], ◌∷◌, drop, find, if◌then◌else◌, Option, Some, None}
+-- What holds of each connection that the machine leads to, whose tunnels are of the kinds that are served.
+use Rattle.std.specs.Prelude.{◌≡◌, ◌≢◌, ℕ, ◌+◌, ◌≤◌, ◌==◌, Bool, true, false, List, [], ◌∷◌, drop, find, if◌then◌else◌, Option, Some, None, option_map}
 use Rattle.std.specs.List.{AllByRecursion, list_any}
 use Rattle.std.specs.Option.{is_some}
 use Rattle.mq_h2.specs.Laws.{may_come}
 use Rattle.mq_h2.specs.State as h2
 use Rattle.mq_streams.specs.History.{total, arrived_on, consumed_on}
+use Rattle.mq_addr.specs.declared.kind.Kind.{Kind}
 use Rattle.mq_addr.specs.declared.kind.Kind.TheVariants as kind
 use Rattle.mq_talk.specs.declared.book.Reply.TheVariants as reply
 use Rattle.mq_talk.specs.declared.goal.Goal.{Goal}
@@ -22,49 +23,71 @@ use Rattle.mq_machine.specs.Laws.{BeginsWithAct}
 use Rattle.mq_machine.specs.declared.setup.Setup.{Setup}
 use Rattle.mq_machine.specs.Done.{done}
 use Rattle.mq_machine.specs.Reading.{TookNext}
-use Rattle.mq_machine.specs.State.{Conn, new_conn, Front, Head, OverHttp1, OverHttp2, Stream, Tunnel, tunnel_of}
+use Rattle.mq_machine.specs.State.{Conn, new_conn, Front, Head, OverHttp1, OverHttp2, Stream, Tunnel, kind_of, tunnel_of}
 use Rattle.mq_machine.specs.Steps.{can_read, finished, framed, given_up, port_failed, queued, settled_note, wrote}
 use Rattle.mq_machine.specs.Want.{Answer, Replied, may_wait, want_of}
 
 -- ---- what is due
 
+abbrev pub IsOfUdp : Kind → Type 0
+IsOfUdp kind.Udp = Unit {0}
+IsOfUdp kind.Ip = ⊥
+
+abbrev pub IsOfIp : Kind → Type 0
+IsOfIp kind.Udp = ⊥
+IsOfIp kind.Ip = Unit {0}
+
 abbrev pub IsUdp : Goal → Type 0
-IsUdp (goal.Udp addr port) = Unit {0}
-IsUdp (goal.Ip area protocol) = ⊥
+IsUdp goal = IsOfUdp (kind_of goal)
+
+-- Tunnels for IP packets aren't served yet.
+abbrev pub IsServed : Goal → Type 0
+IsServed = IsUdp
 
 -- a tunnel is live on this stream
 abbrev pub has_on : List Tunnel → ℕ → Bool
 has_on ts id = is_some (find (λ (t : Tunnel). t.stream == id) ts)
 
--- and one on that, too
-abbrev pub with_one : ℕ → (ℕ → Bool) → ℕ → Bool
-with_one id live other = if id == other then true else live other
+-- the kind of that tunnel
+abbrev pub kind_on : List Tunnel → ℕ → Option Kind
+kind_on ts id = option_map (λ (t : Tunnel). kind_of t.goal) (find (λ (t : Tunnel). t.stream == id) ts)
 
--- what the data stream of a tunnel for UDP may ask for
-abbrev pub IsAsked : StreamAct → Type 0
-IsAsked (stream.Payload n payload) = Unit {0}
-IsAsked (stream.Packet n packet flow) = ⊥
-IsAsked (stream.Push n to packet) = ⊥
-IsAsked (stream.Drop n cause) = Unit {0}
-IsAsked (stream.Assign asked) = ⊥
-IsAsked (stream.Advertise ranges) = ⊥
-IsAsked (stream.Close reason) = reason ≢ why.Conn
+-- and of one on that stream
+abbrev pub with_one : ℕ → Kind → (ℕ → Option Kind) → ℕ → Option Kind
+with_one id kind live other = if id == other then Some kind else live other
 
--- What is asked of a stream is asked of its live tunnel, or comes behind the opening of that. No stream opens twice.
-abbrev pub Follows : (ℕ → Bool) → List Due → Type 0
+-- what the data stream of a tunnel of this kind may ask for
+abbrev pub IsAsked : Kind → StreamAct → Type 0
+IsAsked kind (stream.Payload n payload) = IsOfUdp kind
+IsAsked kind (stream.Packet n packet flow) = IsOfIp kind
+IsAsked kind (stream.Push n to packet) = IsOfIp kind
+IsAsked kind (stream.Drop n cause) = Unit {0}
+IsAsked kind (stream.Assign asked) = IsOfIp kind
+IsAsked kind (stream.Advertise ranges) = IsOfIp kind
+IsAsked kind (stream.Close reason) = reason ≢ why.Conn
+
+-- where a tunnel of that kind is live, and not where none is
+abbrev pub IsAskedOf : Option Kind → StreamAct → Type 0
+IsAskedOf None a = ⊥
+IsAskedOf (Some kind) a = IsAsked kind a
+
+-- What is asked of a stream is asked of its live tunnel, or comes behind the opening of that. No stream opens twice, and a port is
+-- bound for UDP alone.
+abbrev pub Follows : (ℕ → Option Kind) → List Due → Type 0
 Follows live [] = Unit {0}
-Follows live (due.Do (act.Bind id goal) ∷ rest) = (live id ≡ false) × IsUdp goal × Follows (with_one id live) rest
-Follows live (due.Do (act.Open id goal) ∷ rest) = (live id ≡ false) × IsUdp goal × Follows (with_one id live) rest
+Follows live (due.Do (act.Bind id goal) ∷ rest) = (live id ≡ None) × IsUdp goal × Follows (with_one id (kind_of goal) live) rest
+Follows live (due.Do (act.Open id goal) ∷ rest) = (live id ≡ None) × IsServed goal × Follows (with_one id (kind_of goal) live) rest
 Follows live (due.Do (act.Refuse id status rule) ∷ rest) = Follows live rest
 Follows live (due.Do (act.Reset id code) ∷ rest) = Follows live rest
-Follows live (due.Do (act.OfStream id a) ∷ rest) = (live id ≡ true) × IsAsked a × Follows live rest
+Follows live (due.Do (act.OfStream id a) ∷ rest) = IsAskedOf (live id) a × Follows live rest
 Follows live (due.Spend id size ∷ rest) = Follows live rest
 Follows live (due.Fault code ∷ rest) = Follows live rest
 
--- the opening of a tunnel in the book
+-- the opening in the book of a tunnel for UDP, whose port was bound before
 abbrev pub is_open : Due → Bool
 is_open (due.Do (act.Bind id goal)) = false
-is_open (due.Do (act.Open id goal)) = true
+is_open (due.Do (act.Open id (goal.Udp addr port))) = true
+is_open (due.Do (act.Open id (goal.Ip area protocol))) = false
 is_open (due.Do (act.Refuse id status rule)) = false
 is_open (due.Do (act.Reset id code)) = false
 is_open (due.Do (act.OfStream id a)) = false
@@ -85,9 +108,20 @@ begins_on id (due.Do (act.OfStream on a)) = false
 begins_on id (due.Spend on size) = false
 begins_on id (due.Fault code) = false
 
--- a data stream has its tunnel, or one is to open for it
+-- the kind of the tunnel on this stream behind what is due, where it is this before
+abbrev pub kind_behind : ℕ → List Due → Option Kind → Option Kind
+kind_behind id [] kind = kind
+kind_behind id (due.Do (act.Bind on goal) ∷ rest) kind = kind_behind id rest (if on == id then Some (kind_of goal) else kind)
+kind_behind id (due.Do (act.Open on goal) ∷ rest) kind = kind_behind id rest (if on == id then Some (kind_of goal) else kind)
+kind_behind id (due.Do (act.Refuse on status rule) ∷ rest) kind = kind_behind id rest kind
+kind_behind id (due.Do (act.Reset on code) ∷ rest) kind = kind_behind id rest kind
+kind_behind id (due.Do (act.OfStream on a) ∷ rest) kind = kind_behind id rest kind
+kind_behind id (due.Spend on size ∷ rest) kind = kind_behind id rest kind
+kind_behind id (due.Fault code ∷ rest) kind = kind_behind id rest kind
+
+-- a data stream has its tunnel, of the kind of its goal, or one is to open for it
 abbrev pub IsSeated : List Tunnel → List Due → Stream → Type 0
-IsSeated ts dues s = (has_on ts s.id || list_any (begins_on s.id) dues) ≡ true
+IsSeated ts dues s = kind_behind s.id dues (kind_on ts s.id) ≡ Some (kind_of s.goal)
 
 -- while the connection isn't ending
 abbrev pub AreSeated : Option End → List Tunnel → List Due → List Stream → Type 0
@@ -184,13 +218,13 @@ IsOver (Some why) dues = dues ≡ []
 
 pub record Loose (e : Option End) (ds : List Due) (ts : List Tunnel) (ss : List Stream) (f : Front) : Type 0 where
   pub over : IsOver e ds
-  pub follows : Follows (has_on ts) ds
+  pub follows : Follows (kind_on ts) ds
   pub opens : NoOpens (drop 1 ds)
   pub seated : AreSeated e ts ds ss
   pub alone : Alone ts
   pub numbered : AreNumbered e ts
-  pub udp : AllByRecursion (λ (t : Tunnel). IsUdp t.goal) ts
-  pub asked : AllByRecursion (λ (s : Stream). IsUdp s.goal) ss
+  pub served : AllByRecursion (λ (t : Tunnel). IsServed t.goal) ts
+  pub asked : AllByRecursion (λ (s : Stream). IsServed s.goal) ss
   pub front : Fits f e ds ts ss
 
 -- before the end of an act: marks may be in front

@@ -69,7 +69,7 @@ pub fn starves_once()
     ensures { StarvesOnce }
 {}
 
-/// What holds of each connection whose tunnels are for UDP is kept by each of its steps.
+/// What holds of each connection is kept by each of its steps. Tunnels for IP packets aren't served yet.
 pub fn stays_lawful()
     ensures { StaysLawful }
 {

@@ -1,9 +1,10 @@
 -- What is known of a connection whose core stands for it. Nothing else above the core looks at how it stands: these facts hold
 -- of a connection with any number of tunnels, too.
-use Rattle.std.proofs.Common.{◌≡◌, ◌⊎◌, ℕ, ◌==◌, ◌+◌, cond, Bool, true, false, inl, inr, List, [], ◌∷◌, drop, All, Option, Some, None, refl, sym, ap, ◌∙◌, subst, eqb-true}
+use Rattle.std.proofs.Common.{◌≡◌, ◌⊎◌, ℕ, ◌==◌, ◌+◌, cond, Bool, true, false, nat_le, inl, inr, List, [], ◌∷◌, drop, All, Option, Some, None, refl, sym, ap, ◌∙◌, subst, eqb-true}
 use Rattle.std.specs.Prelude.{find}
 use Rattle.std.specs.List.{AllByRecursion, list_any}
 use Rattle.std.proofs.lemmas.List.Elements.{All-cons, All-nil}
+use Rattle.mq_addr.specs.declared.kind.Kind.{Kind}
 use Rattle.mq_addr.specs.declared.kind.Kind.TheVariants as kind
 use Rattle.mq_talk.specs.declared.book.Call.{Call}
 use Rattle.mq_talk.specs.declared.book.Call.TheVariants as call
@@ -16,10 +17,10 @@ use Rattle.mq_machine.specs.declared.act.StreamAct.TheVariants as stream
 use Rattle.mq_machine.specs.declared.act.Due.{Due}
 use Rattle.mq_machine.specs.declared.act.Due.TheVariants as due
 use Rattle.mq_machine.specs.Laws.{BeginsWithAct}
-use Rattle.mq_machine.specs.Lawful.{IsUdp, IsAsked, IsOver, Alone, Follows, is_open, has_on}
+use Rattle.mq_machine.specs.Lawful.{IsUdp, IsServed, IsAsked, IsOver, Alone, Follows, is_open, kind_on, has_on, with_one}
 use Rattle.mq_machine.specs.Settle.{gives_up, passing, settled}
-use Rattle.mq_machine.specs.State.{Conn, Tunnel, owed, kind_of, tunnel_of, tunnel_on}
-use Rattle.mq_machine.specs.Want.{Want, Nothing, Say, Bind, Ask, Judge, Push, Send, Over, want_of, want_by, ending_want, over_want, due_want, tunnel_want}
+use Rattle.mq_machine.specs.State.{Conn, Tunnel, owed, kind_of, tunnel_of, tunnel_on, values}
+use Rattle.mq_machine.specs.Want.{Want, Nothing, Say, Bind, Ask, Judge, Push, Send, Over, want_of, want_by, ending_want, over_want, due_want, tunnel_want, most_values}
 use Rattle.mq_machine.specs.Steps.{is_nothing, can_go_on, wrote}
 use Rattle.mq_machine.proofs.Lawful.Idle as lawful
 use Rattle.mq_machine.proofs.Lawful.Lists.{itself, or_false, unless_true, never, In, found_in, in_has}
@@ -30,13 +31,31 @@ use Rattle.mq_step.proofs.Keeping.{NoOpens, nothing_due, no_opens_nil, no_opens_
 
 -- ---- openings
 
-none_open : (ds : List Due) → list_any is_open ds ≡ false → NoOpens ds
-none_open [] h = no_opens_nil
-none_open (d ∷ ds) h = let parts = or_false (is_open d) (list_any is_open ds) h in no_opens_cons d ds parts.0 (none_open ds parts.1)
+-- where those that are served are, none of any kind
+none_open : (live : ℕ → Option Kind) (ds : List Due) → Follows live ds → list_any is_open ds ≡ false → NoOpens ds
+none_open live [] f h = no_opens_nil
+none_open live (due.Do (act.Bind id goal) ∷ rest) f h = no_opens_cons _ rest refl (none_open (with_one id (kind_of goal) live) rest f.2 h)
+none_open live (due.Do (act.Open id (goal.Udp addr port)) ∷ rest) f h = absurd cc
+none_open live (due.Do (act.Open id (goal.Ip area protocol)) ∷ rest) f h = absurd f.1
+none_open live (due.Do (act.Refuse id status rule) ∷ rest) f h = no_opens_cons _ rest refl (none_open live rest f h)
+none_open live (due.Do (act.Reset id code) ∷ rest) f h = no_opens_cons _ rest refl (none_open live rest f h)
+none_open live (due.Do (act.OfStream id a) ∷ rest) f h = no_opens_cons _ rest refl (none_open live rest f.1 h)
+none_open live (due.Spend id size ∷ rest) f h = no_opens_cons _ rest refl (none_open live rest f h)
+none_open live (due.Fault code ∷ rest) f h = no_opens_cons _ rest refl (none_open live rest f h)
+
+none_behind : (live : ℕ → Option Kind) (ds : List Due) → Follows live ds → list_any is_open (drop 1 ds) ≡ false → NoOpens (drop 1 ds)
+none_behind live [] f h = no_opens_nil
+none_behind live (due.Do (act.Bind id goal) ∷ rest) f h = none_open (with_one id (kind_of goal) live) rest f.2 h
+none_behind live (due.Do (act.Open id goal) ∷ rest) f h = none_open (with_one id (kind_of goal) live) rest f.2 h
+none_behind live (due.Do (act.Refuse id status rule) ∷ rest) f h = none_open live rest f h
+none_behind live (due.Do (act.Reset id code) ∷ rest) f h = none_open live rest f h
+none_behind live (due.Do (act.OfStream id a) ∷ rest) f h = none_open live rest f.1 h
+none_behind live (due.Spend id size ∷ rest) f h = none_open live rest f h
+none_behind live (due.Fault code ∷ rest) f h = none_open live rest f h
 
 -- behind what is due first there is no opening
 pub tail_opens : (c : Core) (s : Conn) → IsConn c s → NoOpens (drop 1 s.due)
-tail_opens c s is = none_open (drop 1 s.due) is.lawful.loose.opens
+tail_opens c s is = none_behind (kind_on s.tunnels) s.due is.lawful.loose.follows is.lawful.loose.opens
 
 -- what it wants, by what is due first
 wants_first : (s : Conn) (ds : List Due) → s.ending ≡ None → s.due ≡ ds → want_of s ≡ due_want s ds
@@ -97,7 +116,7 @@ ending_udp : (s : Conn) (why : End) (ts : List Tunnel) → IsUdpWant (ending_wan
 ending_udp s why [] = over_udp why (owed s)
 ending_udp s why (t ∷ ts) = tt
 
-tunnel_udp : (o : Option Tunnel) (a : StreamAct) → IsAsked a → IsUdpWant (tunnel_want o a)
+tunnel_udp : (o : Option Tunnel) (a : StreamAct) → IsAsked kind.Udp a → IsUdpWant (tunnel_want o a)
 tunnel_udp None a h = tt
 tunnel_udp (Some t) (stream.Payload n payload) h = tt
 tunnel_udp (Some t) (stream.Packet n packet flow) h = h
@@ -107,23 +126,27 @@ tunnel_udp (Some t) (stream.Assign asked) h = absurd h
 tunnel_udp (Some t) (stream.Advertise ranges) h = h
 tunnel_udp (Some t) (stream.Close why) h = tt
 
-due_udp : (s : Conn) (ds : List Due) → Follows (has_on s.tunnels) ds → IsUdpWant (due_want s ds)
-due_udp s [] h = tt
-due_udp s (due.Do (act.Bind id goal) ∷ rest) h = h.1
-due_udp s (due.Do (act.Open id goal) ∷ rest) h = h.1
-due_udp s (due.Do (act.Refuse id status rule) ∷ rest) h = tt
-due_udp s (due.Do (act.Reset id code) ∷ rest) h = tt
-due_udp s (due.Do (act.OfStream id a) ∷ rest) h = tunnel_udp (tunnel_on s id) a h.1
-due_udp s (due.Spend id size ∷ rest) h = tt
-due_udp s (due.Fault code ∷ rest) h = tt
+-- tunnels for UDP alone are served
+abbrev AreServed : List Tunnel → Type 0
+AreServed ts = AllByRecursion (λ (t : Tunnel). IsServed t.goal) ts
 
-udp_by : (s : Conn) (e : Option End) → Follows (has_on s.tunnels) s.due → IsUdpWant (want_by s e)
-udp_by s None h = due_udp s s.due h
-udp_by s (Some why) h = ending_udp s why s.tunnels
+due_udp : (s : Conn) (ds : List Due) → AreServed s.tunnels → Follows (kind_on s.tunnels) ds → IsUdpWant (due_want s ds)
+due_udp s [] all h = tt
+due_udp s (due.Do (act.Bind id goal) ∷ rest) all h = h.1
+due_udp s (due.Do (act.Open id goal) ∷ rest) all h = h.1
+due_udp s (due.Do (act.Refuse id status rule) ∷ rest) all h = tt
+due_udp s (due.Do (act.Reset id code) ∷ rest) all h = tt
+due_udp s (due.Do (act.OfStream id a) ∷ rest) all h = tunnel_udp (tunnel_on s id) a (lawful.served_asked s.tunnels id a all h.0)
+due_udp s (due.Spend id size ∷ rest) all h = tt
+due_udp s (due.Fault code ∷ rest) all h = tt
+
+udp_by : (s : Conn) (e : Option End) → AreServed s.tunnels → Follows (kind_on s.tunnels) s.due → IsUdpWant (want_by s e)
+udp_by s None all h = due_udp s s.due all h
+udp_by s (Some why) all h = ending_udp s why s.tunnels
 
 -- its wants are those of tunnels for UDP
 pub udp_want : (c : Core) (s : Conn) → IsConn c s → IsUdpWant (want_of s)
-udp_want c s is = udp_by s s.ending is.lawful.loose.follows
+udp_want c s is = udp_by s s.ending is.lawful.loose.served is.lawful.loose.follows
 
 over_asks_nothing : (why : End) (bytes : List ℕ) (asked : Call) → over_want why bytes ≡ Ask asked → ⊥
 over_asks_nothing why [] asked w = cc
@@ -134,27 +157,31 @@ over_asks_nothing why (b ∷ bytes) asked w = by_case (gives_up why) w where
 
 -- ---- an opening
 
-tunnel_opens : (o : Option Tunnel) (a : StreamAct) (conn id actor : ℕ) (goal : Goal) → IsAsked a → tunnel_want o a ≡ Ask (call.Open conn id actor goal) → ⊥
-tunnel_opens None a conn id actor goal h w = cc
-tunnel_opens (Some t) (stream.Payload n payload) conn id actor goal h w = cc
-tunnel_opens (Some t) (stream.Packet n packet flow) conn id actor goal h w = h
-tunnel_opens (Some t) (stream.Push n to packet) conn id actor goal h w = h
-tunnel_opens (Some t) (stream.Drop n cause) conn id actor goal h w = cc
-tunnel_opens (Some t) (stream.Assign asked) conn id actor goal h w = h
-tunnel_opens (Some t) (stream.Advertise ranges) conn id actor goal h w = h
-tunnel_opens (Some t) (stream.Close why) conn id actor goal h w = cc
+tunnel_opens : (o : Option Tunnel) (a : StreamAct) (conn id actor : ℕ) (goal : Goal) → tunnel_want o a ≡ Ask (call.Open conn id actor goal) → ⊥
+tunnel_opens None a conn id actor goal w = cc
+tunnel_opens (Some t) (stream.Payload n payload) conn id actor goal w = cc
+tunnel_opens (Some t) (stream.Packet n packet flow) conn id actor goal w = cc
+tunnel_opens (Some t) (stream.Push n to packet) conn id actor goal w = cc
+tunnel_opens (Some t) (stream.Drop n cause) conn id actor goal w = cc
+tunnel_opens (Some t) (stream.Assign asked) conn id actor goal w = by_case (nat_le most_values (values t)) w
+  where
+    by_case : (b : Bool) → cond b (Ask (call.Close t.id)) (Ask (call.Assign t.id asked)) ≡ Ask (call.Open conn id actor goal) → ⊥
+    by_case true e = cc
+    by_case false e = cc
+tunnel_opens (Some t) (stream.Advertise ranges) conn id actor goal w = cc
+tunnel_opens (Some t) (stream.Close why) conn id actor goal w = cc
 
 -- it names itself and its actor
 abbrev NamesItself : Conn → ℕ → ℕ → Type 0
 NamesItself s conn actor = (conn ≡ s.number) × (actor ≡ s.actor)
 
-due_opens : (s : Conn) (ds : List Due) (conn id actor : ℕ) (goal : Goal) → Follows (has_on s.tunnels) ds → due_want s ds ≡ Ask (call.Open conn id actor goal) → NamesItself s conn actor
+due_opens : (s : Conn) (ds : List Due) (conn id actor : ℕ) (goal : Goal) → Follows (kind_on s.tunnels) ds → due_want s ds ≡ Ask (call.Open conn id actor goal) → NamesItself s conn actor
 due_opens s [] conn id actor goal h w = absurd cc
 due_opens s (due.Do (act.Bind on g) ∷ rest) conn id actor goal h w = absurd cc
 due_opens s (due.Do (act.Open on g) ∷ rest) conn id actor goal h w = (cc, cc)
 due_opens s (due.Do (act.Refuse on status rule) ∷ rest) conn id actor goal h w = absurd cc
 due_opens s (due.Do (act.Reset on code) ∷ rest) conn id actor goal h w = absurd cc
-due_opens s (due.Do (act.OfStream on a) ∷ rest) conn id actor goal h w = absurd (tunnel_opens (tunnel_on s on) a conn id actor goal h.1 w)
+due_opens s (due.Do (act.OfStream on a) ∷ rest) conn id actor goal h w = absurd (tunnel_opens (tunnel_on s on) a conn id actor goal w)
 due_opens s (due.Spend on size ∷ rest) conn id actor goal h w = absurd cc
 due_opens s (due.Fault code ∷ rest) conn id actor goal h w = absurd cc
 
@@ -162,7 +189,7 @@ ending_opens : (s : Conn) (why : End) (ts : List Tunnel) (conn id actor : ℕ) (
 ending_opens s why [] conn id actor goal w = over_asks_nothing why (owed s) (call.Open conn id actor goal) w
 ending_opens s why (t ∷ ts) conn id actor goal w = cc
 
-opens_by : (s : Conn) (e : Option End) (conn id actor : ℕ) (goal : Goal) → s.ending ≡ e → Follows (has_on s.tunnels) s.due → want_by s e ≡ Ask (call.Open conn id actor goal)
+opens_by : (s : Conn) (e : Option End) (conn id actor : ℕ) (goal : Goal) → s.ending ≡ e → Follows (kind_on s.tunnels) s.due → want_by s e ≡ Ask (call.Open conn id actor goal)
     → (s.ending ≡ None) × (conn ≡ s.number) × (actor ≡ s.actor)
 opens_by s None conn id actor goal ending h w = let names = due_opens s s.due conn id actor goal h w in (ending, names.0, names.1)
 opens_by s (Some why) conn id actor goal ending h w = absurd (ending_opens s why s.tunnels conn id actor goal w)
@@ -194,23 +221,27 @@ looked_up s tunnel (t, live, same) = find_some (λ (x : Tunnel). x.id == tunnel)
 on_live : (s : Conn) (on : ℕ) (u : Tunnel) (tunnel : ℕ) → tunnel_on s on ≡ Some u → u.id ≡ tunnel → HasTunnel s tunnel
 on_live s on u tunnel is same = (u, (found_in (λ (x : Tunnel). x.stream == on) s.tunnels u is).1, same)
 
-tunnel_closes : (s : Conn) (on : ℕ) (x : Option Tunnel) (a : StreamAct) (tunnel : ℕ) → tunnel_on s on ≡ x → IsAsked a → tunnel_want x a ≡ Ask (call.Close tunnel) → HasTunnel s tunnel
-tunnel_closes s on None a tunnel is h w = absurd cc
-tunnel_closes s on (Some u) (stream.Payload n payload) tunnel is h w = absurd cc
-tunnel_closes s on (Some u) (stream.Packet n packet flow) tunnel is h w = absurd h
-tunnel_closes s on (Some u) (stream.Push n to packet) tunnel is h w = absurd h
-tunnel_closes s on (Some u) (stream.Drop n cause) tunnel is h w = absurd cc
-tunnel_closes s on (Some u) (stream.Assign asked) tunnel is h w = absurd h
-tunnel_closes s on (Some u) (stream.Advertise ranges) tunnel is h w = absurd h
-tunnel_closes s on (Some u) (stream.Close why) tunnel is h w = on_live s on u tunnel is cc
+tunnel_closes : (s : Conn) (on : ℕ) (x : Option Tunnel) (a : StreamAct) (tunnel : ℕ) → tunnel_on s on ≡ x → tunnel_want x a ≡ Ask (call.Close tunnel) → HasTunnel s tunnel
+tunnel_closes s on None a tunnel is w = absurd cc
+tunnel_closes s on (Some u) (stream.Payload n payload) tunnel is w = absurd cc
+tunnel_closes s on (Some u) (stream.Packet n packet flow) tunnel is w = absurd cc
+tunnel_closes s on (Some u) (stream.Push n to packet) tunnel is w = absurd cc
+tunnel_closes s on (Some u) (stream.Drop n cause) tunnel is w = absurd cc
+tunnel_closes s on (Some u) (stream.Assign asked) tunnel is w = by_case (nat_le most_values (values u)) w
+  where
+    by_case : (b : Bool) → cond b (Ask (call.Close u.id)) (Ask (call.Assign u.id asked)) ≡ Ask (call.Close tunnel) → HasTunnel s tunnel
+    by_case true e = on_live s on u tunnel is cc
+    by_case false e = absurd cc
+tunnel_closes s on (Some u) (stream.Advertise ranges) tunnel is w = absurd cc
+tunnel_closes s on (Some u) (stream.Close why) tunnel is w = on_live s on u tunnel is cc
 
-due_closes : (s : Conn) (ds : List Due) (tunnel : ℕ) → Follows (has_on s.tunnels) ds → due_want s ds ≡ Ask (call.Close tunnel) → HasTunnel s tunnel
+due_closes : (s : Conn) (ds : List Due) (tunnel : ℕ) → Follows (kind_on s.tunnels) ds → due_want s ds ≡ Ask (call.Close tunnel) → HasTunnel s tunnel
 due_closes s [] tunnel h w = absurd cc
 due_closes s (due.Do (act.Bind on g) ∷ rest) tunnel h w = absurd cc
 due_closes s (due.Do (act.Open on g) ∷ rest) tunnel h w = absurd cc
 due_closes s (due.Do (act.Refuse on status rule) ∷ rest) tunnel h w = absurd cc
 due_closes s (due.Do (act.Reset on code) ∷ rest) tunnel h w = absurd cc
-due_closes s (due.Do (act.OfStream on a) ∷ rest) tunnel h w = tunnel_closes s on (tunnel_on s on) a tunnel refl h.1 w
+due_closes s (due.Do (act.OfStream on a) ∷ rest) tunnel h w = tunnel_closes s on (tunnel_on s on) a tunnel refl w
 due_closes s (due.Spend on size ∷ rest) tunnel h w = absurd cc
 due_closes s (due.Fault code ∷ rest) tunnel h w = absurd cc
 
@@ -218,7 +249,7 @@ ending_closes : (s : Conn) (why : End) (ts : List Tunnel) (tunnel : ℕ) → end
 ending_closes s why [] tunnel w = absurd (over_asks_nothing why (owed s) (call.Close tunnel) w)
 ending_closes s why (t ∷ ts) tunnel w = (t, inl refl, cc)
 
-closes_by : (s : Conn) (e : Option End) (tunnel : ℕ) → Follows (has_on s.tunnels) s.due → want_by s e ≡ Ask (call.Close tunnel) → HasTunnel s tunnel
+closes_by : (s : Conn) (e : Option End) (tunnel : ℕ) → Follows (kind_on s.tunnels) s.due → want_by s e ≡ Ask (call.Close tunnel) → HasTunnel s tunnel
 closes_by s None tunnel h w = due_closes s s.due tunnel h w
 closes_by s (Some why) tunnel h w = ending_closes s why s.tunnels tunnel w
 
@@ -228,23 +259,27 @@ close_live c s tunnel is w = looked_up s tunnel (closes_by s s.ending tunnel is.
 
 -- ---- a send
 
-tunnel_sends : (s : Conn) (on : ℕ) (x : Option Tunnel) (a : StreamAct) (tunnel n : ℕ) (payload : List ℕ) → tunnel_on s on ≡ x → IsAsked a → tunnel_want x a ≡ Send tunnel n payload → HasTunnel s tunnel
-tunnel_sends s on None a tunnel n payload is h w = absurd cc
-tunnel_sends s on (Some u) (stream.Payload k bytes) tunnel n payload is h w = on_live s on u tunnel is cc
-tunnel_sends s on (Some u) (stream.Packet k packet flow) tunnel n payload is h w = absurd h
-tunnel_sends s on (Some u) (stream.Push k to packet) tunnel n payload is h w = absurd h
-tunnel_sends s on (Some u) (stream.Drop k cause) tunnel n payload is h w = absurd cc
-tunnel_sends s on (Some u) (stream.Assign asked) tunnel n payload is h w = absurd h
-tunnel_sends s on (Some u) (stream.Advertise ranges) tunnel n payload is h w = absurd h
-tunnel_sends s on (Some u) (stream.Close why) tunnel n payload is h w = absurd cc
+tunnel_sends : (s : Conn) (on : ℕ) (x : Option Tunnel) (a : StreamAct) (tunnel n : ℕ) (payload : List ℕ) → tunnel_on s on ≡ x → tunnel_want x a ≡ Send tunnel n payload → HasTunnel s tunnel
+tunnel_sends s on None a tunnel n payload is w = absurd cc
+tunnel_sends s on (Some u) (stream.Payload k bytes) tunnel n payload is w = on_live s on u tunnel is cc
+tunnel_sends s on (Some u) (stream.Packet k packet flow) tunnel n payload is w = absurd cc
+tunnel_sends s on (Some u) (stream.Push k to packet) tunnel n payload is w = absurd cc
+tunnel_sends s on (Some u) (stream.Drop k cause) tunnel n payload is w = absurd cc
+tunnel_sends s on (Some u) (stream.Assign asked) tunnel n payload is w = by_case (nat_le most_values (values u)) w
+  where
+    by_case : (b : Bool) → cond b (Ask (call.Close u.id)) (Ask (call.Assign u.id asked)) ≡ Send tunnel n payload → HasTunnel s tunnel
+    by_case true e = absurd cc
+    by_case false e = absurd cc
+tunnel_sends s on (Some u) (stream.Advertise ranges) tunnel n payload is w = absurd cc
+tunnel_sends s on (Some u) (stream.Close why) tunnel n payload is w = absurd cc
 
-due_sends : (s : Conn) (ds : List Due) (tunnel n : ℕ) (payload : List ℕ) → Follows (has_on s.tunnels) ds → due_want s ds ≡ Send tunnel n payload → HasTunnel s tunnel
+due_sends : (s : Conn) (ds : List Due) (tunnel n : ℕ) (payload : List ℕ) → Follows (kind_on s.tunnels) ds → due_want s ds ≡ Send tunnel n payload → HasTunnel s tunnel
 due_sends s [] tunnel n payload h w = absurd cc
 due_sends s (due.Do (act.Bind on g) ∷ rest) tunnel n payload h w = absurd cc
 due_sends s (due.Do (act.Open on g) ∷ rest) tunnel n payload h w = absurd cc
 due_sends s (due.Do (act.Refuse on status rule) ∷ rest) tunnel n payload h w = absurd cc
 due_sends s (due.Do (act.Reset on code) ∷ rest) tunnel n payload h w = absurd cc
-due_sends s (due.Do (act.OfStream on a) ∷ rest) tunnel n payload h w = tunnel_sends s on (tunnel_on s on) a tunnel n payload refl h.1 w
+due_sends s (due.Do (act.OfStream on a) ∷ rest) tunnel n payload h w = tunnel_sends s on (tunnel_on s on) a tunnel n payload refl w
 due_sends s (due.Spend on size ∷ rest) tunnel n payload h w = absurd cc
 due_sends s (due.Fault code ∷ rest) tunnel n payload h w = absurd cc
 
@@ -273,7 +308,7 @@ ending_ends s why (t ∷ ts) = tt
 ends_not : (s : Conn) (why : End) (w : Want) → ending_want s why s.tunnels ≡ w → IsEndingWant w
 ends_not s why w is = subst IsEndingWant is (ending_ends s why s.tunnels)
 
-sends_by : (s : Conn) (e : Option End) (tunnel n : ℕ) (payload : List ℕ) → s.ending ≡ e → Follows (has_on s.tunnels) s.due → want_by s e ≡ Send tunnel n payload
+sends_by : (s : Conn) (e : Option End) (tunnel n : ℕ) (payload : List ℕ) → s.ending ≡ e → Follows (kind_on s.tunnels) s.due → want_by s e ≡ Send tunnel n payload
     → HasTunnel s tunnel × (s.ending ≡ None)
 sends_by s None tunnel n payload ending h w = (due_sends s s.due tunnel n payload h w, ending)
 sends_by s (Some why) tunnel n payload ending h w = absurd (ends_not s why (Send tunnel n payload) w)
@@ -393,7 +428,7 @@ udp_all (t ∷ ts) h = All-cons (λ (u : Tunnel). kind_of u.goal ≡ kind.Udp) t
 
 -- they are for UDP
 pub udp_tunnels : (c : Core) (s : Conn) → IsConn c s → All (λ (t : Tunnel). kind_of t.goal ≡ kind.Udp) s.tunnels
-udp_tunnels c s is = udp_all s.tunnels is.lawful.loose.udp
+udp_tunnels c s is = udp_all s.tunnels is.lawful.loose.served
 
 -- ---- whose it is
 

@@ -23,7 +23,6 @@ use Rattle.mq_machine.specs.declared.act.StreamAct.{StreamAct}
 use Rattle.mq_machine.specs.declared.act.StreamAct.TheVariants as stream
 use Rattle.mq_machine.specs.declared.act.Due.{Due}
 use Rattle.mq_machine.specs.declared.act.Due.TheVariants as due
-use Rattle.mq_machine.specs.Lawful.{is_open}
 use Rattle.mq_machine.specs.Putting.{Putting, first_of, putting}
 use Rattle.mq_machine.specs.Settle.{settle, settled, passing, spending, gives_up}
 use Rattle.mq_machine.specs.State.{Conn, Tunnel, Waiting, Packet, Front, Head, OverHttp1, OverHttp2, owed, values, kind_of, tunnel_on}
@@ -34,8 +33,18 @@ use Rattle.mq_machine.proofs.Settling.{settled_rests}
 
 -- ---- openings that are due
 
+-- a tunnel is to open in the book
+abbrev pub is_opening : Due → Bool
+is_opening (due.Do (act.Bind id goal)) = false
+is_opening (due.Do (act.Open id goal)) = true
+is_opening (due.Do (act.Refuse id status rule)) = false
+is_opening (due.Do (act.Reset id code)) = false
+is_opening (due.Do (act.OfStream id a)) = false
+is_opening (due.Spend id size) = false
+is_opening (due.Fault code) = false
+
 abbrev pub IsNoOpen : Due → Type 0
-IsNoOpen d = is_open d ≡ false
+IsNoOpen d = is_opening d ≡ false
 
 abbrev pub NoOpens : List Due → Type 0
 NoOpens ds = All IsNoOpen ds
@@ -43,7 +52,7 @@ NoOpens ds = All IsNoOpen ds
 pub no_opens_nil : NoOpens []
 no_opens_nil = All-nil IsNoOpen
 
-pub no_opens_cons : (d : Due) (ds : List Due) → is_open d ≡ false → NoOpens ds → NoOpens (d ∷ ds)
+pub no_opens_cons : (d : Due) (ds : List Due) → is_opening d ≡ false → NoOpens ds → NoOpens (d ∷ ds)
 no_opens_cons d ds isnt none = All-cons IsNoOpen d ds isnt none
 
 pub no_opens_tail : (ds : List Due) → NoOpens ds → NoOpens (drop 1 ds)

@@ -2,8 +2,10 @@
 use Rattle.std.proofs.Common.{◌≡◌, ◌≢◌, ℕ, ◌==◌, Bool, true, false, not, cond, ◌||◌, List, [], ◌∷◌, ◌++◌, length, drop, nat_lt, filter, Option, Some, None, refl, sym, ap, ◌∙◌, subst, arith, eqb-true, option_map}
 use Rattle.std.specs.Prelude.{find}
 use Rattle.std.specs.List.{AllByRecursion, list_any}
-use Rattle.std.specs.Option.{unwrap_or}
+use Rattle.std.specs.Option.{is_some, unwrap_or}
 use Rattle.std.proofs.lemmas.Bool.{not-true}
+use Rattle.mq_addr.specs.declared.kind.Kind.{Kind}
+use Rattle.mq_addr.specs.declared.range.Flow.{Flow}
 use Rattle.mq_addr.specs.declared.range.Range.{Range}
 use Rattle.mq_h2.specs.State as h2
 use Rattle.mq_outside.specs.declared.PortPut.{PortPut}
@@ -16,6 +18,8 @@ use Rattle.mq_talk.specs.declared.note.Note.{Note}
 use Rattle.mq_talk.specs.declared.note.Why.{Why}
 use Rattle.mq_talk.specs.declared.note.Why.TheVariants as why
 use Rattle.mq_talk.specs.declared.place.Cause.TheVariants as cause
+use Rattle.mq_talk.specs.declared.place.Verdict.{Verdict}
+use Rattle.mq_talk.specs.declared.place.Verdict.TheVariants as verdict
 use Rattle.mq_machine.specs.declared.act.Act.{Act}
 use Rattle.mq_machine.specs.declared.act.Act.TheVariants as act
 use Rattle.mq_machine.specs.declared.act.StreamAct.{StreamAct}
@@ -25,15 +29,16 @@ use Rattle.mq_machine.specs.declared.act.Due.TheVariants as due
 use Rattle.mq_machine.specs.Putting.{first_of}
 use Rattle.mq_machine.specs.Settle.{settle}
 use Rattle.mq_machine.specs.State.{Conn, Front, Head, OverHttp1, OverHttp2, Stream, Tunnel, kind_of}
-use Rattle.mq_machine.specs.Want.{Answer, Said, Bound, Replied, Put}
+use Rattle.mq_machine.specs.Want.{Answer, Said, Bound, Replied, Judged, Pushed, Put}
+use Rattle.mq_machine.specs.Words.{assign_value}
 use Rattle.mq_machine.specs.Http2 as http2
-use Rattle.mq_machine.specs.Done.{is_on, is_begun, refused, closed, first_waiting, opened, dropped, sent, stream_done, tunnel_done, act_done, due_done, ending_done, done_by, done}
+use Rattle.mq_machine.specs.Done.{is_on, is_begun, refused, closed, first_waiting, opened, dropped, judged, sent, value, stream_done, tunnel_done, act_done, due_done, ending_done, done_by, done}
 use Rattle.mq_machine.specs.Steps.{settled_note}
 use Rattle.mq_h2.specs.Laws.{may_come}
-use Rattle.mq_machine.specs.Lawful.{IsUdp, IsAsked, has_on, with_one, Follows, is_open, NoOpens, begins_on, IsSeated, has_number, IsFresh, IsOfZero, IsOneRequest, IsUsed, Http2Fits, Fits, Loose, IsLoose, IsLawful}
-use Rattle.mq_machine.proofs.Lawful.Lists.{either, either_way, itself, each_filter, each_append, each_so, each_kept, any_filter, none_dropped, follows_same, kept, follows_kept, Loses, follows_lost, lost_one, begins_kept, spends_kept, none_kept, zero_request, In, found_in, in_each, has_one_more, alone_one_more, numbered_one_more, apart, alone_less, numbered_less, loses_tunnel}
+use Rattle.mq_machine.specs.Lawful.{IsServed, IsAskedOf, has_on, kind_on, with_one, Follows, is_open, NoOpens, begins_on, kind_behind, IsSeated, has_number, IsFresh, IsOfZero, IsOneRequest, IsUsed, Http2Fits, Fits, Loose, IsLoose, IsLawful}
+use Rattle.mq_machine.proofs.Lawful.Lists.{either, either_way, itself, each_filter, each_append, each_so, each_kept, any_filter, none_dropped, follows_same, some_asked, asked_reason, kept, follows_kept, Loses, lost_other, follows_lost, lost_one, begins_kept, behind_kept, spends_kept, none_kept, zero_request, In, found_in, in_each, kind_there, none_there, some_kind, kind_one_more, alone_one_more, numbered_one_more, apart, alone_less, numbered_less, loses_tunnel}
 use Rattle.mq_machine.proofs.Lawful.Acts.{keeps_out, keeps_grants, keeps_refuses, keeps_closes, keeps_fits}
-use Rattle.mq_machine.proofs.Lawful.Steps.{settle_lawful}
+use Rattle.mq_machine.proofs.Lawful.Steps.{settle_lawful, waiting_loose}
 
 -- what is done leaves it so
 abbrev LooseDone : Option (Note × Conn) → Type 0
@@ -65,14 +70,34 @@ used_rest ts (d ∷ rest) h = tt
 stream_rest : (id : ℕ) (a : StreamAct) (rest : List Due) (ts : List Tunnel) (ss : List Stream) (f : Front) → Loose None (due.Do (act.OfStream id a) ∷ rest) ts ss f → Loose None rest ts ss f
 stream_rest id a rest ts ss f h = record {
   over = tt;
-  follows = h.follows.2;
+  follows = h.follows.1;
   opens = none_dropped is_open rest h.opens;
   seated = h.seated;
   alone = h.alone;
   numbered = h.numbered;
-  udp = h.udp;
+  served = h.served;
   asked = h.asked;
-  front = fits_rest (act.OfStream id a) rest ts ss f (λ one. (zero_request rest one.1, used_rest ts rest (ap (has_on ts) (sym one.0) ∙ h.follows.0))) (λ k is. is) h.front;
+  front = fits_rest (act.OfStream id a) rest ts ss f (λ one. (zero_request rest one.1, used_rest ts rest (ap (has_on ts) (sym one.0) ∙ sym (kind_there ts id) ∙ some_asked (kind_on ts id) a h.follows.0))) (λ k is. is) h.front;
+}
+
+-- another act of the stream in front
+stream_front : (id : ℕ) (a b : StreamAct) (rest : List Due) (ts : List Tunnel) (ss : List Stream) (f : Front) → Fits f None (due.Do (act.OfStream id a) ∷ rest) ts ss → Fits f None (due.Do (act.OfStream id b) ∷ rest) ts ss
+stream_front id a b rest ts ss (Head bytes) h = absurd cc
+stream_front id a b rest ts ss OverHttp1 h = record { due = h.due; used = tt; tunnels = h.tunnels; streams = h.streams }
+stream_front id a b rest ts ss (OverHttp2 s) h = record { tunnels = h.tunnels; dues = h.dues; spends = h.spends }
+
+stream_other : (id : ℕ) (a b : StreamAct) (rest : List Due) (ts : List Tunnel) (ss : List Stream) (f : Front) → IsAskedOf (kind_on ts id) b → Loose None (due.Do (act.OfStream id a) ∷ rest) ts ss f
+    → Loose None (due.Do (act.OfStream id b) ∷ rest) ts ss f
+stream_other id a b rest ts ss f asked h = record {
+  over = tt;
+  follows = (asked, h.follows.1);
+  opens = h.opens;
+  seated = h.seated;
+  alone = h.alone;
+  numbered = h.numbered;
+  served = h.served;
+  asked = h.asked;
+  front = stream_front id a b rest ts ss f h.front;
 }
 
 reset_rest : (id code : ℕ) (rest : List Due) (ts : List Tunnel) (ss : List Stream) (f : Front) → Loose None (due.Do (act.Reset id code) ∷ rest) ts ss f → Loose None rest ts ss f
@@ -83,7 +108,7 @@ reset_rest id code rest ts ss f h = record {
   seated = h.seated;
   alone = h.alone;
   numbered = h.numbered;
-  udp = h.udp;
+  served = h.served;
   asked = h.asked;
   front = fits_rest (act.Reset id code) rest ts ss f (λ one. absurd one) (λ k is. is) h.front;
 }
@@ -102,7 +127,7 @@ bound id goal rest ts ss f h = record {
   seated = h.seated;
   alone = h.alone;
   numbered = h.numbered;
-  udp = h.udp;
+  served = h.served;
   asked = h.asked;
   front = bound_front id goal rest ts ss f h.front;
 }
@@ -117,14 +142,6 @@ Begins id (act.Refuse on status rule) = on ≡ id
 Begins id (act.Reset on code) = ⊥
 Begins id (act.OfStream on a) = ⊥
 
--- is begun by no other
-begins_other : (id k : ℕ) (a : Act) → Begins id a → (k == id) ≡ false → begins_on k (due.Do a) ≡ false
-begins_other id k (act.Bind on goal) b h = either_way on k ∙ ap (λ i. k == i) b ∙ h
-begins_other id k (act.Open on goal) b h = either_way on k ∙ ap (λ i. k == i) b ∙ h
-begins_other id k (act.Refuse on status rule) b h = refl
-begins_other id k (act.Reset on code) b h = absurd b
-begins_other id k (act.OfStream on a) b h = absurd b
-
 begins_zero : (id : ℕ) (a : Act) (rest : List Due) → Begins id a → IsOneRequest (due.Do a ∷ rest) → (id ≡ 0) × AllByRecursion IsOfZero rest
 begins_zero id (act.Bind on goal) rest b h = (sym b ∙ h.0, h.1)
 begins_zero id (act.Open on goal) rest b h = (sym b ∙ h.0, h.1)
@@ -133,21 +150,29 @@ begins_zero id (act.Reset on code) rest b h = absurd b
 begins_zero id (act.OfStream on a) rest b h = absurd b
 
 -- what is left of what follows
-begins_follows : (id : ℕ) (a : Act) (live : ℕ → Bool) (rest : List Due) → Begins id a → Follows live (due.Do a ∷ rest) → Follows live (kept id rest)
+begins_follows : (id : ℕ) (a : Act) (live : ℕ → Option Kind) (rest : List Due) → Begins id a → Follows live (due.Do a ∷ rest) → Follows live (kept id rest)
 begins_follows id (act.Bind on goal) live rest b h =
     let P : ℕ → Type 0 = λ i. Follows live (kept i rest) in
-    subst P b (follows_lost on (with_one on live) live (ap (λ t. cond t true (live on)) (itself on)) (lost_one on live h.0) rest h.2)
+    subst P b (follows_lost on (kind_of goal) (with_one on (kind_of goal) live) live (ap (λ t. cond t (Some (kind_of goal)) (live on)) (itself on)) (lost_one on (kind_of goal) live h.0) rest h.2)
 begins_follows id (act.Open on goal) live rest b h =
     let P : ℕ → Type 0 = λ i. Follows live (kept i rest) in
-    subst P b (follows_lost on (with_one on live) live (ap (λ t. cond t true (live on)) (itself on)) (lost_one on live h.0) rest h.2)
+    subst P b (follows_lost on (kind_of goal) (with_one on (kind_of goal) live) live (ap (λ t. cond t (Some (kind_of goal)) (live on)) (itself on)) (lost_one on (kind_of goal) live h.0) rest h.2)
 begins_follows id (act.Refuse on status rule) live rest b h = follows_kept id live rest h
 begins_follows id (act.Reset on code) live rest b h = absurd b
 begins_follows id (act.OfStream on a) live rest b h = absurd b
 
+-- the kind of another stream is the same without it
+behind_begins : (id k : ℕ) (a : Act) (rest : List Due) (o : Option Kind) → Begins id a → (k == id) ≡ false → kind_behind k (due.Do a ∷ rest) o ≡ kind_behind k rest o
+behind_begins id k (act.Bind on goal) rest o b h = ap (λ t. kind_behind k rest (cond t (Some (kind_of goal)) o)) (either_way on k ∙ ap (λ i. k == i) b ∙ h)
+behind_begins id k (act.Open on goal) rest o b h = ap (λ t. kind_behind k rest (cond t (Some (kind_of goal)) o)) (either_way on k ∙ ap (λ i. k == i) b ∙ h)
+behind_begins id k (act.Refuse on status rule) rest o b h = refl
+behind_begins id k (act.Reset on code) rest o b h = absurd b
+behind_begins id k (act.OfStream on a) rest o b h = absurd b
+
 begins_seated : (id : ℕ) (a : Act) (rest : List Due) (ts : List Tunnel) (ss : List Stream) → Begins id a → AllByRecursion (IsSeated ts (due.Do a ∷ rest)) ss → AllByRecursion (IsSeated ts (kept id rest)) (others id ss)
 begins_seated id a rest ts ss b h =
     each_kept (IsSeated ts (due.Do a ∷ rest)) (IsSeated ts (kept id rest)) (λ (s : Stream). not (s.id == id)) ss
-    (λ s stays seat. ap (λ t. has_on ts s.id || t) (begins_kept s.id id rest ∙ sym (ap (λ t. t || list_any (begins_on s.id) rest) (begins_other id s.id a b (not-true (s.id == id) stays)))) ∙ seat) h
+    (λ s stays seat. behind_kept s.id id rest (kind_on ts s.id) ∙ sym (behind_begins id s.id a rest (kind_on ts s.id) b (not-true (s.id == id) stays)) ∙ seat) h
 
 -- of what is due nothing more begins
 begins_more : (id k : ℕ) (a : Act) (rest : List Due) → list_any (begins_on k) (kept id rest) ≡ true → list_any (begins_on k) (due.Do a ∷ rest) ≡ true
@@ -179,13 +204,13 @@ refused_loose d id status rule a rest OverHttp1 b h =
     let none : kept id rest ≡ [] = ap (λ i. kept i rest) zero.0 ∙ none_kept rest zero.1 in
     record {
       over = none;
-      follows = begins_follows id a (has_on d.tunnels) rest b h.follows;
+      follows = begins_follows id a (kind_on d.tunnels) rest b h.follows;
       opens = no_opens_kept id rest h.opens;
       seated = tt;
       alone = h.alone;
       numbered = tt;
-      udp = h.udp;
-      asked = each_filter (λ (s : Stream). IsUdp s.goal) (λ (s : Stream). not (s.id == id)) d.streams h.asked;
+      served = h.served;
+      asked = each_filter (λ (s : Stream). IsServed s.goal) (λ (s : Stream). not (s.id == id)) d.streams h.asked;
       front = record {
         due = subst IsOneRequest (sym none) tt;
         used = tt;
@@ -197,27 +222,22 @@ refused_loose d id status rule a rest (OverHttp2 x) b h =
     let y = http2.refuses id status x in
     record {
       over = tt;
-      follows = begins_follows id a (has_on d.tunnels) rest b h.follows;
+      follows = begins_follows id a (kind_on d.tunnels) rest b h.follows;
       opens = no_opens_kept id rest h.opens;
       seated = begins_seated id a rest d.tunnels d.streams b h.seated;
       alone = h.alone;
       numbered = h.numbered;
-      udp = h.udp;
-      asked = each_filter (λ (s : Stream). IsUdp s.goal) (λ (s : Stream). not (s.id == id)) d.streams h.asked;
+      served = h.served;
+      asked = each_filter (λ (s : Stream). IsServed s.goal) (λ (s : Stream). not (s.id == id)) d.streams h.asked;
       front = keeps_fits x (record y { out = [] }) (kept id rest) d.tunnels (keeps_out x y (keeps_refuses id status x)) (kept_fits id a rest d.tunnels d.tunnels x (λ ts. ts) h.front);
     }
 
 -- ---- a tunnel opened
 
-one_more_seated : (t : Tunnel) (goal : Goal) (rest : List Due) (ts : List Tunnel) (ss : List Stream) → AllByRecursion (IsSeated ts (due.Do (act.Open t.stream goal) ∷ rest)) ss
+one_more_seated : (t : Tunnel) (rest : List Due) (ts : List Tunnel) (ss : List Stream) → kind_on ts t.stream ≡ None → AllByRecursion (IsSeated ts (due.Do (act.Open t.stream t.goal) ∷ rest)) ss
     → AllByRecursion (IsSeated (ts ++ t ∷ []) rest) ss
-one_more_seated t goal rest ts ss h =
-    each_so (IsSeated ts (due.Do (act.Open t.stream goal) ∷ rest)) (IsSeated (ts ++ t ∷ []) rest) ss
-    (λ s seat. ap (λ b. b || list_any (begins_on s.id) rest) (has_one_more t ts s.id) ∙ turned (t.stream == s.id) (has_on ts s.id) (list_any (begins_on s.id) rest) seat) h
-  where
-    turned : (b live begins : Bool) → (live || (b || begins)) ≡ true → (cond b true live || begins) ≡ true
-    turned true live begins seat = refl
-    turned false live begins seat = seat
+one_more_seated t rest ts ss none h =
+    each_so (IsSeated ts (due.Do (act.Open t.stream t.goal) ∷ rest)) (IsSeated (ts ++ t ∷ []) rest) ss (λ s seat. ap (kind_behind s.id rest) (kind_one_more t ts none s.id) ∙ seat) h
 
 opened_front : (t : Tunnel) (goal : Goal) (rest : List Due) (ts : List Tunnel) (x : h2.State) → Http2Fits x (due.Do (act.Open t.stream goal) ∷ rest) ts → Http2Fits x rest (ts ++ t ∷ [])
 opened_front t goal rest ts x h = record {
@@ -231,6 +251,11 @@ opened_front t goal rest ts x h = record {
     either_true true k h = refl
     either_true false k h = h
 
+-- over HTTP/1.1 it is on stream 0
+opened_on : (t : Tunnel) (ts : List Tunnel) → kind_on ts t.stream ≡ None → t.stream ≡ 0 → has_on (ts ++ t ∷ []) 0 ≡ true
+opened_on t ts none zero =
+    sym (kind_there (ts ++ t ∷ []) 0) ∙ ap (λ (o : Option Kind). is_some o) (kind_one_more t ts none 0) ∙ ap (λ i. is_some (cond (i == 0) (Some (kind_of t.goal)) (kind_on ts 0))) zero
+
 opened_loose : (d : Conn) (tunnel id : ℕ) (goal : Goal) (routes : List Range) (rest : List Due) (f : Front) → has_number d.tunnels tunnel ≡ false → Loose None (due.Do (act.Open id goal) ∷ rest) d.tunnels d.streams f
     → IsLoose (opened (record d { ending = None; due = rest; front = f }) tunnel id goal routes).1
 opened_loose d tunnel id goal routes rest (Head bytes) fresh h = absurd (nothing h.front.0)
@@ -242,16 +267,16 @@ opened_loose d tunnel id goal routes rest OverHttp1 fresh h =
     let ts = d.tunnels in
     record {
       over = tt;
-      follows = follows_same (with_one id (has_on ts)) (has_on (ts ++ t ∷ [])) (has_one_more t ts) rest h.follows.2;
+      follows = follows_same (with_one id (kind_of goal) (kind_on ts)) (kind_on (ts ++ t ∷ [])) (kind_one_more t ts h.follows.0) rest h.follows.2;
       opens = none_dropped is_open rest h.opens;
-      seated = one_more_seated t goal rest ts d.streams h.seated;
-      alone = alone_one_more t ts h.follows.0 h.alone;
+      seated = one_more_seated t rest ts d.streams h.follows.0 h.seated;
+      alone = alone_one_more t ts (none_there ts id h.follows.0) h.alone;
       numbered = numbered_one_more t ts fresh h.numbered;
-      udp = each_append (λ (t : Tunnel). IsUdp t.goal) ts (t ∷ []) h.udp (h.follows.1, tt);
+      served = each_append (λ (t : Tunnel). IsServed t.goal) ts (t ∷ []) h.served (h.follows.1, tt);
       asked = h.asked;
       front = record {
         due = zero_request rest h.front.due.1;
-        used = used_rest (ts ++ t ∷ []) rest (has_one_more t ts 0 ∙ ap (λ i. cond (i == 0) true (has_on ts 0)) h.front.due.0);
+        used = used_rest (ts ++ t ∷ []) rest (opened_on t ts h.follows.0 h.front.due.0);
         tunnels = each_append (λ (t : Tunnel). t.stream ≡ 0) ts (t ∷ []) h.front.tunnels (h.front.due.0, tt);
         streams = h.front.streams;
       };
@@ -262,24 +287,24 @@ opened_loose d tunnel id goal routes rest (OverHttp2 x) fresh h =
     let y = http2.grants id x in
     record {
       over = tt;
-      follows = follows_same (with_one id (has_on ts)) (has_on (ts ++ t ∷ [])) (has_one_more t ts) rest h.follows.2;
+      follows = follows_same (with_one id (kind_of goal) (kind_on ts)) (kind_on (ts ++ t ∷ [])) (kind_one_more t ts h.follows.0) rest h.follows.2;
       opens = none_dropped is_open rest h.opens;
-      seated = one_more_seated t goal rest ts d.streams h.seated;
-      alone = alone_one_more t ts h.follows.0 h.alone;
+      seated = one_more_seated t rest ts d.streams h.follows.0 h.seated;
+      alone = alone_one_more t ts (none_there ts id h.follows.0) h.alone;
       numbered = numbered_one_more t ts fresh h.numbered;
-      udp = each_append (λ (t : Tunnel). IsUdp t.goal) ts (t ∷ []) h.udp (h.follows.1, tt);
+      served = each_append (λ (t : Tunnel). IsServed t.goal) ts (t ∷ []) h.served (h.follows.1, tt);
       asked = h.asked;
       front = keeps_fits x (record y { out = [] }) rest (ts ++ t ∷ []) (keeps_out x y (keeps_grants id x)) (opened_front t goal rest ts x h.front);
     }
 
 -- ---- a tunnel closed
 
-less_seated : (t : Tunnel) (rest : List Due) (ts : List Tunnel) (ss : List Stream) → Loses t.stream (has_on ts) (has_on (apart t.id ts)) → AllByRecursion (IsSeated ts rest) ss
+less_seated : (t : Tunnel) (rest : List Due) (ts : List Tunnel) (ss : List Stream) → Loses t.stream (kind_on ts) (kind_on (apart t.id ts)) → AllByRecursion (IsSeated ts rest) ss
     → AllByRecursion (IsSeated (apart t.id ts) (kept t.stream rest)) (others t.stream ss)
 less_seated t rest ts ss lost h =
     each_kept (IsSeated ts rest) (IsSeated (apart t.id ts) (kept t.stream rest)) (λ (s : Stream). not (s.id == t.stream)) ss
-    (λ s stays seat. ap (λ b. has_on (apart t.id ts) s.id || b) (begins_kept s.id t.stream rest)
-    ∙ ap (λ b. b || list_any (begins_on s.id) rest) (lost s.id ∙ ap (λ b. cond b false (has_on ts s.id)) (not-true (s.id == t.stream) stays)) ∙ seat) h
+    (λ s stays seat. behind_kept s.id t.stream rest (kind_on (apart t.id ts) s.id)
+    ∙ ap (kind_behind s.id rest) (lost_other t.stream s.id (kind_on ts) (kind_on (apart t.id ts)) lost (not-true (s.id == t.stream) stays)) ∙ seat) h
 
 http1_ends : (reason : Why) → reason ≢ why.Conn → (e : End) × (Rattle.mq_machine.specs.Done.http1_end reason ≡ Some e)
 http1_ends why.End h = (end.Done, refl)
@@ -295,7 +320,7 @@ closed_http1 : (e : End) (t : Tunnel) (a : StreamAct) (rest : List Due) (ts : Li
     → Loose (Some e) (kept t.stream rest) (apart t.id ts) (others t.stream ss) OverHttp1
 closed_http1 e t a rest ts ss zero h =
     let none : kept t.stream rest ≡ [] = ap (λ i. kept i rest) zero ∙ none_kept rest h.front.due.1 in
-    let P : List Due → Type 0 = λ ds. Follows (has_on (apart t.id ts)) ds in
+    let P : List Due → Type 0 = λ ds. Follows (kind_on (apart t.id ts)) ds in
     record {
       over = none;
       follows = subst P (sym none) tt;
@@ -303,8 +328,8 @@ closed_http1 e t a rest ts ss zero h =
       seated = tt;
       alone = alone_less (λ (u : Tunnel). not (u.id == t.id)) ts h.alone;
       numbered = tt;
-      udp = each_filter (λ (t : Tunnel). IsUdp t.goal) (λ (u : Tunnel). not (u.id == t.id)) ts h.udp;
-      asked = each_filter (λ (s : Stream). IsUdp s.goal) (λ (s : Stream). not (s.id == t.stream)) ss h.asked;
+      served = each_filter (λ (t : Tunnel). IsServed t.goal) (λ (u : Tunnel). not (u.id == t.id)) ts h.served;
+      asked = each_filter (λ (s : Stream). IsServed s.goal) (λ (s : Stream). not (s.id == t.stream)) ss h.asked;
       front = record {
         due = subst IsOneRequest (sym none) tt;
         used = tt;
@@ -327,15 +352,16 @@ closed_loose d t a reason rest (OverHttp2 x) other i h =
     let ts = d.tunnels in
     let y = http2.closes t.stream (is_begun t.waiting) reason x in
     let lost = loses_tunnel t ts h.alone h.numbered i in
+    let was = some_kind (kind_on ts t.stream) (some_asked (kind_on ts t.stream) a h.follows.0) in
     record {
       over = tt;
-      follows = follows_lost t.stream (has_on ts) (has_on (apart t.id ts)) h.follows.0 lost rest h.follows.2;
+      follows = follows_lost t.stream was.0 (kind_on ts) (kind_on (apart t.id ts)) was.1 lost rest h.follows.1;
       opens = no_opens_kept t.stream rest h.opens;
       seated = less_seated t rest ts d.streams lost h.seated;
       alone = alone_less (λ (u : Tunnel). not (u.id == t.id)) ts h.alone;
       numbered = numbered_less (λ (u : Tunnel). not (u.id == t.id)) ts h.numbered;
-      udp = each_filter (λ (t : Tunnel). IsUdp t.goal) (λ (u : Tunnel). not (u.id == t.id)) ts h.udp;
-      asked = each_filter (λ (s : Stream). IsUdp s.goal) (λ (s : Stream). not (s.id == t.stream)) d.streams h.asked;
+      served = each_filter (λ (t : Tunnel). IsServed t.goal) (λ (u : Tunnel). not (u.id == t.id)) ts h.served;
+      asked = each_filter (λ (s : Stream). IsServed s.goal) (λ (s : Stream). not (s.id == t.stream)) d.streams h.asked;
       front = keeps_fits x (record y { out = [] }) (kept t.stream rest) (apart t.id ts) (keeps_out x y (keeps_closes t.stream (is_begun t.waiting) reason x))
           (kept_fits t.stream (act.OfStream t.stream a) rest ts (apart t.id ts) x (λ all. each_filter (λ (t : Tunnel). may_come t.stream x ≡ false) (λ (u : Tunnel). not (u.id == t.id)) ts all) h.front);
     }
@@ -354,8 +380,8 @@ closing_loose d t e us OverHttp1 h = record {
   seated = tt;
   alone = alone_less (λ (u : Tunnel). not (u.id == t.id)) (t ∷ us) h.alone;
   numbered = tt;
-  udp = each_filter (λ (t : Tunnel). IsUdp t.goal) (λ (u : Tunnel). not (u.id == t.id)) (t ∷ us) h.udp;
-  asked = each_filter (λ (s : Stream). IsUdp s.goal) (λ (s : Stream). not (s.id == t.stream)) d.streams h.asked;
+  served = each_filter (λ (t : Tunnel). IsServed t.goal) (λ (u : Tunnel). not (u.id == t.id)) (t ∷ us) h.served;
+  asked = each_filter (λ (s : Stream). IsServed s.goal) (λ (s : Stream). not (s.id == t.stream)) d.streams h.asked;
   front = record {
     due = tt;
     used = tt;
@@ -370,8 +396,8 @@ closing_loose d t e us (OverHttp2 x) h = record {
   seated = tt;
   alone = alone_less (λ (u : Tunnel). not (u.id == t.id)) (t ∷ us) h.alone;
   numbered = tt;
-  udp = each_filter (λ (t : Tunnel). IsUdp t.goal) (λ (u : Tunnel). not (u.id == t.id)) (t ∷ us) h.udp;
-  asked = each_filter (λ (s : Stream). IsUdp s.goal) (λ (s : Stream). not (s.id == t.stream)) d.streams h.asked;
+  served = each_filter (λ (t : Tunnel). IsServed t.goal) (λ (u : Tunnel). not (u.id == t.id)) (t ∷ us) h.served;
+  asked = each_filter (λ (s : Stream). IsServed s.goal) (λ (s : Stream). not (s.id == t.stream)) d.streams h.asked;
   front = record {
     tunnels = each_filter (λ (t : Tunnel). may_come t.stream x ≡ false) (λ (u : Tunnel). not (u.id == t.id)) (t ∷ us) h.front.tunnels;
     dues = h.front.dues;
@@ -386,19 +412,33 @@ sent_loose c t n payload put.Sent h = h
 sent_loose c t n payload put.Failed h = h
 sent_loose c t n payload put.NotNow h = tt
 
-stream_loose : (d : Conn) (t : Tunnel) (a : StreamAct) (answer : Answer) (rest : List Due) (f : Front) → IsAsked a → In t d.tunnels → Loose None (due.Do (act.OfStream t.stream a) ∷ rest) d.tunnels d.streams f
+judged_loose : (d : Conn) (t : Tunnel) (n : ℕ) (packet : List ℕ) (flow : Flow) (said : Verdict) (at : ℕ) (rest : List Due) (f : Front) → Loose None (due.Do (act.OfStream t.stream (stream.Packet n packet flow)) ∷ rest) d.tunnels d.streams f
+    → IsLoose (judged (record d { ending = None; due = rest; front = f }) t n packet said at).1
+judged_loose d t n packet flow (verdict.Pass to) at rest f h = stream_other t.stream (stream.Packet n packet flow) (stream.Push n to packet) rest d.tunnels d.streams f (pushes (kind_on d.tunnels t.stream) h.follows.0) h
+  where
+    pushes : (o : Option Kind) → IsAskedOf o (stream.Packet n packet flow) → IsAskedOf o (stream.Push n to packet)
+    pushes None asked = asked
+    pushes (Some kind) asked = asked
+judged_loose d t n packet flow verdict.Source at rest f h = stream_rest t.stream (stream.Packet n packet flow) rest d.tunnels d.streams f h
+judged_loose d t n packet flow verdict.NoRoute at rest f h = stream_rest t.stream (stream.Packet n packet flow) rest d.tunnels d.streams f h
+
+stream_loose : (d : Conn) (t : Tunnel) (a : StreamAct) (answer : Answer) (rest : List Due) (f : Front) → In t d.tunnels → Loose None (due.Do (act.OfStream t.stream a) ∷ rest) d.tunnels d.streams f
     → LooseDone (stream_done (record d { ending = None; due = rest; front = f }) t a answer)
-stream_loose d t (stream.Payload n payload) (Put put_so limit) rest f asked i h =
+stream_loose d t (stream.Payload n payload) (Put put_so limit) rest f i h =
     let r = stream_rest t.stream (stream.Payload n payload) rest d.tunnels d.streams f h in
     let c : Conn = record d { ending = None; due = rest; front = f } in
     either (nat_lt limit (length payload)) LooseDone (Some (dropped c t n cause.TooLong)) (sent c t n payload put_so) r (sent_loose c t n payload put_so r)
-stream_loose d t (stream.Drop n cause) Said rest f asked i h = stream_rest t.stream (stream.Drop n cause) rest d.tunnels d.streams f h
-stream_loose d t (stream.Close reason) (Replied reply.Closed) rest f asked i h = closed_loose d t (stream.Close reason) reason rest f asked i h
-stream_loose d t (stream.Packet n packet flow) answer rest f asked i h = absurd asked
-stream_loose d t (stream.Push n to packet) answer rest f asked i h = absurd asked
-stream_loose d t (stream.Assign list) answer rest f asked i h = absurd asked
-stream_loose d t (stream.Advertise ranges) answer rest f asked i h = absurd asked
-stream_loose d t a answer rest f asked i h = tt
+stream_loose d t (stream.Packet n packet flow) (Judged said at) rest f i h = judged_loose d t n packet flow said at rest f h
+stream_loose d t (stream.Push n to packet) (Pushed true) rest f i h = stream_rest t.stream (stream.Push n to packet) rest d.tunnels d.streams f h
+stream_loose d t (stream.Push n to packet) (Pushed false) rest f i h = stream_rest t.stream (stream.Push n to packet) rest d.tunnels d.streams f h
+stream_loose d t (stream.Drop n cause) Said rest f i h = stream_rest t.stream (stream.Drop n cause) rest d.tunnels d.streams f h
+stream_loose d t (stream.Assign list) (Replied (reply.Assigned given at)) rest f i h =
+    waiting_loose t.id (value 1 (assign_value given)) (record d { ending = None; due = rest; front = f }) (stream_rest t.stream (stream.Assign list) rest d.tunnels d.streams f h)
+stream_loose d t (stream.Assign list) (Replied reply.Closed) rest f i h = closed_loose d t (stream.Assign list) why.Full rest f (λ e. cc) i h
+stream_loose d t (stream.Advertise ranges) (Replied (reply.Accepted accepts at)) rest f i h = stream_rest t.stream (stream.Advertise ranges) rest d.tunnels d.streams f h
+stream_loose d t (stream.Advertise ranges) (Replied reply.Closed) rest f i h = closed_loose d t (stream.Advertise ranges) why.Full rest f (λ e. cc) i h
+stream_loose d t (stream.Close reason) (Replied reply.Closed) rest f i h = closed_loose d t (stream.Close reason) reason rest f (asked_reason (kind_on d.tunnels t.stream) reason h.follows.0) i h
+stream_loose d t a answer rest f i h = tt
 
 tunnel_loose : (d : Conn) (id : ℕ) (o : Option Tunnel) (a : StreamAct) (answer : Answer) (rest : List Due) (f : Front) → ((t : Tunnel) → o ≡ Some t → (t.stream ≡ id) × In t d.tunnels)
     → Loose None (due.Do (act.OfStream id a) ∷ rest) d.tunnels d.streams f → LooseDone (tunnel_done (record d { ending = None; due = rest; front = f }) o a answer)
@@ -406,7 +446,7 @@ tunnel_loose d id None a answer rest f is h = tt
 tunnel_loose d id (Some t) a answer rest f is h =
     let there = is t refl in
     let P : ℕ → Type 0 = λ i. Loose None (due.Do (act.OfStream i a) ∷ rest) d.tunnels d.streams f in
-    stream_loose d t a answer rest f h.follows.1 there.1 (subst P (sym there.0) h)
+    stream_loose d t a answer rest f there.1 (subst P (sym there.0) h)
 
 found_on : (ts : List Tunnel) (id : ℕ) (t : Tunnel) → find (λ (t : Tunnel). t.stream == id) ts ≡ Some t → (t.stream ≡ id) × In t ts
 found_on ts id t e = let there = found_in (λ (t : Tunnel). t.stream == id) ts t e in (eqb-true t.stream id there.0, there.1)

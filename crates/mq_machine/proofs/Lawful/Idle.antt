@@ -1,8 +1,10 @@
 -- A connection that waits for its client, the end of its link, ports that fail, and answers that it has no memory to hear.
-use Rattle.std.proofs.Common.{◌≡◌, ℕ, ◌==◌, Bool, true, false, not, cond, ◌&&◌, ◌||◌, List, [], ◌∷◌, ◌++◌, length, drop, nat_le, Option, Some, None, refl, sym, ap, subst, arith}
+use Rattle.std.proofs.Common.{◌≡◌, ℕ, ◌==◌, Bool, true, false, not, cond, ◌&&◌, ◌||◌, List, [], ◌∷◌, ◌++◌, length, drop, nat_le, Option, Some, None, refl, sym, ap, ◌∙◌, subst, arith}
+use Rattle.std.specs.Prelude.{find, option_map}
 use Rattle.std.specs.List.{AllByRecursion, list_any}
 use Rattle.std.specs.Option.{is_some}
 use Rattle.std.proofs.lemmas.Bool.{and_parts}
+use Rattle.mq_addr.specs.declared.kind.Kind.TheVariants as kind
 use Rattle.mq_talk.specs.declared.book.Call.TheVariants as call
 use Rattle.mq_talk.specs.declared.book.Reply.{Reply}
 use Rattle.mq_talk.specs.declared.book.Reply.TheVariants as reply
@@ -18,42 +20,43 @@ use Rattle.mq_machine.specs.declared.act.Due.{Due}
 use Rattle.mq_machine.specs.declared.act.Due.TheVariants as due
 use Rattle.mq_machine.specs.Laws.{BeginsWithAct}
 use Rattle.mq_machine.specs.Settle.{gives_up}
-use Rattle.mq_machine.specs.State.{Conn, Front, Head, OverHttp1, OverHttp2, Stream, Tunnel, owed, tunnel_of, tunnel_on, values}
+use Rattle.mq_machine.specs.State.{Conn, Front, Head, OverHttp1, OverHttp2, Stream, Tunnel, kind_of, owed, tunnel_of, tunnel_on, values}
 use Rattle.mq_machine.specs.Want.{Want, Nothing, Say, Ask, Answer, Replied, Over, Bind, most_values, want_of, want_by, due_want, act_want, tunnel_want, stream_want, ending_want, over_want, may_wait}
 use Rattle.mq_machine.specs.Done.{done}
 use Rattle.mq_machine.specs.Steps.{is_nothing, is_ending, most_owed, can_go_on, can_read, finish_by, finished, starved, port_failed}
 use Rattle.mq_machine.specs.Silent.{tunnels_after}
 use Rattle.mq_h2.specs.Laws.{may_come}
-use Rattle.mq_machine.specs.Lawful.{IsUdp, IsAsked, has_on, Follows, NoOpens, begins_on, IsOfZero, IsOneRequest, Fits, IsOver, Loose, IsLoose, IsLawful}
-use Rattle.mq_machine.proofs.Lawful.Lists.{either, itself, each_append, found_in, In, in_each, in_has, alone_one_more}
+use Rattle.mq_machine.specs.Lawful.{IsServed, IsAsked, IsAskedOf, kind_on, Follows, NoOpens, begins_on, IsOfZero, IsOneRequest, Fits, IsOver, Loose, IsLoose, IsLawful}
+use Rattle.mq_machine.proofs.Lawful.Lists.{either, itself, each_append, some_asked, udp_asked, closes_asked, found_in, In, in_each, in_has, kind_there, none_there, alone_one_more}
 use Rattle.mq_machine.proofs.Lawful.Steps.{nothing_left, given_front, settle_lawful}
 
 -- ---- where it wants nothing, nothing is due
 
-wants_stream : (o : Option Tunnel) (a : StreamAct) → is_some o ≡ true → IsAsked a → is_nothing (tunnel_want o a) ≡ true → ⊥
-wants_stream None a some asked h = absurd cc
-wants_stream (Some t) (stream.Payload n payload) some asked h = absurd cc
-wants_stream (Some t) (stream.Packet n packet flow) some asked h = absurd asked
-wants_stream (Some t) (stream.Push n to packet) some asked h = absurd asked
-wants_stream (Some t) (stream.Drop n cause) some asked h = absurd cc
-wants_stream (Some t) (stream.Assign list) some asked h = absurd asked
-wants_stream (Some t) (stream.Advertise ranges) some asked h = absurd asked
-wants_stream (Some t) (stream.Close reason) some asked h = absurd cc
+wants_stream : (o : Option Tunnel) (a : StreamAct) → is_some o ≡ true → is_nothing (tunnel_want o a) ≡ true → ⊥
+wants_stream None a some h = absurd cc
+wants_stream (Some t) (stream.Payload n payload) some h = absurd cc
+wants_stream (Some t) (stream.Packet n packet flow) some h = absurd cc
+wants_stream (Some t) (stream.Push n to packet) some h = absurd cc
+wants_stream (Some t) (stream.Drop n cause) some h = absurd cc
+wants_stream (Some t) (stream.Assign list) some h =
+    either (nat_le most_values (values t)) (λ (w : Want). is_nothing w ≡ true → ⊥) (Ask (call.Close t.id)) (Ask (call.Assign t.id list)) (λ e. cc) (λ e. cc) h
+wants_stream (Some t) (stream.Advertise ranges) some h = absurd cc
+wants_stream (Some t) (stream.Close reason) some h = absurd cc
 
-wants_act : (c : Conn) (a : Act) (rest : List Due) → Follows (has_on c.tunnels) (due.Do a ∷ rest) → is_nothing (act_want c a) ≡ true → ⊥
+wants_act : (c : Conn) (a : Act) (rest : List Due) → Follows (kind_on c.tunnels) (due.Do a ∷ rest) → is_nothing (act_want c a) ≡ true → ⊥
 wants_act c (act.Bind id goal) rest f h = absurd cc
 wants_act c (act.Open id goal) rest f h = absurd cc
 wants_act c (act.Refuse id status rule) rest f h = absurd cc
 wants_act c (act.Reset id code) rest f h = absurd cc
-wants_act c (act.OfStream id a) rest f h = wants_stream (tunnel_on c id) a f.0 f.1 h
+wants_act c (act.OfStream id a) rest f h = wants_stream (tunnel_on c id) a (sym (kind_there c.tunnels id) ∙ some_asked (kind_on c.tunnels id) a f.0) h
 
-nothing_due : (c : Conn) (ds : List Due) → BeginsWithAct ds → Follows (has_on c.tunnels) ds → is_nothing (due_want c ds) ≡ true → ds ≡ []
+nothing_due : (c : Conn) (ds : List Due) → BeginsWithAct ds → Follows (kind_on c.tunnels) ds → is_nothing (due_want c ds) ≡ true → ds ≡ []
 nothing_due c [] begins f h = refl
 nothing_due c (due.Do a ∷ rest) begins f h = absurd (wants_act c a rest f h)
 nothing_due c (due.Spend id size ∷ rest) begins f h = absurd begins
 nothing_due c (due.Fault code ∷ rest) begins f h = absurd begins
 
-idle_by : (c : Conn) (e : Option End) → IsOver e c.due → BeginsWithAct c.due → Follows (has_on c.tunnels) c.due → is_nothing (want_by c e) ≡ true → c.due ≡ []
+idle_by : (c : Conn) (e : Option End) → IsOver e c.due → BeginsWithAct c.due → Follows (kind_on c.tunnels) c.due → is_nothing (want_by c e) ≡ true → c.due ≡ []
 idle_by c None over begins f h = nothing_due c c.due begins f h
 idle_by c (Some reason) over begins f h = over
 
@@ -76,6 +79,17 @@ reads_idle c h can =
     let d = and_parts (is_nothing (want_of c)) (nat_le (length (owed c)) most_owed) b.0 in
     record { ending = none_ending c.ending b.1; due = idle_due c h d.0 }
 
+-- ---- while tunnels for UDP alone are served
+
+served_by : (o : Option Tunnel) (a : StreamAct) → ((t : Tunnel) → o ≡ Some t → IsServed t.goal) → IsAskedOf (option_map (λ (t : Tunnel). kind_of t.goal) o) a → IsAsked kind.Udp a
+served_by None a served h = absurd h
+served_by (Some t) a served h = udp_asked (kind_of t.goal) a (served t refl) h
+
+-- what is asked of a tunnel is asked of one for UDP
+pub served_asked : (ts : List Tunnel) (id : ℕ) (a : StreamAct) → AllByRecursion (λ (t : Tunnel). IsServed t.goal) ts → IsAskedOf (kind_on ts id) a → IsAsked kind.Udp a
+served_asked ts id a all h =
+    served_by (find (λ (t : Tunnel). t.stream == id) ts) a (λ t e. in_each (λ (t : Tunnel). IsServed t.goal) ts t all (found_in (λ (t : Tunnel). t.stream == id) ts t e).1) h
+
 -- ---- the end of the link
 
 ended_front : (reason : End) (ts : List Tunnel) (ss : List Stream) (f : Front) → Fits f None [] ts ss → Fits f (Some reason) [] ts ss
@@ -90,19 +104,19 @@ data_ends : (inside : Bool) (ts : List Tunnel) (ss : List Stream) → Loose None
     → Loose None (due.Do (act.OfStream 0 (stream.Close (cond inside why.Truncated why.End))) ∷ []) ts ss OverHttp1
 data_ends inside ts ss h = record {
   over = tt;
-  follows = (h.front.used, asks inside, tt);
+  follows = (asks inside, tt);
   opens = refl;
   seated = h.seated;
   alone = h.alone;
   numbered = h.numbered;
-  udp = h.udp;
+  served = h.served;
   asked = h.asked;
   front = record { due = (refl, tt); used = tt; tunnels = h.front.tunnels; streams = h.front.streams };
 }
   where
-    asks : (inside : Bool) → IsAsked (stream.Close (cond inside why.Truncated why.End))
-    asks true = λ e. cc
-    asks false = λ e. cc
+    asks : (inside : Bool) → IsAskedOf (kind_on ts 0) (stream.Close (cond inside why.Truncated why.End))
+    asks true = closes_asked (kind_on ts 0) why.Truncated (kind_there ts 0 ∙ h.front.used) (λ e. cc)
+    asks false = closes_asked (kind_on ts 0) why.End (kind_there ts 0 ∙ h.front.used) (λ e. cc)
 
 finish_loose : (d : Conn) (f : Front) (inside : Bool) → Loose None [] d.tunnels d.streams f → IsLoose (finish_by (record d { ending = None; due = []; front = f; is_finished = true }) f inside)
 finish_loose d (Head []) inside h = ended end.Done d.tunnels d.streams (Head []) h
@@ -169,12 +183,12 @@ port_loose : (c : Conn) (t : Tunnel) (e : Option End) → BeginsWithAct c.due �
 port_loose c t (Some reason) begins w i h = absurd (ending_waits c reason t c.tunnels i w)
 port_loose c t None begins w i h = record {
   over = tt;
-  follows = (in_has c.tunnels t i, λ e. cc, h.follows);
+  follows = (closes_asked (kind_on c.tunnels t.stream) why.Port (kind_there c.tunnels t.stream ∙ in_has c.tunnels t i) (λ e. cc), h.follows);
   opens = waits_open c c.due begins h.opens w;
   seated = h.seated;
   alone = h.alone;
   numbered = h.numbered;
-  udp = h.udp;
+  served = h.served;
   asked = h.asked;
   front = port_front c t c.due c.tunnels c.streams c.front begins w i h.front;
 }
@@ -224,7 +238,7 @@ given_loose e reason ds ts ss f h = record {
   seated = tt;
   alone = h.alone;
   numbered = tt;
-  udp = h.udp;
+  served = h.served;
   asked = tt;
   front = given_front e reason ds ts ss f h.front;
 }
@@ -254,9 +268,9 @@ opened_given reason t rest ts ss f h = record {
   follows = tt;
   opens = refl;
   seated = tt;
-  alone = alone_one_more t ts h.follows.0 h.alone;
+  alone = alone_one_more t ts (none_there ts t.stream h.follows.0) h.alone;
   numbered = tt;
-  udp = each_append (λ (t : Tunnel). IsUdp t.goal) ts (t ∷ []) h.udp (h.follows.1, tt);
+  served = each_append (λ (t : Tunnel). IsServed t.goal) ts (t ∷ []) h.served (h.follows.1, tt);
   asked = tt;
   front = opened_front reason t t.goal rest ts ss f h.front;
 }

@@ -1,9 +1,13 @@
--- What the data stream of a tunnel for UDP asks for, and that requests by a template of UDP lead to UDP.
+-- What the data stream of a tunnel asks for, and that requests lead to goals that are served.
 use Rattle.std.proofs.Common.{◌≡◌, ℕ, ◌+◌, ◌==◌, Bool, true, false, cond, nat_lt, List, [], ◌∷◌, ◌++◌, length, drop, Option, Some, None, option_map, sym, subst, inl, inr}
 use Rattle.std.specs.List.{AllByRecursion, filter_map, cons_option, list_any}
 use Rattle.mq_addr.specs.declared.addr.Addr.{Addr}
+use Rattle.mq_addr.specs.declared.entry.Asked.{Asked}
+use Rattle.mq_addr.specs.declared.entry.Given.{Given}
 use Rattle.mq_addr.specs.declared.kind.Kind.{Kind}
 use Rattle.mq_addr.specs.declared.kind.Kind.TheVariants as kind
+use Rattle.mq_addr.specs.declared.range.Flow.{Flow}
+use Rattle.mq_addr.specs.declared.range.Range.{Range}
 use Rattle.mq_capsule.specs.declared.head.Head.{Head}
 use Rattle.mq_capsule.specs.declared.item.Item.{Item}
 use Rattle.mq_capsule.specs.declared.item.Item.TheVariants as item
@@ -31,8 +35,10 @@ use Rattle.mq_machine.specs.declared.act.StreamAct.{StreamAct}
 use Rattle.mq_machine.specs.declared.act.StreamAct.TheVariants as stream
 use Rattle.mq_machine.specs.declared.setup.Setup.{Setup}
 use Rattle.mq_machine.specs.State.{Stream, kind_of}
-use Rattle.mq_machine.specs.Reading.{Meaning, Leads, Refused, decided, MatchedMeans, PathMeans, KindMeans, max_udp, udp_act, item_acts, is_payload, payload_count, is_close, then_acts, acts_of, has_values, EndsWith, BytesAsk}
-use Rattle.mq_machine.specs.Lawful.{IsUdp, IsAsked}
+use Rattle.mq_machine.specs.Reading.{Meaning, Leads, Refused, decided, MatchedMeans, PathMeans, KindMeans, max_udp, udp_act, flow_act, payload_act, too_long_act, in_context, some_or_malformed, value_acts, item_acts, is_payload, payload_count, is_close, then_acts, acts_of, has_values, EndsWith, BytesAsk}
+use Rattle.mq_machine.specs.Lawful.{IsServed, IsAsked}
+use Rattle.mq_machine.specs.Words.{assigned_of, asked_of, ranges_of}
+use Rattle.mq_talk.specs.Packets.{flow_of}
 use Rattle.mq_machine.proofs.Lawful.Lists.{either, each_append}
 
 -- ---- a reader of a tunnel for UDP tells no control capsules
@@ -74,64 +80,105 @@ said_plain cs rest = up_to _ (each_append IsPlain (filter_map (item_of false) cs
 
 -- ---- what they ask for
 
-abbrev pub AreAsked : List StreamAct → Type 0
-AreAsked acts = AllByRecursion IsAsked acts
+abbrev pub AreAsked : Kind → List StreamAct → Type 0
+AreAsked kind acts = AllByRecursion (IsAsked kind) acts
 
-asked_udp : (n : ℕ) (payload : List ℕ) → IsAsked (udp_act n payload)
-asked_udp n payload = either (nat_lt max_udp (length payload)) IsAsked (stream.Close why.Malformed) (stream.Payload n payload) (λ e. cc) tt
+asked_udp : (n : ℕ) (payload : List ℕ) → IsAsked kind.Udp (udp_act n payload)
+asked_udp n payload = either (nat_lt max_udp (length payload)) (IsAsked kind.Udp) (stream.Close why.Malformed) (stream.Payload n payload) (λ e. cc) tt
 
-asked_item : (mtu n : ℕ) (i : Item) → IsPlain i → AreAsked (item_acts kind.Udp mtu n i)
-asked_item mtu n (item.Datagram context payload) h = (either (context == 0) IsAsked (udp_act n payload) (stream.Drop n cause.UnknownContext) (asked_udp n payload) tt, tt)
-asked_item mtu n (item.TooLongDatagram context size) h = (either (context == 0) IsAsked (stream.Close why.Malformed) (stream.Drop n cause.UnknownContext) (λ e. cc) tt, tt)
-asked_item mtu n (item.Control type value) h = absurd h
-asked_item mtu n (item.Bad fault) h = (λ e. cc, tt)
+asked_flow : (mtu n : ℕ) (packet : List ℕ) (o : Option Flow) → IsAsked kind.Ip (flow_act mtu n packet o)
+asked_flow mtu n packet None = tt
+asked_flow mtu n packet (Some flow) = either (nat_lt mtu (length packet)) (IsAsked kind.Ip) (stream.Drop n cause.TooLong) (stream.Packet n packet flow) tt tt
 
-asked_then : (acts more : List StreamAct) → AreAsked acts → AreAsked more → AreAsked (then_acts acts more)
-asked_then acts more h k = each_append IsAsked acts (cond (list_any is_close acts) [] more) h (either (list_any is_close acts) AreAsked [] more tt k)
+asked_payload : (k : Kind) (mtu n : ℕ) (payload : List ℕ) → IsAsked k (payload_act k mtu n payload)
+asked_payload kind.Udp mtu n payload = asked_udp n payload
+asked_payload kind.Ip mtu n payload = asked_flow mtu n payload (flow_of payload)
 
-asked_items : (mtu n : ℕ) (items : List Item) → ArePlain items → AreAsked (acts_of kind.Udp mtu n items)
-asked_items mtu n [] h = tt
-asked_items mtu n (i ∷ items) h =
-    asked_then (item_acts kind.Udp mtu n i) (acts_of kind.Udp mtu (n + cond (is_payload i) 1 0) items) (asked_item mtu n i h.0) (asked_items mtu (n + cond (is_payload i) 1 0) items h.1)
+asked_long : (k : Kind) (n : ℕ) → IsAsked k (too_long_act k n)
+asked_long kind.Udp n = λ e. cc
+asked_long kind.Ip n = tt
 
-asked_ends : (goal : Goal) (bytes : List ℕ) (ends : Bool) (acts : List StreamAct) → EndsWith goal bytes ends acts → AreAsked acts
-asked_ends goal bytes false acts h = subst AreAsked (sym h) tt
-asked_ends goal bytes true acts (inl h) = subst AreAsked (sym h.1) (λ e. cc, tt)
-asked_ends goal bytes true acts (inr h) = subst AreAsked (sym h.1) (λ e. cc, tt)
+asked_context : (k : Kind) (context n : ℕ) (a : StreamAct) → IsAsked k a → IsAsked k (in_context context n a)
+asked_context k context n a h = either (context == 0) (IsAsked k) a (stream.Drop n cause.UnknownContext) h tt
 
-asked_goal : (mtu : ℕ) (goal : Goal) (bytes : List ℕ) (before items : List Item) → IsUdp goal → ItemsOf (has_values goal) bytes (before ++ items)
-    → AreAsked (acts_of (kind_of goal) mtu (payload_count before) items)
-asked_goal mtu (goal.Udp addr port) bytes before items h is =
-    asked_items mtu (payload_count before) items (each_behind IsPlain before items (subst ArePlain (sym is.items_are) (said_plain is.capsules is.rest)))
-asked_goal mtu (goal.Ip area protocol) bytes before items h is = absurd h
+-- control values of a tunnel for IP packets
+asked_some : {A : Type 0} (f : A → List StreamAct) (o : Option A) → ((a : A) → AreAsked kind.Ip (f a)) → AreAsked kind.Ip (some_or_malformed f o)
+asked_some f None h = (λ e. cc, tt)
+asked_some f (Some a) h = h a
+
+asked_values : (type : ℕ) (value : List ℕ) → AreAsked kind.Ip (value_acts type value)
+asked_values type value =
+    either (type == 1) (AreAsked kind.Ip) _ _ (asked_some (λ (list : List Given). []) (assigned_of value) (λ list. tt))
+    (either (type == 2) (AreAsked kind.Ip) _ _ (asked_some (λ (list : List Asked). stream.Assign list ∷ []) (asked_of value) (λ list. (tt, tt)))
+    (asked_some (λ (ranges : List Range). stream.Advertise ranges ∷ []) (ranges_of value) (λ ranges. (tt, tt))))
+
+-- a tunnel for UDP is told none
+abbrev MayTell : Kind → Item → Type 0
+MayTell kind.Udp i = IsPlain i
+MayTell kind.Ip i = Unit {0}
+
+asked_control : (k : Kind) (type : ℕ) (value : List ℕ) → MayTell k (item.Control type value) → AreAsked k (value_acts type value)
+asked_control kind.Udp type value h = absurd h
+asked_control kind.Ip type value h = asked_values type value
+
+asked_item : (k : Kind) (mtu n : ℕ) (i : Item) → MayTell k i → AreAsked k (item_acts k mtu n i)
+asked_item k mtu n (item.Datagram context payload) h = (asked_context k context n (payload_act k mtu n payload) (asked_payload k mtu n payload), tt)
+asked_item k mtu n (item.TooLongDatagram context size) h = (asked_context k context n (too_long_act k n) (asked_long k n), tt)
+asked_item k mtu n (item.Control type value) h = asked_control k type value h
+asked_item k mtu n (item.Bad fault) h = (λ e. cc, tt)
+
+asked_then : (k : Kind) (acts more : List StreamAct) → AreAsked k acts → AreAsked k more → AreAsked k (then_acts acts more)
+asked_then k acts more h l = each_append (IsAsked k) acts (cond (list_any is_close acts) [] more) h (either (list_any is_close acts) (AreAsked k) [] more tt l)
+
+asked_items : (k : Kind) (mtu n : ℕ) (items : List Item) → AllByRecursion (MayTell k) items → AreAsked k (acts_of k mtu n items)
+asked_items k mtu n [] h = tt
+asked_items k mtu n (i ∷ items) h =
+    asked_then k (item_acts k mtu n i) (acts_of k mtu (n + cond (is_payload i) 1 0) items) (asked_item k mtu n i h.0) (asked_items k mtu (n + cond (is_payload i) 1 0) items h.1)
+
+asked_ends : (goal : Goal) (bytes : List ℕ) (ends : Bool) (acts : List StreamAct) → EndsWith goal bytes ends acts → AreAsked (kind_of goal) acts
+asked_ends goal bytes false acts h = subst (AreAsked (kind_of goal)) (sym h) tt
+asked_ends goal bytes true acts (inl h) = subst (AreAsked (kind_of goal)) (sym h.1) (λ e. cc, tt)
+asked_ends goal bytes true acts (inr h) = subst (AreAsked (kind_of goal)) (sym h.1) (λ e. cc, tt)
+
+each_told : (items : List Item) → AllByRecursion (MayTell kind.Ip) items
+each_told [] = tt
+each_told (i ∷ items) = (tt, each_told items)
+
+asked_goal : (mtu : ℕ) (goal : Goal) (bytes : List ℕ) (before items : List Item) → ItemsOf (has_values goal) bytes (before ++ items)
+    → AreAsked (kind_of goal) (acts_of (kind_of goal) mtu (payload_count before) items)
+asked_goal mtu (goal.Udp addr port) bytes before items is =
+    asked_items kind.Udp mtu (payload_count before) items (each_behind IsPlain before items (subst ArePlain (sym is.items_are) (said_plain is.capsules is.rest)))
+asked_goal mtu (goal.Ip area protocol) bytes before items is = asked_items kind.Ip mtu (payload_count before) items (each_told items)
 
 -- more bytes of the data stream
-pub asked_bytes : (mtu : ℕ) (s : Stream) (bytes : List ℕ) (ends : Bool) (acts : List StreamAct) → IsUdp s.goal → BytesAsk mtu s bytes ends acts → AreAsked acts
-asked_bytes mtu s bytes ends acts h x =
-    subst AreAsked (sym x.acts_are)
-    (asked_then (acts_of (kind_of s.goal) mtu (payload_count x.before) x.items) x.last (asked_goal mtu s.goal (s.bytes ++ bytes) x.before x.items h x.is) (asked_ends s.goal (s.bytes ++ bytes) ends x.last x.ends_in))
+pub asked_bytes : (mtu : ℕ) (s : Stream) (bytes : List ℕ) (ends : Bool) (acts : List StreamAct) → BytesAsk mtu s bytes ends acts → AreAsked (kind_of s.goal) acts
+asked_bytes mtu s bytes ends acts x =
+    subst (AreAsked (kind_of s.goal)) (sym x.acts_are) (
+    asked_then (kind_of s.goal) (acts_of (kind_of s.goal) mtu (payload_count x.before) x.items) x.last
+    (asked_goal mtu s.goal (s.bytes ++ bytes) x.before x.items x.is) (asked_ends s.goal (s.bytes ++ bytes) ends x.last x.ends_in)
+    )
 
 -- ---- requests
 
-udp_addr : (port : ℕ) (o : Option Addr) (found : Goal) → option_map (λ (a : Addr). goal.Udp a port) o ≡ Some found → IsUdp found
+udp_addr : (port : ℕ) (o : Option Addr) (found : Goal) → option_map (λ (a : Addr). goal.Udp a port) o ≡ Some found → IsServed found
 udp_addr port None found e = absurd cc
-udp_addr port (Some a) found e = let same : goal.Udp a port ≡ found = cc in subst IsUdp same tt
+udp_addr port (Some a) found e = let same : goal.Udp a port ≡ found = cc in subst IsServed same tt
 
-udp_target : (first second : List ℕ) (names : NameTable) (t : Target) (found : Goal) → IsTarget kind.Udp first second t → goal_of names t ≡ Some found → IsUdp found
+udp_target : (first second : List ℕ) (names : NameTable) (t : Target) (found : Goal) → IsTarget kind.Udp first second t → goal_of names t ≡ Some found → IsServed found
 udp_target first second names (target.Udp host port) found h e = udp_addr port (addr_of names host) found e
 udp_target first second names (target.Ip area protocol) found h e = absurd h
 
-udp_reads : (names : NameTable) (order : Order) (first second : List ℕ) (t : Target) (found : Goal) → Reads kind.Udp order first second t → goal_of names t ≡ Some found → IsUdp found
+udp_reads : (names : NameTable) (order : Order) (first second : List ℕ) (t : Target) (found : Goal) → Reads kind.Udp order first second t → goal_of names t ≡ Some found → IsServed found
 udp_reads names TargetFirst first second t found h e = udp_target _ _ names t found h e
 udp_reads names TargetLast first second t found h e = udp_target _ _ names t found h e
 
 -- it leads to UDP, or is refused
 abbrev pub IsFine : Meaning → Type 0
-IsFine (Leads goal) = IsUdp goal
+IsFine (Leads goal) = IsServed goal
 IsFine (Refused status rule) = Unit {0}
 
-fine_decision : (setup : Setup) (t : Target) (d : Decision) → ((found : Goal) → goal_of setup.policy.names t ≡ Some found → IsUdp found) → Decides setup.policy t d → IsFine (decided d)
-fine_decision setup t (Go found) h x = subst IsUdp (sym x.2.0) (h x.0 x.1)
+fine_decision : (setup : Setup) (t : Target) (d : Decision) → ((found : Goal) → goal_of setup.policy.names t ≡ Some found → IsServed found) → Decides setup.policy t d → IsFine (decided d)
+fine_decision setup t (Go found) h x = subst IsServed (sym x.2.0) (h x.0 x.1)
 fine_decision setup t (Denied rule) h x = tt
 fine_decision setup t UnknownName h x = tt
 

@@ -1,15 +1,21 @@
 -- Lists of what is due, of tunnels and of data streams, where one stream's part of them goes.
-use Rattle.std.proofs.Common.{◌≡◌, ℕ, ◌<◌, ◌+◌, ◌==◌, Bool, true, false, not, cond, List, [], ◌∷◌, ◌++◌, Option, Some, None, refl, sym, ap, ◌∙◌, subst, arith, eq-eqb, ne_eqb, eqb-true, inl, inr, ◌⊎◌, ◌||◌, filter, drop}
+use Rattle.std.proofs.Common.{◌≡◌, ◌≢◌, ℕ, ◌<◌, ◌+◌, ◌==◌, Bool, true, false, not, cond, List, [], ◌∷◌, ◌++◌, Option, Some, None, option_map, refl, sym, ap, ◌∙◌, subst, arith, eq-eqb, ne_eqb, eqb-true, inl, inr, ◌⊎◌, ◌||◌, filter, drop}
 use Rattle.std.specs.Prelude.{find}
 use Rattle.std.specs.List.{AllByRecursion, list_any}
 use Rattle.std.specs.Option.{is_some, unwrap_or}
+use Rattle.mq_addr.specs.declared.kind.Kind.{Kind}
+use Rattle.mq_addr.specs.declared.kind.Kind.TheVariants as kind
+use Rattle.mq_talk.specs.declared.note.Why.{Why}
+use Rattle.mq_talk.specs.declared.note.Why.TheVariants as why
 use Rattle.mq_machine.specs.declared.act.Act.TheVariants as act
+use Rattle.mq_machine.specs.declared.act.StreamAct.{StreamAct}
+use Rattle.mq_machine.specs.declared.act.StreamAct.TheVariants as stream
 use Rattle.mq_machine.specs.declared.act.Due.{Due}
 use Rattle.mq_machine.specs.declared.act.Due.TheVariants as due
-use Rattle.mq_machine.specs.State.{Tunnel, Waiting}
+use Rattle.mq_machine.specs.State.{Tunnel, Waiting, kind_of}
 use Rattle.mq_machine.specs.Done.{is_on, waits as waits_last}
 use Rattle.mq_machine.specs.Steps.{set_waiting}
-use Rattle.mq_machine.specs.Lawful.{has_on, with_one, Follows, begins_on, Alone, has_number, Numbered, IsOfZero, IsOneRequest, spends}
+use Rattle.mq_machine.specs.Lawful.{has_on, kind_on, with_one, IsOfUdp, IsAsked, IsAskedOf, Follows, begins_on, kind_behind, Alone, has_number, Numbered, IsOfZero, IsOneRequest, spends}
 
 -- ---- tests
 
@@ -45,8 +51,11 @@ pub itself : (a : ℕ) → (a == a) ≡ true
 itself a = eq-eqb a a refl
 
 -- one is left, and the other not
-pub other_than : (live : ℕ → Bool) (a b : ℕ) → live a ≡ true → live b ≡ false → (b == a) ≡ false
-other_than live a b h k = unless_true (b == a) (λ e. never (live b) (ap live (eqb-true b a e) ∙ h) k)
+pub other_than : {A : Type 0} (live : ℕ → Option A) (a b : ℕ) (x : A) → live a ≡ Some x → live b ≡ None → (b == a) ≡ false
+other_than live a b x h k = unless_true (b == a) (λ e. some_none (sym h ∙ sym (ap live (eqb-true b a e)) ∙ k))
+  where
+    some_none : Some x ≡ None → ⊥
+    some_none e = cc
 
 pub or_false : (a b : Bool) → (a || b) ≡ false → (a ≡ false) × (b ≡ false)
 or_false true b h = absurd cc
@@ -90,20 +99,41 @@ none_dropped f (x ∷ xs) h = by_first (f x) h
     by_first true k = absurd cc
     by_first false k = k
 
+-- ---- what is asked of a kind
+
+-- a tunnel is there
+pub some_asked : (o : Option Kind) (a : StreamAct) → IsAskedOf o a → is_some o ≡ true
+some_asked None a h = absurd h
+some_asked (Some k) a h = refl
+
+pub asked_reason : (o : Option Kind) (reason : Why) → IsAskedOf o (stream.Close reason) → reason ≢ why.Conn
+asked_reason None reason h = absurd h
+asked_reason (Some k) reason h = h
+
+-- what is asked of one that is for UDP
+pub udp_asked : (k : Kind) (a : StreamAct) → IsOfUdp k → IsAsked k a → IsAsked kind.Udp a
+udp_asked kind.Udp a is h = h
+udp_asked kind.Ip a is h = absurd is
+
+-- each may be closed
+pub closes_asked : (o : Option Kind) (reason : Why) → is_some o ≡ true → reason ≢ why.Conn → IsAskedOf o (stream.Close reason)
+closes_asked None reason h k = absurd cc
+closes_asked (Some kind) reason h k = k
+
 -- ---- what follows
 
-pub with_same : (id : ℕ) (live after : ℕ → Bool) → ((k : ℕ) → after k ≡ live k) → (k : ℕ) → with_one id after k ≡ with_one id live k
-with_same id live after same k = ap (λ b. cond (id == k) true b) (same k)
+pub with_same : (id : ℕ) (kind : Kind) (live after : ℕ → Option Kind) → ((k : ℕ) → after k ≡ live k) → (k : ℕ) → with_one id kind after k ≡ with_one id kind live k
+with_same id kind live after same k = ap (λ o. cond (id == k) (Some kind) o) (same k)
 
-pub follows_same : (live after : ℕ → Bool) → ((k : ℕ) → after k ≡ live k) → (ds : List Due) → Follows live ds → Follows after ds
+pub follows_same : (live after : ℕ → Option Kind) → ((k : ℕ) → after k ≡ live k) → (ds : List Due) → Follows live ds → Follows after ds
 follows_same live after same [] h = tt
 follows_same live after same (due.Do (act.Bind id goal) ∷ rest) h =
-    (same id ∙ h.0, h.1, follows_same (with_one id live) (with_one id after) (with_same id live after same) rest h.2)
+    (same id ∙ h.0, h.1, follows_same (with_one id (kind_of goal) live) (with_one id (kind_of goal) after) (with_same id (kind_of goal) live after same) rest h.2)
 follows_same live after same (due.Do (act.Open id goal) ∷ rest) h =
-    (same id ∙ h.0, h.1, follows_same (with_one id live) (with_one id after) (with_same id live after same) rest h.2)
+    (same id ∙ h.0, h.1, follows_same (with_one id (kind_of goal) live) (with_one id (kind_of goal) after) (with_same id (kind_of goal) live after same) rest h.2)
 follows_same live after same (due.Do (act.Refuse id status rule) ∷ rest) h = follows_same live after same rest h
 follows_same live after same (due.Do (act.Reset id code) ∷ rest) h = follows_same live after same rest h
-follows_same live after same (due.Do (act.OfStream id a) ∷ rest) h = (same id ∙ h.0, h.1, follows_same live after same rest h.2)
+follows_same live after same (due.Do (act.OfStream id a) ∷ rest) h = (subst (λ (o : Option Kind). IsAskedOf o a) (sym (same id)) h.0, follows_same live after same rest h.1)
 follows_same live after same (due.Spend id size ∷ rest) h = follows_same live after same rest h
 follows_same live after same (due.Fault code ∷ rest) h = follows_same live after same rest h
 
@@ -112,69 +142,136 @@ abbrev pub kept : ℕ → List Due → List Due
 kept id ds = filter (λ d. not (is_on id d)) ds
 
 -- what stays follows
-pub follows_kept : (id : ℕ) (live : ℕ → Bool) (ds : List Due) → Follows live ds → Follows live (kept id ds)
+pub follows_kept : (id : ℕ) (live : ℕ → Option Kind) (ds : List Due) → Follows live ds → Follows live (kept id ds)
 follows_kept id live [] h = tt
-follows_kept id live (due.Do (act.Bind on goal) ∷ rest) h = (h.0, h.1, follows_kept id (with_one on live) rest h.2)
-follows_kept id live (due.Do (act.Open on goal) ∷ rest) h = (h.0, h.1, follows_kept id (with_one on live) rest h.2)
+follows_kept id live (due.Do (act.Bind on goal) ∷ rest) h = (h.0, h.1, follows_kept id (with_one on (kind_of goal) live) rest h.2)
+follows_kept id live (due.Do (act.Open on goal) ∷ rest) h = (h.0, h.1, follows_kept id (with_one on (kind_of goal) live) rest h.2)
 follows_kept id live (due.Do (act.Refuse on status rule) ∷ rest) h = follows_kept id live rest h
 follows_kept id live (due.Do (act.Reset on code) ∷ rest) h = follows_kept id live rest h
 follows_kept id live (due.Do (act.OfStream on a) ∷ rest) h =
-    let later = follows_kept id live rest h.2 in
-    either (not (on == id)) (Follows live) (due.Do (act.OfStream on a) ∷ kept id rest) (kept id rest) (h.0, h.1, later) later
+    let later = follows_kept id live rest h.1 in
+    either (not (on == id)) (Follows live) (due.Do (act.OfStream on a) ∷ kept id rest) (kept id rest) (h.0, later) later
 follows_kept id live (due.Spend on size ∷ rest) h = follows_kept id live rest h
 follows_kept id live (due.Fault code ∷ rest) h = follows_kept id live rest h
 
 -- this stream isn't live any more
-abbrev pub Loses : ℕ → (ℕ → Bool) → (ℕ → Bool) → Type 0
-Loses id live after = (k : ℕ) → after k ≡ cond (k == id) false (live k)
+abbrev pub Loses : ℕ → (ℕ → Option Kind) → (ℕ → Option Kind) → Type 0
+Loses id live after = (k : ℕ) → after k ≡ cond (k == id) None (live k)
 
-lost_other : (id on : ℕ) (live after : ℕ → Bool) → Loses id live after → (on == id) ≡ false → after on ≡ live on
-lost_other id on live after lost other = lost on ∙ ap (λ b. cond b false (live on)) other
+pub lost_other : (id on : ℕ) (live after : ℕ → Option Kind) → Loses id live after → (on == id) ≡ false → after on ≡ live on
+lost_other id on live after lost other = lost on ∙ ap (λ b. cond b None (live on)) other
 
 -- another that comes is live in both
-lost_with : (id on : ℕ) (live after : ℕ → Bool) → Loses id live after → (on == id) ≡ false → Loses id (with_one on live) (with_one on after)
-lost_with id on live after lost other k = by_case (cases (on == k))
+lost_with : (id on : ℕ) (kind : Kind) (live after : ℕ → Option Kind) → Loses id live after → (on == id) ≡ false → Loses id (with_one on kind live) (with_one on kind after)
+lost_with id on kind live after lost other k = by_case (cases (on == k))
   where
-    by_case : ((on == k) ≡ true) ⊎ ((on == k) ≡ false) → with_one on after k ≡ cond (k == id) false (with_one on live k)
+    by_case : ((on == k) ≡ true) ⊎ ((on == k) ≡ false) → with_one on kind after k ≡ cond (k == id) None (with_one on kind live k)
     by_case (inl e) =
         let none : (k == id) ≡ false = ap (λ i. i == id) (sym (eqb-true on k e)) ∙ other in
-        ap (λ b. cond b true (after k)) e ∙ sym (ap (λ b. cond b false (with_one on live k)) none ∙ ap (λ b. cond b true (live k)) e)
-    by_case (inr e) = ap (λ b. cond b true (after k)) e ∙ lost k ∙ sym (ap (λ b. cond (k == id) false (cond b true (live k))) e)
+        ap (λ b. cond b (Some kind) (after k)) e ∙ sym (ap (λ b. cond b None (with_one on kind live k)) none ∙ ap (λ b. cond b (Some kind) (live k)) e)
+    by_case (inr e) = ap (λ b. cond b (Some kind) (after k)) e ∙ lost k ∙ sym (ap (λ b. cond (k == id) None (cond b (Some kind) (live k))) e)
 
-with_live : (id on : ℕ) (live : ℕ → Bool) → live id ≡ true → with_one on live id ≡ true
-with_live id on live h = either (on == id) (λ b. b ≡ true) true (live id) refl h
+with_live : (id on : ℕ) (kind was : Kind) (live : ℕ → Option Kind) → (on == id) ≡ false → live id ≡ Some was → with_one on kind live id ≡ Some was
+with_live id on kind was live other h = ap (λ b. cond b (Some kind) (live id)) other ∙ h
 
-pub follows_lost : (id : ℕ) (live after : ℕ → Bool) → live id ≡ true → Loses id live after → (ds : List Due) → Follows live ds → Follows after (kept id ds)
-follows_lost id live after was lost [] h = tt
-follows_lost id live after was lost (due.Do (act.Bind on goal) ∷ rest) h =
-    let other = other_than live id on was h.0 in
-    (lost_other id on live after lost other ∙ h.0, h.1, follows_lost id (with_one on live) (with_one on after) (with_live id on live was) (lost_with id on live after lost other) rest h.2)
-follows_lost id live after was lost (due.Do (act.Open on goal) ∷ rest) h =
-    let other = other_than live id on was h.0 in
-    (lost_other id on live after lost other ∙ h.0, h.1, follows_lost id (with_one on live) (with_one on after) (with_live id on live was) (lost_with id on live after lost other) rest h.2)
-follows_lost id live after was lost (due.Do (act.Refuse on status rule) ∷ rest) h = follows_lost id live after was lost rest h
-follows_lost id live after was lost (due.Do (act.Reset on code) ∷ rest) h = follows_lost id live after was lost rest h
-follows_lost id live after was lost (due.Do (act.OfStream on a) ∷ rest) h =
-    let later = follows_lost id live after was lost rest h.2 in
+pub follows_lost : (id : ℕ) (was : Kind) (live after : ℕ → Option Kind) → live id ≡ Some was → Loses id live after → (ds : List Due) → Follows live ds → Follows after (kept id ds)
+follows_lost id was live after is lost [] h = tt
+follows_lost id was live after is lost (due.Do (act.Bind on goal) ∷ rest) h =
+    let other = other_than live id on was is h.0 in
+    let kind = kind_of goal in (
+      lost_other id on live after lost other ∙ h.0,
+      h.1,
+      follows_lost id was (with_one on kind live) (with_one on kind after) (with_live id on kind was live other is) (lost_with id on kind live after lost other) rest h.2,
+    )
+follows_lost id was live after is lost (due.Do (act.Open on goal) ∷ rest) h =
+    let other = other_than live id on was is h.0 in
+    let kind = kind_of goal in (
+      lost_other id on live after lost other ∙ h.0,
+      h.1,
+      follows_lost id was (with_one on kind live) (with_one on kind after) (with_live id on kind was live other is) (lost_with id on kind live after lost other) rest h.2,
+    )
+follows_lost id was live after is lost (due.Do (act.Refuse on status rule) ∷ rest) h = follows_lost id was live after is lost rest h
+follows_lost id was live after is lost (due.Do (act.Reset on code) ∷ rest) h = follows_lost id was live after is lost rest h
+follows_lost id was live after is lost (due.Do (act.OfStream on a) ∷ rest) h =
+    let later = follows_lost id was live after is lost rest h.1 in
     by_case (cases (on == id)) later
   where
     by_case : ((on == id) ≡ true) ⊎ ((on == id) ≡ false) → Follows after (kept id rest) → Follows after (kept id (due.Do (act.OfStream on a) ∷ rest))
     by_case (inl e) later = subst (λ (b : Bool). Follows after (cond (not b) (due.Do (act.OfStream on a) ∷ kept id rest) (kept id rest))) (sym e) later
     by_case (inr e) later =
         subst (λ (b : Bool). Follows after (cond (not b) (due.Do (act.OfStream on a) ∷ kept id rest) (kept id rest))) (sym e)
-        (lost_other id on live after lost e ∙ h.0, h.1, later)
-follows_lost id live after was lost (due.Spend on size ∷ rest) h = follows_lost id live after was lost rest h
-follows_lost id live after was lost (due.Fault code ∷ rest) h = follows_lost id live after was lost rest h
+        (subst (λ (o : Option Kind). IsAskedOf o a) (sym (lost_other id on live after lost e)) h.0, later)
+follows_lost id was live after is lost (due.Spend on size ∷ rest) h = follows_lost id was live after is lost rest h
+follows_lost id was live after is lost (due.Fault code ∷ rest) h = follows_lost id was live after is lost rest h
 
 -- one that was to come doesn't, where it wasn't live
-pub lost_one : (id : ℕ) (live : ℕ → Bool) → live id ≡ false → Loses id (with_one id live) live
-lost_one id live was k = by_case (cases (id == k))
+pub lost_one : (id : ℕ) (kind : Kind) (live : ℕ → Option Kind) → live id ≡ None → Loses id (with_one id kind live) live
+lost_one id kind live was k = by_case (cases (id == k))
   where
-    by_case : ((id == k) ≡ true) ⊎ ((id == k) ≡ false) → live k ≡ cond (k == id) false (with_one id live k)
+    by_case : ((id == k) ≡ true) ⊎ ((id == k) ≡ false) → live k ≡ cond (k == id) None (with_one id kind live k)
     by_case (inl e) =
         let same : id ≡ k = eqb-true id k e in
-        sym (ap live same) ∙ was ∙ sym (ap (λ b. cond b false (with_one id live k)) (either_way k id ∙ e))
-    by_case (inr e) = sym (ap (λ b. cond b false (with_one id live k)) (either_way k id ∙ e) ∙ ap (λ b. cond b true (live k)) e)
+        sym (ap live same) ∙ was ∙ sym (ap (λ b. cond b None (with_one id kind live k)) (either_way k id ∙ e))
+    by_case (inr e) = sym (ap (λ b. cond b None (with_one id kind live k)) (either_way k id ∙ e) ∙ ap (λ b. cond b (Some kind) (live k)) e)
+
+-- ---- the kind behind what is due
+
+pub behind_kept : (k id : ℕ) (ds : List Due) (o : Option Kind) → kind_behind k (kept id ds) o ≡ kind_behind k ds o
+behind_kept k id [] o = refl
+behind_kept k id (due.Do (act.Bind on goal) ∷ rest) o = behind_kept k id rest (cond (on == k) (Some (kind_of goal)) o)
+behind_kept k id (due.Do (act.Open on goal) ∷ rest) o = behind_kept k id rest (cond (on == k) (Some (kind_of goal)) o)
+behind_kept k id (due.Do (act.Refuse on status rule) ∷ rest) o = behind_kept k id rest o
+behind_kept k id (due.Do (act.Reset on code) ∷ rest) o = behind_kept k id rest o
+behind_kept k id (due.Do (act.OfStream on a) ∷ rest) o =
+    let later = behind_kept k id rest o in
+    either (not (on == id)) (λ (ds : List Due). kind_behind k ds o ≡ kind_behind k rest o) (due.Do (act.OfStream on a) ∷ kept id rest) (kept id rest) later later
+behind_kept k id (due.Spend on size ∷ rest) o = behind_kept k id rest o
+behind_kept k id (due.Fault code ∷ rest) o = behind_kept k id rest o
+
+pub behind_both : (k : ℕ) (xs ys : List Due) (o : Option Kind) → kind_behind k (xs ++ ys) o ≡ kind_behind k ys (kind_behind k xs o)
+behind_both k [] ys o = refl
+behind_both k (due.Do (act.Bind on goal) ∷ xs) ys o = behind_both k xs ys (cond (on == k) (Some (kind_of goal)) o)
+behind_both k (due.Do (act.Open on goal) ∷ xs) ys o = behind_both k xs ys (cond (on == k) (Some (kind_of goal)) o)
+behind_both k (due.Do (act.Refuse on status rule) ∷ xs) ys o = behind_both k xs ys o
+behind_both k (due.Do (act.Reset on code) ∷ xs) ys o = behind_both k xs ys o
+behind_both k (due.Do (act.OfStream on a) ∷ xs) ys o = behind_both k xs ys o
+behind_both k (due.Spend on size ∷ xs) ys o = behind_both k xs ys o
+behind_both k (due.Fault code ∷ xs) ys o = behind_both k xs ys o
+
+one_begins : (b : Bool) (kind : Kind) (o : Option Kind) (rest : Bool) → (is_some (cond b (Some kind) o) || rest) ≡ (is_some o || (b || rest))
+one_begins true kind None rest = refl
+one_begins true kind (Some was) rest = refl
+one_begins false kind o rest = refl
+
+-- one is there where one was, or is to open
+pub behind_some : (k : ℕ) (ds : List Due) (o : Option Kind) → is_some (kind_behind k ds o) ≡ (is_some o || list_any (begins_on k) ds)
+behind_some k [] o = by_first (is_some o)
+  where
+    by_first : (b : Bool) → b ≡ (b || false)
+    by_first true = refl
+    by_first false = refl
+behind_some k (due.Do (act.Bind on goal) ∷ rest) o = behind_some k rest (cond (on == k) (Some (kind_of goal)) o) ∙ one_begins (on == k) (kind_of goal) o (list_any (begins_on k) rest)
+behind_some k (due.Do (act.Open on goal) ∷ rest) o = behind_some k rest (cond (on == k) (Some (kind_of goal)) o) ∙ one_begins (on == k) (kind_of goal) o (list_any (begins_on k) rest)
+behind_some k (due.Do (act.Refuse on status rule) ∷ rest) o = behind_some k rest o
+behind_some k (due.Do (act.Reset on code) ∷ rest) o = behind_some k rest o
+behind_some k (due.Do (act.OfStream on a) ∷ rest) o = behind_some k rest o
+behind_some k (due.Spend on size ∷ rest) o = behind_some k rest o
+behind_some k (due.Fault code ∷ rest) o = behind_some k rest o
+
+-- none is to open
+pub behind_none : (k : ℕ) (ds : List Due) (o : Option Kind) → list_any (begins_on k) ds ≡ false → kind_behind k ds o ≡ o
+behind_none k [] o h = refl
+behind_none k (due.Do (act.Bind on goal) ∷ rest) o h =
+    let parts = or_false (on == k) (list_any (begins_on k) rest) h in
+    behind_none k rest (cond (on == k) (Some (kind_of goal)) o) parts.1 ∙ ap (λ b. cond b (Some (kind_of goal)) o) parts.0
+behind_none k (due.Do (act.Open on goal) ∷ rest) o h =
+    let parts = or_false (on == k) (list_any (begins_on k) rest) h in
+    behind_none k rest (cond (on == k) (Some (kind_of goal)) o) parts.1 ∙ ap (λ b. cond b (Some (kind_of goal)) o) parts.0
+behind_none k (due.Do (act.Refuse on status rule) ∷ rest) o h = behind_none k rest o h
+behind_none k (due.Do (act.Reset on code) ∷ rest) o h = behind_none k rest o h
+behind_none k (due.Do (act.OfStream on a) ∷ rest) o h = behind_none k rest o h
+behind_none k (due.Spend on size ∷ rest) o h = behind_none k rest o h
+behind_none k (due.Fault code ∷ rest) o h = behind_none k rest o h
 
 -- ---- what begins, and what is spent
 
@@ -265,9 +362,41 @@ has_behind t ts k e = ap (λ b. is_some (cond b (Some t) (find (λ (v : Tunnel).
 pub has_front : (t : Tunnel) (ts : List Tunnel) (k : ℕ) → (t.stream == k) ≡ true → has_on (t ∷ ts) k ≡ true
 has_front t ts k e = ap (λ b. is_some (cond b (Some t) (find (λ (v : Tunnel). v.stream == k) ts))) e
 
+pub kind_after : (t : Tunnel) (ts : List Tunnel) (k : ℕ) → (t.stream == k) ≡ false → kind_on (t ∷ ts) k ≡ kind_on ts k
+kind_after t ts k e = ap (λ b. option_map (λ (t : Tunnel). kind_of t.goal) (cond b (Some t) (find (λ (v : Tunnel). v.stream == k) ts))) e
+
+pub kind_front : (t : Tunnel) (ts : List Tunnel) (k : ℕ) → (t.stream == k) ≡ true → kind_on (t ∷ ts) k ≡ Some (kind_of t.goal)
+kind_front t ts k e = ap (λ b. option_map (λ (t : Tunnel). kind_of t.goal) (cond b (Some t) (find (λ (v : Tunnel). v.stream == k) ts))) e
+
+-- a tunnel is there where it has a kind
+pub kind_there : (ts : List Tunnel) (k : ℕ) → is_some (kind_on ts k) ≡ has_on ts k
+kind_there ts k = by_found (find (λ (v : Tunnel). v.stream == k) ts)
+  where
+    by_found : (o : Option Tunnel) → is_some (option_map (λ (t : Tunnel). kind_of t.goal) o) ≡ is_some o
+    by_found None = refl
+    by_found (Some t) = refl
+
+pub no_kind : (ts : List Tunnel) (k : ℕ) → has_on ts k ≡ false → kind_on ts k ≡ None
+no_kind ts k h = by_found (find (λ (v : Tunnel). v.stream == k) ts) h
+  where
+    by_found : (o : Option Tunnel) → is_some o ≡ false → option_map (λ (t : Tunnel). kind_of t.goal) o ≡ None
+    by_found None h = refl
+    by_found (Some t) h = absurd cc
+
+pub none_there : (ts : List Tunnel) (k : ℕ) → kind_on ts k ≡ None → has_on ts k ≡ false
+none_there ts k h = sym (kind_there ts k) ∙ ap (λ (o : Option Kind). is_some o) h
+
+pub some_kind : (o : Option Kind) → is_some o ≡ true → (kind : Kind) × (o ≡ Some kind)
+some_kind None h = absurd cc
+some_kind (Some kind) h = (kind, refl)
+
 -- ---- one more tunnel
 
-pub has_one_more : (t : Tunnel) (ts : List Tunnel) (k : ℕ) → has_on (ts ++ t ∷ []) k ≡ with_one t.stream (has_on ts) k
+-- this one, or one of those
+abbrev or_one : ℕ → (ℕ → Bool) → ℕ → Bool
+or_one id live other = cond (id == other) true (live other)
+
+has_one_more : (t : Tunnel) (ts : List Tunnel) (k : ℕ) → has_on (ts ++ t ∷ []) k ≡ or_one t.stream (has_on ts) k
 has_one_more t [] k = by_first (t.stream == k)
   where
     by_first : (b : Bool) → is_some (cond b (Some t) None) ≡ cond b true false
@@ -282,10 +411,33 @@ has_one_more t (u ∷ us) k = by_first (u.stream == k) (has_one_more t us k)
     either_true true = refl
     either_true false = refl
 
-    by_first : (b : Bool) → has_on (us ++ t ∷ []) k ≡ with_one t.stream (has_on us) k
+    by_first : (b : Bool) → has_on (us ++ t ∷ []) k ≡ or_one t.stream (has_on us) k
         → is_some (cond b (Some u) (find (λ (v : Tunnel). v.stream == k) (us ++ t ∷ []))) ≡ cond (t.stream == k) true (is_some (cond b (Some u) rest))
     by_first true later = either_true (t.stream == k)
     by_first false later = later
+
+pub kind_one_more : (t : Tunnel) (ts : List Tunnel) → kind_on ts t.stream ≡ None → (k : ℕ) → kind_on (ts ++ t ∷ []) k ≡ with_one t.stream (kind_of t.goal) (kind_on ts) k
+kind_one_more t [] none k = by_first (t.stream == k)
+  where
+    by_first : (b : Bool) → option_map (λ (t : Tunnel). kind_of t.goal) (cond b (Some t) None) ≡ cond b (Some (kind_of t.goal)) None
+    by_first true = refl
+    by_first false = refl
+kind_one_more t (u ∷ us) none k = by_case (cases (u.stream == k)) (λ free. kind_one_more t us free k)
+  where
+    other : (u.stream == t.stream) ≡ false
+    other = unless_true (u.stream == t.stream) (λ e. some_none (sym (kind_front u us t.stream e) ∙ none))
+      where
+        some_none : Some (kind_of u.goal) ≡ None → ⊥
+        some_none e = cc
+
+    by_case : ((u.stream == k) ≡ true) ⊎ ((u.stream == k) ≡ false) → (kind_on us t.stream ≡ None → kind_on (us ++ t ∷ []) k ≡ with_one t.stream (kind_of t.goal) (kind_on us) k)
+        → kind_on (u ∷ us ++ t ∷ []) k ≡ with_one t.stream (kind_of t.goal) (kind_on (u ∷ us)) k
+    by_case (inl e) later =
+        let apart : (t.stream == k) ≡ false = ap (λ i. t.stream == i) (sym (eqb-true u.stream k e)) ∙ either_way t.stream u.stream ∙ other in
+        kind_front u (us ++ t ∷ []) k e ∙ sym (ap (λ b. cond b (Some (kind_of t.goal)) (kind_on (u ∷ us) k)) apart ∙ kind_front u us k e)
+    by_case (inr e) later =
+        kind_after u (us ++ t ∷ []) k e ∙ later (sym (kind_after u us t.stream other) ∙ none)
+        ∙ ap (λ o. cond (t.stream == k) (Some (kind_of t.goal)) o) (sym (kind_after u us k e))
 
 pub alone_one_more : (t : Tunnel) (ts : List Tunnel) → has_on ts t.stream ≡ false → Alone ts → Alone (ts ++ t ∷ [])
 alone_one_more t [] none h = (refl, tt)
@@ -339,30 +491,30 @@ all_apart id (u ∷ us) h =
     ap (λ b. cond (not b) (u ∷ apart id us) (apart id us)) parts.0 ∙ ap (λ (ts : List Tunnel). u ∷ ts) (all_apart id us parts.1)
 
 -- the stream of this tunnel has none any more
-pub loses_tunnel : (t : Tunnel) (ts : List Tunnel) → Alone ts → Numbered ts → In t ts → Loses t.stream (has_on ts) (has_on (apart t.id ts))
+pub loses_tunnel : (t : Tunnel) (ts : List Tunnel) → Alone ts → Numbered ts → In t ts → Loses t.stream (kind_on ts) (kind_on (apart t.id ts))
 loses_tunnel t [] alone numbered i k = absurd i
-loses_tunnel t (u ∷ us) alone numbered (inl e) k = subst (λ (v : Tunnel). has_on (apart v.id (u ∷ us)) k ≡ cond (k == v.stream) false (has_on (u ∷ us) k)) e (
-    ap (λ (ts : List Tunnel). has_on ts k) (ap (λ b. cond (not b) (u ∷ apart u.id us) (apart u.id us)) (itself u.id) ∙ all_apart u.id us numbered.0)
+loses_tunnel t (u ∷ us) alone numbered (inl e) k = subst (λ (v : Tunnel). kind_on (apart v.id (u ∷ us)) k ≡ cond (k == v.stream) None (kind_on (u ∷ us) k)) e (
+    ap (λ (ts : List Tunnel). kind_on ts k) (ap (λ b. cond (not b) (u ∷ apart u.id us) (apart u.id us)) (itself u.id) ∙ all_apart u.id us numbered.0)
     ∙ by_case (cases (u.stream == k))
     )
   where
-    by_case : ((u.stream == k) ≡ true) ⊎ ((u.stream == k) ≡ false) → has_on us k ≡ cond (k == u.stream) false (has_on (u ∷ us) k)
+    by_case : ((u.stream == k) ≡ true) ⊎ ((u.stream == k) ≡ false) → kind_on us k ≡ cond (k == u.stream) None (kind_on (u ∷ us) k)
     by_case (inl f) =
-        ap (has_on us) (sym (eqb-true u.stream k f)) ∙ alone.0 ∙ sym (ap (λ b. cond b false (has_on (u ∷ us) k)) (either_way k u.stream ∙ f))
-    by_case (inr f) = sym (ap (λ b. cond b false (has_on (u ∷ us) k)) (either_way k u.stream ∙ f) ∙ has_behind u us k f)
+        ap (kind_on us) (sym (eqb-true u.stream k f)) ∙ no_kind us u.stream alone.0 ∙ sym (ap (λ b. cond b None (kind_on (u ∷ us) k)) (either_way k u.stream ∙ f))
+    by_case (inr f) = sym (ap (λ b. cond b None (kind_on (u ∷ us) k)) (either_way k u.stream ∙ f) ∙ kind_after u us k f)
 loses_tunnel t (u ∷ us) alone numbered (inr i) k =
     let other : (u.id == t.id) ≡ false = unless_true (u.id == t.id) (λ e. never (has_number us u.id) (ap (has_number us) (eqb-true u.id t.id e) ∙ in_number us t i) numbered.0) in
-    ap (λ (b : Bool). has_on (cond (not b) (u ∷ apart t.id us) (apart t.id us)) k) other ∙ by_case (cases (u.stream == k)) (loses_tunnel t us alone.1 numbered.1 i k)
+    ap (λ (b : Bool). kind_on (cond (not b) (u ∷ apart t.id us) (apart t.id us)) k) other ∙ by_case (cases (u.stream == k)) (loses_tunnel t us alone.1 numbered.1 i k)
   where
     others : (u.stream == t.stream) ≡ false
     others = unless_true (u.stream == t.stream) (λ e. never (has_on us u.stream) (ap (has_on us) (eqb-true u.stream t.stream e) ∙ in_has us t i) alone.0)
 
-    by_case : ((u.stream == k) ≡ true) ⊎ ((u.stream == k) ≡ false) → has_on (apart t.id us) k ≡ cond (k == t.stream) false (has_on us k)
-        → has_on (u ∷ apart t.id us) k ≡ cond (k == t.stream) false (has_on (u ∷ us) k)
+    by_case : ((u.stream == k) ≡ true) ⊎ ((u.stream == k) ≡ false) → kind_on (apart t.id us) k ≡ cond (k == t.stream) None (kind_on us k)
+        → kind_on (u ∷ apart t.id us) k ≡ cond (k == t.stream) None (kind_on (u ∷ us) k)
     by_case (inl f) later =
         let none : (k == t.stream) ≡ false = ap (λ j. j == t.stream) (sym (eqb-true u.stream k f)) ∙ others in
-        has_front u (apart t.id us) k f ∙ sym (ap (λ b. cond b false (has_on (u ∷ us) k)) none ∙ has_front u us k f)
-    by_case (inr f) later = has_behind u (apart t.id us) k f ∙ later ∙ sym (ap (λ b. cond (k == t.stream) false b) (has_behind u us k f))
+        kind_front u (apart t.id us) k f ∙ sym (ap (λ b. cond b None (kind_on (u ∷ us) k)) none ∙ kind_front u us k f)
+    by_case (inr f) later = kind_after u (apart t.id us) k f ∙ later ∙ sym (ap (λ o. cond (k == t.stream) None o) (kind_after u us k f))
 
 -- ---- tunnels in which something else waits
 
@@ -397,6 +549,16 @@ has_same (t ∷ ts) (u ∷ us) s k =
     by_first : (b : Bool) → has_on us k ≡ has_on ts k → is_some (cond b (Some u) (find (λ (v : Tunnel). v.stream == k) us)) ≡ is_some (cond b (Some t) (find (λ (v : Tunnel). v.stream == k) ts))
     by_first true later = refl
     by_first false later = later
+
+pub kind_same : (ts us : List Tunnel) → Same ts us → (k : ℕ) → kind_on us k ≡ kind_on ts k
+kind_same [] [] s k = refl
+kind_same [] (u ∷ us) s k = absurd s
+kind_same (t ∷ ts) [] s k = absurd s
+kind_same (t ∷ ts) (u ∷ us) s k = by_case (cases (t.stream == k)) (kind_same ts us s.3 k)
+  where
+    by_case : ((t.stream == k) ≡ true) ⊎ ((t.stream == k) ≡ false) → kind_on us k ≡ kind_on ts k → kind_on (u ∷ us) k ≡ kind_on (t ∷ ts) k
+    by_case (inl e) later = kind_front u us k (ap (λ i. i == k) s.1 ∙ e) ∙ ap (λ g. Some (kind_of g)) s.2 ∙ sym (kind_front t ts k e)
+    by_case (inr e) later = kind_after u us k (ap (λ i. i == k) s.1 ∙ e) ∙ later ∙ sym (kind_after t ts k e)
 
 number_same : (ts us : List Tunnel) → Same ts us → (k : ℕ) → has_number us k ≡ has_number ts k
 number_same [] [] s k = refl

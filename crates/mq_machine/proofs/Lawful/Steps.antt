@@ -1,7 +1,7 @@
 -- The end of each act, frames, writes, and what comes to a tunnel.
 use Rattle.std.proofs.Common.{◌≡◌, ℕ, ◌+◌, false, ◌||◌, List, [], ◌∷◌, length, take, drop, nat_lt, nat_le, Option, Some, None, refl, sym, ap, ◌∙◌, subst, arith, option_map}
 use Rattle.std.specs.Prelude.{option_and_then}
-use Rattle.std.specs.List.{AllByRecursion, list_any}
+use Rattle.std.specs.List.{AllByRecursion}
 use Rattle.mq_capsule.specs.Writing.{capsule_text, datagram}
 use Rattle.mq_h2.specs.Acts.{gives_back}
 use Rattle.mq_h2.specs.State as h2
@@ -21,15 +21,15 @@ use Rattle.mq_machine.specs.Done.{with_waiting}
 use Rattle.mq_machine.specs.Steps.{framing, frame_size, framed_by, framed_front, next_framed, set_waiting, settled_note, framed, wrote, given_up, queued, most_packets, most_waiting}
 use Rattle.mq_machine.specs.Http2 as http2
 use Rattle.mq_h2.specs.Laws.{may_come}
-use Rattle.mq_machine.specs.Lawful.{IsUdp, has_on, is_open, begins_on, IsSeated, AreSeated, AreNumbered, IsUsed, Http2Fits, Fits, IsOver, Loose, IsLoose, IsLawful}
-use Rattle.mq_machine.proofs.Lawful.Lists.{either, each_so, none_dropped, follows_same, Same, set_same, waits_same, has_same, alone_same, numbered_same, each_same}
+use Rattle.mq_machine.specs.Lawful.{IsServed, kind_on, is_open, kind_behind, IsSeated, AreSeated, AreNumbered, IsUsed, Http2Fits, Fits, IsOver, Loose, IsLoose, IsLawful}
+use Rattle.mq_machine.proofs.Lawful.Lists.{either, each_so, none_dropped, follows_same, Same, set_same, waits_same, has_same, kind_same, alone_same, numbered_same, each_same}
 use Rattle.mq_machine.proofs.Lawful.Acts.{keeps_out, keeps_gives, keeps_puts, keeps_fits, consumes_fits}
 
 -- ---- a new connection
 
 pub new_lawful : (number actor : ℕ) → IsLawful (new_conn number actor)
 new_lawful number actor = record {
-  loose = record { over = tt; follows = tt; opens = refl; seated = tt; alone = tt; numbered = tt; udp = tt; asked = tt; front = (refl, refl, refl) };
+  loose = record { over = tt; follows = tt; opens = refl; seated = tt; alone = tt; numbered = tt; served = tt; asked = tt; front = (refl, refl, refl) };
   settled = tt;
 }
 
@@ -44,7 +44,7 @@ refit e ds ts ss f g h k = record {
   seated = h.seated;
   alone = h.alone;
   numbered = h.numbered;
-  udp = h.udp;
+  served = h.served;
   asked = h.asked;
   front = k;
 }
@@ -92,7 +92,7 @@ spent e id size rest ts ss f h = record {
   seated = seated_behind e id size rest ts ss h.seated;
   alone = h.alone;
   numbered = h.numbered;
-  udp = h.udp;
+  served = h.served;
   asked = h.asked;
   front = spent_front e id size rest ts ss f h.front;
 }
@@ -106,7 +106,7 @@ nothing_left e reason ds ts ss f h k = record {
   seated = tt;
   alone = h.alone;
   numbered = tt;
-  udp = h.udp;
+  served = h.served;
   asked = h.asked;
   front = k;
 }
@@ -157,7 +157,7 @@ given_up_lawful reason c h = record {
     seated = tt;
     alone = h.loose.alone;
     numbered = tt;
-    udp = h.loose.udp;
+    served = h.loose.served;
     asked = tt;
     front = given_front c.ending reason c.due c.tunnels c.streams c.front h.loose.front;
   };
@@ -168,7 +168,7 @@ given_up_lawful reason c h = record {
 
 each_seated_same : (ts us : List Tunnel) (ds : List Due) (ss : List Stream) → Same ts us → AllByRecursion (IsSeated ts ds) ss → AllByRecursion (IsSeated us ds) ss
 each_seated_same ts us ds ss s h =
-    each_so (IsSeated ts ds) (IsSeated us ds) ss (λ x k. ap (λ b. b || list_any (begins_on x.id) ds) (has_same ts us s x.id) ∙ k) h
+    each_so (IsSeated ts ds) (IsSeated us ds) ss (λ x k. ap (kind_behind x.id ds) (kind_same ts us s x.id) ∙ k) h
 
 seated_same : (e : Option End) (ts us : List Tunnel) (ds : List Due) (ss : List Stream) → Same ts us → AreSeated e ts ds ss → AreSeated e us ds ss
 seated_same None ts us ds ss s h = each_seated_same ts us ds ss s h
@@ -205,12 +205,12 @@ fits_same (OverHttp2 x) e ds ts us ss s h = record {
 pub loose_same : (e : Option End) (ds : List Due) (ts us : List Tunnel) (ss : List Stream) (f : Front) → Same ts us → Loose e ds ts ss f → Loose e ds us ss f
 loose_same e ds ts us ss f s h = record {
   over = h.over;
-  follows = follows_same (has_on ts) (has_on us) (has_same ts us s) ds h.follows;
+  follows = follows_same (kind_on ts) (kind_on us) (kind_same ts us s) ds h.follows;
   opens = h.opens;
   seated = seated_same e ts us ds ss s h.seated;
   alone = alone_same ts us s h.alone;
   numbered = are_numbered_same e ts us s h.numbered;
-  udp = each_same (λ (t : Tunnel). IsUdp t.goal) ts us s (λ t u same goal k. subst IsUdp (sym goal) k) h.udp;
+  served = each_same (λ (t : Tunnel). IsServed t.goal) ts us s (λ t u same goal k. subst IsServed (sym goal) k) h.served;
   asked = h.asked;
   front = fits_same f e ds ts us ss s h.front;
 }

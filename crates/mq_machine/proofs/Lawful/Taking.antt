@@ -4,6 +4,7 @@ use Rattle.std.specs.Prelude.{find}
 use Rattle.std.specs.List.{AllByRecursion, list_any}
 use Rattle.std.specs.Option.{is_some, unwrap_or}
 use Rattle.std.proofs.lemmas.List.Recursion.{is_count_by}
+use Rattle.mq_addr.specs.declared.kind.Kind.{Kind}
 use Rattle.mq_addr.specs.declared.kind.Kind.TheVariants as kind
 use Rattle.mq_h2.specs.declared.event.StreamEvent as http2
 use Rattle.mq_h2.specs.declared.event.StreamEvent.TheVariants as frame_event
@@ -23,11 +24,11 @@ use Rattle.mq_machine.specs.declared.act.Due.{Due}
 use Rattle.mq_machine.specs.declared.act.Due.TheVariants as due
 use Rattle.mq_machine.specs.declared.setup.Setup.{Setup}
 use Rattle.mq_machine.specs.Http2 as request
-use Rattle.mq_machine.specs.State.{Conn, Front, Head, OverHttp1, OverHttp2, Stream, Tunnel}
+use Rattle.mq_machine.specs.State.{Conn, Front, Head, OverHttp1, OverHttp2, Stream, Tunnel, kind_of}
 use Rattle.mq_machine.specs.Reading.{Meaning, Leads, Refused, StreamEvent, Request, Malformed, Content, Reset, ConnectionError, on_stream, stream_of, more_bytes, mark_of, goal_act, ended_acts, error_acts, reset_acts, ContentAsks, EventAsks, EventsAsk, content_of, StepBrings, EventBrings, EventsBring, FramesBring, Opening, Part, Whole, Other, opening_of, OtherBrings, OpeningBrings, Brings, TookNext}
 use Rattle.mq_machine.specs.Steps.{can_read}
-use Rattle.mq_machine.specs.Lawful.{IsUdp, has_on, with_one, Follows, is_open, NoOpens, begins_on, IsSeated, IsOfZero, IsOneRequest, IsUsed, Http1Fits, Http2Fits, Fits, Loose, IsLoose, IsLawful, spends}
-use Rattle.mq_machine.proofs.Lawful.Lists.{either, itself, never, each_append, each_so, none_dropped, follows_same, In, in_has, zero_request}
+use Rattle.mq_machine.specs.Lawful.{IsServed, IsAskedOf, has_on, kind_on, with_one, Follows, is_open, NoOpens, begins_on, kind_behind, IsSeated, IsOfZero, IsOneRequest, IsUsed, Http1Fits, Http2Fits, Fits, Loose, IsLoose, IsLawful, spends}
+use Rattle.mq_machine.proofs.Lawful.Lists.{either, itself, never, each_append, each_so, none_dropped, other_than, closes_asked, behind_both, behind_some, behind_none, In, in_has, kind_there, zero_request}
 use Rattle.mq_machine.proofs.Lawful.Steps.{settle_lawful}
 use Rattle.mq_machine.proofs.Lawful.Idle.{reads_idle}
 use Rattle.mq_machine.proofs.Lawful.Items.{AreAsked, asked_bytes, IsFine, fine_path, fine_kind}
@@ -63,28 +64,16 @@ spends_append id [] ys = omega arith
 spends_append id (x ∷ xs) ys = let rest = spends_append id xs ys in omega (arith, rest)
 
 -- what is live behind these
-abbrev then_live : (ℕ → Bool) → List Due → ℕ → Bool
-then_live live ds k = live k || list_any (begins_on k) ds
+abbrev then_live : (ℕ → Option Kind) → List Due → ℕ → Option Kind
+then_live live ds k = kind_behind k ds (live k)
 
-follows_both : (live : ℕ → Bool) (xs ys : List Due) → Follows live xs → Follows (then_live live xs) ys → Follows live (xs ++ ys)
-follows_both live [] ys h k = follows_same (then_live live []) live (λ id. sym (or_none (live id))) ys k
-follows_both live (due.Do (act.Bind id goal) ∷ xs) ys h k =
-    (h.0, h.1, follows_both (with_one id live) xs ys h.2 (follows_same (then_live live (due.Do (act.Bind id goal) ∷ xs)) (then_live (with_one id live) xs) (λ j. turned (id == j) (live j) (list_any (begins_on j) xs)) ys k))
-  where
-    turned : (b l n : Bool) → (cond b true l || n) ≡ (l || (b || n))
-    turned true true n = refl
-    turned true false n = refl
-    turned false l n = refl
-follows_both live (due.Do (act.Open id goal) ∷ xs) ys h k =
-    (h.0, h.1, follows_both (with_one id live) xs ys h.2 (follows_same (then_live live (due.Do (act.Open id goal) ∷ xs)) (then_live (with_one id live) xs) (λ j. turned (id == j) (live j) (list_any (begins_on j) xs)) ys k))
-  where
-    turned : (b l n : Bool) → (cond b true l || n) ≡ (l || (b || n))
-    turned true true n = refl
-    turned true false n = refl
-    turned false l n = refl
+follows_both : (live : ℕ → Option Kind) (xs ys : List Due) → Follows live xs → Follows (then_live live xs) ys → Follows live (xs ++ ys)
+follows_both live [] ys h k = k
+follows_both live (due.Do (act.Bind id goal) ∷ xs) ys h k = (h.0, h.1, follows_both (with_one id (kind_of goal) live) xs ys h.2 k)
+follows_both live (due.Do (act.Open id goal) ∷ xs) ys h k = (h.0, h.1, follows_both (with_one id (kind_of goal) live) xs ys h.2 k)
 follows_both live (due.Do (act.Refuse id status rule) ∷ xs) ys h k = follows_both live xs ys h k
 follows_both live (due.Do (act.Reset id code) ∷ xs) ys h k = follows_both live xs ys h k
-follows_both live (due.Do (act.OfStream id a) ∷ xs) ys h k = (h.0, h.1, follows_both live xs ys h.2 k)
+follows_both live (due.Do (act.OfStream id a) ∷ xs) ys h k = (h.0, follows_both live xs ys h.1 k)
 follows_both live (due.Spend id size ∷ xs) ys h k = follows_both live xs ys h k
 follows_both live (due.Fault code ∷ xs) ys h k = follows_both live xs ys h k
 
@@ -127,68 +116,68 @@ once_later false live true n f h = absurd (let e : false ≡ true = f refl in no
     nothing e = cc
 once_later a live false n f h = subst (λ b. n + one b ≤ 1) (sym (or_none live)) (omega (arith, h))
 
-once_free : (live : Bool) (n : ℕ) → (1 + n) + one live ≤ 1 → live ≡ false
-once_free false n h = refl
-once_free true n h = absurd (omega (arith, h))
+once_free : (o : Option Kind) (n : ℕ) → (1 + n) + one (is_some o) ≤ 1 → o ≡ None
+once_free None n h = refl
+once_free (Some kind) n h = absurd (omega (arith, h))
 
 -- ---- one event
 
-abbrev Live : (ℕ → Bool) → Stream → Type 0
-Live live s = live s.id ≡ true
+abbrev Live : (ℕ → Option Kind) → Stream → Type 0
+Live live s = live s.id ≡ Some (kind_of s.goal)
 
-abbrev AreLive : (ℕ → Bool) → List Stream → Type 0
+abbrev AreLive : (ℕ → Option Kind) → List Stream → Type 0
 AreLive live ss = AllByRecursion (Live live) ss
 
-abbrev AreUdp : List Stream → Type 0
-AreUdp ss = AllByRecursion (λ (s : Stream). IsUdp s.goal) ss
+abbrev AreServed : List Stream → Type 0
+AreServed ss = AllByRecursion (λ (s : Stream). IsServed s.goal) ss
 
 -- what events ask for, and the data streams then
-record Asked (live : ℕ → Bool) (acts : List Due) (new : List Stream) (asking : ℕ → ℕ) : Type 0 where
+record Asked (live : ℕ → Option Kind) (acts : List Due) (new : List Stream) (asking : ℕ → ℕ) : Type 0 where
   follows : Follows live acts
   opens : NoOpens acts
   seated : AreLive (then_live live acts) new
-  udp : AreUdp new
+  served : AreServed new
   begins : (id : ℕ) → list_any (begins_on id) acts ≡ true → 1 ≤ asking id
 
 -- acts that begin nothing
 abbrev BeginNone : List Due → Type 0
 BeginNone acts = (id : ℕ) → list_any (begins_on id) acts ≡ false
 
-still_live : (live : ℕ → Bool) (acts : List Due) (ss : List Stream) → AreLive live ss → AreLive (then_live live acts) ss
-still_live live acts ss h = each_so (Live live) (Live (then_live live acts)) ss (λ s k. or_left (live s.id) (list_any (begins_on s.id) acts) k) h
+still_live : (live : ℕ → Option Kind) (acts : List Due) (ss : List Stream) → BeginNone acts → AreLive live ss → AreLive (then_live live acts) ss
+still_live live acts ss none h = each_so (Live live) (Live (then_live live acts)) ss (λ s k. behind_none s.id acts (live s.id) (none s.id) ∙ k) h
 
-quiet : (live : ℕ → Bool) (acts : List Due) (new : List Stream) (asking : ℕ → ℕ) → Follows live acts → NoOpens acts → BeginNone acts → AreLive live new → AreUdp new → Asked live acts new asking
-quiet live acts new asking follows opens none seated udp = record {
+quiet : (live : ℕ → Option Kind) (acts : List Due) (new : List Stream) (asking : ℕ → ℕ) → Follows live acts → NoOpens acts → BeginNone acts → AreLive live new → AreServed new → Asked live acts new asking
+quiet live acts new asking follows opens none seated served = record {
   follows = follows;
   opens = opens;
-  seated = still_live live acts new seated;
-  udp = udp;
+  seated = still_live live acts new none seated;
+  served = served;
   begins = λ id is. never (list_any (begins_on id) acts) is (none id);
 }
 
 -- where it is so of others that are equal
-asked_same : (live : ℕ → Bool) (acts acts2 : List Due) (new new2 : List Stream) (asking : ℕ → ℕ) → acts ≡ acts2 → new ≡ new2 → Asked live acts2 new2 asking → Asked live acts new asking
+asked_same : (live : ℕ → Option Kind) (acts acts2 : List Due) (new new2 : List Stream) (asking : ℕ → ℕ) → acts ≡ acts2 → new ≡ new2 → Asked live acts2 new2 asking → Asked live acts new asking
 asked_same live acts acts2 new new2 asking e f h =
     let P : List Due → Type 0 = λ ds. Asked live ds new2 asking in
     let Q : List Stream → Type 0 = λ ss. Asked live acts ss asking in
     subst Q (sym f) (subst P (sym e) h)
 
-more_live : (live : ℕ → Bool) (id : ℕ) (bytes : List ℕ) (ss : List Stream) → AreLive live ss → AreLive live (more_bytes id bytes ss)
+more_live : (live : ℕ → Option Kind) (id : ℕ) (bytes : List ℕ) (ss : List Stream) → AreLive live ss → AreLive live (more_bytes id bytes ss)
 more_live live id bytes [] h = tt
 more_live live id bytes (s ∷ ss) h = either (s.id == id) (AreLive live) (record s { bytes = s.bytes ++ bytes } ∷ ss) (s ∷ more_bytes id bytes ss) h (h.0, more_live live id bytes ss h.1)
 
-more_udp : (id : ℕ) (bytes : List ℕ) (ss : List Stream) → AreUdp ss → AreUdp (more_bytes id bytes ss)
+more_udp : (id : ℕ) (bytes : List ℕ) (ss : List Stream) → AreServed ss → AreServed (more_bytes id bytes ss)
 more_udp id bytes [] h = tt
-more_udp id bytes (s ∷ ss) h = either (s.id == id) AreUdp (record s { bytes = s.bytes ++ bytes } ∷ ss) (s ∷ more_bytes id bytes ss) h (h.0, more_udp id bytes ss h.1)
+more_udp id bytes (s ∷ ss) h = either (s.id == id) AreServed (record s { bytes = s.bytes ++ bytes } ∷ ss) (s ∷ more_bytes id bytes ss) h (h.0, more_udp id bytes ss h.1)
 
 more_zero : (id : ℕ) (bytes : List ℕ) (ss : List Stream) → AllByRecursion (λ (s : Stream). s.id ≡ 0) ss → AllByRecursion (λ (s : Stream). s.id ≡ 0) (more_bytes id bytes ss)
 more_zero id bytes [] h = tt
 more_zero id bytes (s ∷ ss) h =
     either (s.id == id) (λ (ss : List Stream). AllByRecursion (λ (s : Stream). s.id ≡ 0) ss) (record s { bytes = s.bytes ++ bytes } ∷ ss) (s ∷ more_bytes id bytes ss) h (h.0, more_zero id bytes ss h.1)
 
-stream_follows : (live : ℕ → Bool) (id : ℕ) (asked : List StreamAct) (tail : List Due) → live id ≡ true → AreAsked asked → Follows live tail → Follows live (on_stream id asked ++ tail)
-stream_follows live id [] tail h k f = f
-stream_follows live id (a ∷ asked) tail h k f = (h, k.0, stream_follows live id asked tail h k.1 f)
+stream_follows : (live : ℕ → Option Kind) (id : ℕ) (kind : Kind) (asked : List StreamAct) (tail : List Due) → live id ≡ Some kind → AreAsked kind asked → Follows live tail → Follows live (on_stream id asked ++ tail)
+stream_follows live id kind [] tail h k f = f
+stream_follows live id kind (a ∷ asked) tail h k f = (subst (λ (o : Option Kind). IsAskedOf o a) (sym h) k.0, stream_follows live id kind asked tail h k.1 f)
 
 stream_opens : (id : ℕ) (asked : List StreamAct) (tail : List Due) → NoOpens tail → NoOpens (on_stream id asked ++ tail)
 stream_opens id [] tail h = h
@@ -198,7 +187,7 @@ stream_begins : (id : ℕ) (asked : List StreamAct) (tail : List Due) → BeginN
 stream_begins id [] tail h k = h k
 stream_begins id (a ∷ asked) tail h k = stream_begins id asked tail h k
 
-mark_follows : (live : ℕ → Bool) (id : ℕ) (size : Option ℕ) → Follows live (mark_of id size)
+mark_follows : (live : ℕ → Option Kind) (id : ℕ) (size : Option ℕ) → Follows live (mark_of id size)
 mark_follows live id None = tt
 mark_follows live id (Some n) = tt
 
@@ -210,23 +199,23 @@ mark_begins : (id : ℕ) (size : Option ℕ) → BeginNone (mark_of id size)
 mark_begins id None k = refl
 mark_begins id (Some n) k = refl
 
-content_asked : (mtu : ℕ) (live : ℕ → Bool) (id : ℕ) (bytes : List ℕ) (size : Option ℕ) (ends : Bool) (o : Option Stream) (acts : List Due) (new : List Stream) (asking : ℕ → ℕ)
-    → ((s : Stream) → o ≡ Some s → ((live s.id ≡ true) × IsUdp s.goal) × (s.id ≡ id)) → AreLive live new → AreUdp new → ContentAsks mtu id bytes size ends o acts → Asked live acts new asking
-content_asked mtu live id bytes size ends None acts new asking is seated udp x =
+content_asked : (mtu : ℕ) (live : ℕ → Option Kind) (id : ℕ) (bytes : List ℕ) (size : Option ℕ) (ends : Bool) (o : Option Stream) (acts : List Due) (new : List Stream) (asking : ℕ → ℕ)
+    → ((s : Stream) → o ≡ Some s → Live live s × (s.id ≡ id)) → AreLive live new → AreServed new → ContentAsks mtu id bytes size ends o acts → Asked live acts new asking
+content_asked mtu live id bytes size ends None acts new asking is seated served x =
     asked_same live acts (mark_of id size) new new asking x refl
-    (quiet live (mark_of id size) new asking (mark_follows live id size) (mark_opens id size) (mark_begins id size) seated udp)
-content_asked mtu live id bytes size ends (Some s) acts new asking is seated udp x =
+    (quiet live (mark_of id size) new asking (mark_follows live id size) (mark_opens id size) (mark_begins id size) seated served)
+content_asked mtu live id bytes size ends (Some s) acts new asking is seated served x =
     let there = is s refl in
-    let alive = ap live (sym there.1) ∙ there.0.0 in
+    let alive = ap live (sym there.1) ∙ there.0 in
     let here = on_stream id x.0 ++ mark_of id size in
     asked_same live acts here new new asking x.2 refl (
     quiet live here new asking
-    (stream_follows live id x.0 (mark_of id size) alive (asked_bytes mtu s bytes ends x.0 there.0.1 x.1) (mark_follows live id size))
-    (stream_opens id x.0 (mark_of id size) (mark_opens id size)) (stream_begins id x.0 (mark_of id size) (mark_begins id size)) seated udp
+    (stream_follows live id (kind_of s.goal) x.0 (mark_of id size) alive (asked_bytes mtu s bytes ends x.0 x.1) (mark_follows live id size))
+    (stream_opens id x.0 (mark_of id size) (mark_opens id size)) (stream_begins id x.0 (mark_of id size) (mark_begins id size)) seated served
     )
 
-ended_follows : (live : ℕ → Bool) (id : ℕ) (ends : Bool) → live id ≡ true → Follows live (ended_acts id ends)
-ended_follows live id true h = (h, λ e. cc, tt)
+ended_follows : (live : ℕ → Option Kind) (id : ℕ) (ends : Bool) → is_some (live id) ≡ true → Follows live (ended_acts id ends)
+ended_follows live id true h = (closes_asked (live id) why.End h (λ e. cc), tt)
 ended_follows live id false h = tt
 
 ended_opens : (id : ℕ) (ends : Bool) → NoOpens (ended_acts id ends)
@@ -238,70 +227,67 @@ ended_begins id true k = refl
 ended_begins id false k = refl
 
 -- a request that leads somewhere
-leads_asked : (live : ℕ → Bool) (id : ℕ) (found : Goal) (ends : Bool) (old : List Stream) (asking : ℕ → ℕ) → IsUdp found → live id ≡ false → AreLive live old → AreUdp old → ((k : ℕ) → (id == k) ≡ true → 1 ≤ asking k)
+leads_asked : (live : ℕ → Option Kind) (id : ℕ) (found : Goal) (ends : Bool) (old : List Stream) (asking : ℕ → ℕ) → IsServed found → live id ≡ None → AreLive live old → AreServed old → ((k : ℕ) → (id == k) ≡ true → 1 ≤ asking k)
     → Asked live (due.Do (goal_act id found) ∷ ended_acts id ends) (old ++ record { id = id; goal = found; bytes = [] } ∷ []) asking
-leads_asked live id (goal.Ip area protocol) ends old asking udp free seated goals asks = absurd udp
-leads_asked live id (goal.Udp addr port) ends old asking udp free seated goals asks =
+leads_asked live id (goal.Ip area protocol) ends old asking served free seated goals asks = absurd served
+leads_asked live id (goal.Udp addr port) ends old asking served free seated goals asks =
     let acts = due.Do (act.Bind id (goal.Udp addr port)) ∷ ended_acts id ends in
     record {
-      follows = (free, tt, ended_follows (with_one id live) id ends (ap (λ b. cond b true (live id)) (itself id)));
+      follows = (free, tt, ended_follows (with_one id kind.Udp live) id ends (ap (λ b. is_some (cond b (Some kind.Udp) (live id))) (itself id)));
       opens = ended_opens id ends;
-      seated = each_append (Live (then_live live acts)) old (record { id = id; goal = goal.Udp addr port; bytes = [] } ∷ []) (still_live live acts old seated)
-          (ap (λ b. live id || (b || list_any (begins_on id) (ended_acts id ends))) (itself id) ∙ or_true (live id), tt);
-      udp = each_append (λ (s : Stream). IsUdp s.goal) old (record { id = id; goal = goal.Udp addr port; bytes = [] } ∷ []) goals (tt, tt);
+      seated = each_append (Live (then_live live acts)) old (record { id = id; goal = goal.Udp addr port; bytes = [] } ∷ [])
+          (each_so (Live live) (Live (then_live live acts)) old (λ s k. behind_none s.id (ended_acts id ends) (with_one id kind.Udp live s.id) (ended_begins id ends s.id)
+          ∙ ap (λ b. cond b (Some kind.Udp) (live s.id)) (other_than live s.id id (kind_of s.goal) k free) ∙ k) seated)
+          (behind_none id (ended_acts id ends) (with_one id kind.Udp live id) (ended_begins id ends id) ∙ ap (λ b. cond b (Some kind.Udp) (live id)) (itself id), tt);
+      served = each_append (λ (s : Stream). IsServed s.goal) old (record { id = id; goal = goal.Udp addr port; bytes = [] } ∷ []) goals (tt, tt);
       begins = λ k is. asks k (sym (or_none (id == k)) ∙ ap (λ b. (id == k) || b) (sym (ended_begins id ends k)) ∙ is);
     }
-  where
-    or_true : (b : Bool) → (b || true) ≡ true
-    or_true true = refl
-    or_true false = refl
 
 -- an error of a stream, or its end
-error_asked : (live : ℕ → Bool) (id code : ℕ) (o : Option Tunnel) (old : List Stream) (asking : ℕ → ℕ) → ((t : Tunnel) → o ≡ Some t → live id ≡ true) → AreLive live old → AreUdp old → Asked live (error_acts id code o) old asking
-error_asked live id code None old asking is seated udp = quiet live (due.Do (act.Reset id code) ∷ []) old asking tt refl (λ k. refl) seated udp
-error_asked live id code (Some t) old asking is seated udp =
-    quiet live (due.Do (act.OfStream id (stream.Close why.Malformed)) ∷ []) old asking (is t refl, λ e. cc, tt) refl (λ k. refl) seated udp
+error_asked : (live : ℕ → Option Kind) (id code : ℕ) (o : Option Tunnel) (old : List Stream) (asking : ℕ → ℕ) → ((t : Tunnel) → o ≡ Some t → is_some (live id) ≡ true) → AreLive live old → AreServed old → Asked live (error_acts id code o) old asking
+error_asked live id code None old asking is seated served = quiet live (due.Do (act.Reset id code) ∷ []) old asking tt refl (λ k. refl) seated served
+error_asked live id code (Some t) old asking is seated served =
+    quiet live (due.Do (act.OfStream id (stream.Close why.Malformed)) ∷ []) old asking (closes_asked (live id) why.Malformed (is t refl) (λ e. cc), tt) refl (λ k. refl) seated served
 
-reset_asked : (live : ℕ → Bool) (id : ℕ) (o : Option Tunnel) (old : List Stream) (asking : ℕ → ℕ) → ((t : Tunnel) → o ≡ Some t → live id ≡ true) → AreLive live old → AreUdp old → Asked live (reset_acts id o) old asking
-reset_asked live id None old asking is seated udp = quiet live [] old asking tt refl (λ k. refl) seated udp
-reset_asked live id (Some t) old asking is seated udp =
-    quiet live (due.Do (act.OfStream id (stream.Close why.Reset)) ∷ []) old asking (is t refl, λ e. cc, tt) refl (λ k. refl) seated udp
+reset_asked : (live : ℕ → Option Kind) (id : ℕ) (o : Option Tunnel) (old : List Stream) (asking : ℕ → ℕ) → ((t : Tunnel) → o ≡ Some t → is_some (live id) ≡ true) → AreLive live old → AreServed old → Asked live (reset_acts id o) old asking
+reset_asked live id None old asking is seated served = quiet live [] old asking tt refl (λ k. refl) seated served
+reset_asked live id (Some t) old asking is seated served =
+    quiet live (due.Do (act.OfStream id (stream.Close why.Reset)) ∷ []) old asking (closes_asked (live id) why.Reset (is t refl) (λ e. cc), tt) refl (λ k. refl) seated served
 
-abbrev TunnelsLive : (ℕ → Bool) → List Tunnel → Type 0
-TunnelsLive live ts = AllByRecursion (λ (t : Tunnel). live t.stream ≡ true) ts
+abbrev TunnelsLive : (ℕ → Option Kind) → List Tunnel → Type 0
+TunnelsLive live ts = AllByRecursion (λ (t : Tunnel). is_some (live t.stream) ≡ true) ts
 
-tunnel_live : (live : ℕ → Bool) (ts : List Tunnel) (id : ℕ) (t : Tunnel) → TunnelsLive live ts → find (λ (t : Tunnel). t.stream == id) ts ≡ Some t → live id ≡ true
+tunnel_live : (live : ℕ → Option Kind) (ts : List Tunnel) (id : ℕ) (t : Tunnel) → TunnelsLive live ts → find (λ (t : Tunnel). t.stream == id) ts ≡ Some t → is_some (live id) ≡ true
 tunnel_live live ts id t h e =
-    let there = found_each (λ (t : Tunnel). live t.stream ≡ true) (λ (t : Tunnel). t.stream == id) ts t h e in
-    ap live (sym (eqb-true t.stream id there.1)) ∙ there.0
+    let there = found_each (λ (t : Tunnel). is_some (live t.stream) ≡ true) (λ (t : Tunnel). t.stream == id) ts t h e in
+    ap (λ i. is_some (live i)) (sym (eqb-true t.stream id there.1)) ∙ there.0
 
-stream_there : (live : ℕ → Bool) (ss : List Stream) (id : ℕ) (s : Stream) → AreLive live ss → AreUdp ss → stream_of ss id ≡ Some s → ((live s.id ≡ true) × IsUdp s.goal) × (s.id ≡ id)
-stream_there live ss id s seated udp e =
+stream_there : (live : ℕ → Option Kind) (ss : List Stream) (id : ℕ) (s : Stream) → AreLive live ss → stream_of ss id ≡ Some s → Live live s × (s.id ≡ id)
+stream_there live ss id s seated e =
     let a = found_each (Live live) (λ (s : Stream). s.id == id) ss s seated e in
-    let b = found_each (λ (s : Stream). IsUdp s.goal) (λ (s : Stream). s.id == id) ss s udp e in
-    ((a.0, b.0), eqb-true s.id id a.1)
+    (a.0, eqb-true s.id id a.1)
 
-event_asked : (mtu : ℕ) (ts : List Tunnel) (live : ℕ → Bool) (old : List Stream) (e : StreamEvent) (n : ℕ → ℕ) (acts : List Due) (new : List Stream) → TunnelsLive live ts → AreLive live old → AreUdp old → FineEvent e
-    → ((id : ℕ) → (one (asks_for id e) + n id) + one (live id) ≤ 1) → EventAsks mtu ts old e acts new → Asked live acts new (λ id. one (asks_for id e))
-event_asked mtu ts live old (Request id (Refused status rule) ends) n acts new tunnels seated udp fine free x =
+event_asked : (mtu : ℕ) (ts : List Tunnel) (live : ℕ → Option Kind) (old : List Stream) (e : StreamEvent) (n : ℕ → ℕ) (acts : List Due) (new : List Stream) → TunnelsLive live ts → AreLive live old → AreServed old → FineEvent e
+    → ((id : ℕ) → (one (asks_for id e) + n id) + one (is_some (live id)) ≤ 1) → EventAsks mtu ts old e acts new → Asked live acts new (λ id. one (asks_for id e))
+event_asked mtu ts live old (Request id (Refused status rule) ends) n acts new tunnels seated served fine free x =
     asked_same live acts (due.Do (act.Refuse id status rule) ∷ []) new old (λ k. one (id == k)) x.0 x.1
-    (quiet live (due.Do (act.Refuse id status rule) ∷ []) old (λ k. one (id == k)) tt refl (λ k. refl) seated udp)
-event_asked mtu ts live old (Request id (Leads found) ends) n acts new tunnels seated udp fine free x =
-    let P : Bool → Type 0 = λ b. (one b + n id) + one (live id) ≤ 1 in
+    (quiet live (due.Do (act.Refuse id status rule) ∷ []) old (λ k. one (id == k)) tt refl (λ k. refl) seated served)
+event_asked mtu ts live old (Request id (Leads found) ends) n acts new tunnels seated served fine free x =
+    let P : Bool → Type 0 = λ b. (one b + n id) + one (is_some (live id)) ≤ 1 in
     let Q : Bool → Type 0 = λ b. 1 ≤ one b in
     asked_same live acts (due.Do (goal_act id found) ∷ ended_acts id ends) new (old ++ record { id = id; goal = found; bytes = [] } ∷ []) (λ k. one (id == k)) x.0 x.1
-    (leads_asked live id found ends old (λ k. one (id == k)) fine (once_free (live id) (n id) (subst P (itself id) (free id))) seated udp (λ k is. subst Q (sym is) (omega arith)))
-event_asked mtu ts live old (Malformed id code) n acts new tunnels seated udp fine free x =
+    (leads_asked live id found ends old (λ k. one (id == k)) fine (once_free (live id) (n id) (subst P (itself id) (free id))) seated served (λ k is. subst Q (sym is) (omega arith)))
+event_asked mtu ts live old (Malformed id code) n acts new tunnels seated served fine free x =
     let o = find (λ (t : Tunnel). t.stream == id) ts in
-    asked_same live acts (error_acts id code o) new old (λ k. 0) x.0 x.1 (error_asked live id code o old (λ k. 0) (λ t e. tunnel_live live ts id t tunnels e) seated udp)
-event_asked mtu ts live old (Content id bytes size ends) n acts new tunnels seated udp fine free x =
+    asked_same live acts (error_acts id code o) new old (λ k. 0) x.0 x.1 (error_asked live id code o old (λ k. 0) (λ t e. tunnel_live live ts id t tunnels e) seated served)
+event_asked mtu ts live old (Content id bytes size ends) n acts new tunnels seated served fine free x =
     asked_same live acts acts new (more_bytes id bytes old) (λ k. 0) refl x.1
-    (content_asked mtu live id bytes size ends (stream_of old id) acts (more_bytes id bytes old) (λ k. 0) (λ s e. stream_there live old id s seated udp e) (more_live live id bytes old seated) (more_udp id bytes old udp) x.0)
-event_asked mtu ts live old (Reset id) n acts new tunnels seated udp fine free x =
+    (content_asked mtu live id bytes size ends (stream_of old id) acts (more_bytes id bytes old) (λ k. 0) (λ s e. stream_there live old id s seated e) (more_live live id bytes old seated) (more_udp id bytes old served) x.0)
+event_asked mtu ts live old (Reset id) n acts new tunnels seated served fine free x =
     let o = find (λ (t : Tunnel). t.stream == id) ts in
-    asked_same live acts (reset_acts id o) new old (λ k. 0) x.0 x.1 (reset_asked live id o old (λ k. 0) (λ t e. tunnel_live live ts id t tunnels e) seated udp)
-event_asked mtu ts live old (ConnectionError code) n acts new tunnels seated udp fine free x =
-    asked_same live acts (due.Fault code ∷ []) new old (λ k. 0) x.0 x.1 (quiet live (due.Fault code ∷ []) old (λ k. 0) tt refl (λ k. refl) seated udp)
+    asked_same live acts (reset_acts id o) new old (λ k. 0) x.0 x.1 (reset_asked live id o old (λ k. 0) (λ t e. tunnel_live live ts id t tunnels e) seated served)
+event_asked mtu ts live old (ConnectionError code) n acts new tunnels seated served fine free x =
+    asked_same live acts (due.Fault code ∷ []) new old (λ k. 0) x.0 x.1 (quiet live (due.Fault code ∷ []) old (λ k. 0) tt refl (λ k. refl) seated served)
 
 -- ---- events in order
 
@@ -312,13 +298,12 @@ begins_asking false h = absurd (omega (arith, h))
 both_opens : (xs ys : List Due) → NoOpens xs → NoOpens ys → NoOpens (xs ++ ys)
 both_opens xs ys h k = any_append is_open xs ys ∙ ap (λ b. b || list_any is_open ys) h ∙ k
 
-asked_both : (live : ℕ → Bool) (here later : List Due) (mid new : List Stream) (a n : ℕ → ℕ) → Asked live here mid a → Asked (then_live live here) later new n → Asked live (here ++ later) new (λ id. a id + n id)
+asked_both : (live : ℕ → Option Kind) (here later : List Due) (mid new : List Stream) (a n : ℕ → ℕ) → Asked live here mid a → Asked (then_live live here) later new n → Asked live (here ++ later) new (λ id. a id + n id)
 asked_both live here later mid new a n h k = record {
   follows = follows_both live here later h.follows k.follows;
   opens = both_opens here later h.opens k.opens;
-  seated = each_so (Live (then_live (then_live live here) later)) (Live (then_live live (here ++ later))) new
-      (λ s seat. ap (λ b. live s.id || b) (any_append (begins_on s.id) here later) ∙ sym (or_assoc (live s.id) (list_any (begins_on s.id) here) (list_any (begins_on s.id) later)) ∙ seat) k.seated;
-  udp = k.udp;
+  seated = each_so (Live (then_live (then_live live here) later)) (Live (then_live live (here ++ later))) new (λ s seat. behind_both s.id here later (live s.id) ∙ seat) k.seated;
+  served = k.served;
   begins = λ id is. by_first id (list_any (begins_on id) here) (h.begins id) (sym (any_append (begins_on id) here later) ∙ is);
 }
   where
@@ -326,15 +311,17 @@ asked_both live here later mid new a n h k = record {
     by_first id true f is = let first = f refl in omega (arith, first)
     by_first id false f is = let second = k.begins id is in omega (arith, second)
 
-events_asked : (mtu : ℕ) (ts : List Tunnel) (es : List StreamEvent) (live : ℕ → Bool) (old : List Stream) (acts : List Due) (new : List Stream) → TunnelsLive live ts → AreLive live old → AreUdp old → AreFine es
-    → AskOnce live es → EventsAsk mtu ts old es acts new → Asked live acts new (λ id. requests id es)
-events_asked mtu ts [] live old acts new tunnels seated udp fine free x = asked_same live acts [] new old (λ id. 0) x.0 x.1 (quiet live [] old (λ id. 0) tt refl (λ k. refl) seated udp)
-events_asked mtu ts (e ∷ es) live old acts new tunnels seated udp fine free x =
-    let here = event_asked mtu ts live old e (λ id. requests id es) x.0 x.1 tunnels seated udp fine.0 free x.3 in
+events_asked : (mtu : ℕ) (ts : List Tunnel) (es : List StreamEvent) (live : ℕ → Option Kind) (old : List Stream) (acts : List Due) (new : List Stream) → TunnelsLive live ts → AreLive live old → AreServed old → AreFine es
+    → AskOnce (λ id. is_some (live id)) es → EventsAsk mtu ts old es acts new → Asked live acts new (λ id. requests id es)
+events_asked mtu ts [] live old acts new tunnels seated served fine free x = asked_same live acts [] new old (λ id. 0) x.0 x.1 (quiet live [] old (λ id. 0) tt refl (λ k. refl) seated served)
+events_asked mtu ts (e ∷ es) live old acts new tunnels seated served fine free x =
+    let here = event_asked mtu ts live old e (λ id. requests id es) x.0 x.1 tunnels seated served fine.0 free x.3 in
     let live_then = then_live live x.0 in
-    let still : TunnelsLive live_then ts = each_so (λ (t : Tunnel). live t.stream ≡ true) (λ (t : Tunnel). live_then t.stream ≡ true) ts (λ t k. or_left (live t.stream) (list_any (begins_on t.stream) x.0) k) tunnels in
-    let once : AskOnce live_then es = λ id. once_later (asks_for id e) (live id) (list_any (begins_on id) x.0) (requests id es) (λ is. begins_asking (asks_for id e) (here.begins id is)) (free id) in
-    let later = events_asked mtu ts es live_then x.1 x.2 new still here.seated here.udp fine.1 once x.4 in
+    let still : TunnelsLive live_then ts = each_so (λ (t : Tunnel). is_some (live t.stream) ≡ true) (λ (t : Tunnel). is_some (live_then t.stream) ≡ true) ts
+    (λ t k. behind_some t.stream x.0 (live t.stream) ∙ or_left (is_some (live t.stream)) (list_any (begins_on t.stream) x.0) k) tunnels in
+    let once : AskOnce (λ id. is_some (live_then id)) es = λ id. subst (λ b. requests id es + one b ≤ 1) (sym (behind_some id x.0 (live id)))
+    (once_later (asks_for id e) (is_some (live id)) (list_any (begins_on id) x.0) (requests id es) (λ is. begins_asking (asks_for id e) (here.begins id is)) (free id)) in
+    let later = events_asked mtu ts es live_then x.1 x.2 new still here.seated here.served fine.1 once x.4 in
     asked_same live acts (x.0 ++ x.2) new new (λ id. requests id (e ∷ es)) x.5 refl (asked_both live x.0 x.2 x.1 new (λ id. one (asks_for id e)) (λ id. requests id es) here later)
 
 -- ---- DATA that is to be consumed
@@ -451,7 +438,7 @@ fine_frames setup k (f ∷ told) es x = subst AreFine (sym x.4) (fine_frame setu
 abbrev WhatComes : ℕ → List Tunnel → List Stream → List StreamEvent → Front → Type 0
 WhatComes mtu ts ss es front =
     AreFine es × AskOnce (has_on ts) es
-    × ((acts : List Due) (new : List Stream) → EventsAsk mtu ts ss es acts new → Asked (has_on ts) acts new (λ id. requests id es) → Fits front None acts ts new)
+    × ((acts : List Due) (new : List Stream) → EventsAsk mtu ts ss es acts new → Asked (kind_on ts) acts new (λ id. requests id es) → Fits front None acts ts new)
 
 has_each : (P : ℕ → Type 0) (ts : List Tunnel) (id : ℕ) → AllByRecursion (λ (t : Tunnel). P t.stream) ts → has_on ts id ≡ true → P id
 has_each P ts id h has = by_found (find (λ (t : Tunnel). t.stream == id) ts) has (λ t e. found_each (λ (t : Tunnel). P t.stream) (λ (t : Tunnel). t.stream == id) ts t h e)
@@ -486,7 +473,7 @@ frames_come setup old bytes es text new ts ss asked_once is_told udp h x =
     let same : (id : ℕ) → requests id es ≡ count_by (asks id) x.told = λ id. requests_same setup id x.told es x.brings ∙ counted id x.told in
     let within : (id : ℕ) → requests id es + one (may_come id x.next) ≤ one (may_come id old) = λ id. (let s = same id in let w = asked_once old bytes x.told x.next id x.reads in omega (arith, s, w)) in
     let P : ℕ → Type 0 = λ id. may_come id old ≡ false in
-    let fits : (acts : List Due) (streams : List Stream) → EventsAsk setup.mtu ts ss es acts streams → Asked (has_on ts) acts streams (λ id. requests id es) → Http2Fits (record x.next { out = [] }) acts ts =
+    let fits : (acts : List Due) (streams : List Stream) → EventsAsk setup.mtu ts ss es acts streams → Asked (kind_on ts) acts streams (λ id. requests id es) → Http2Fits (record x.next { out = [] }) acts ts =
     λ acts streams asks asked. record {
       tunnels = each_so (λ (t : Tunnel). may_come t.stream old ≡ false) (λ (t : Tunnel). may_come t.stream x.next ≡ false) ts
           (λ t k. none_comes (may_come t.stream old) (may_come t.stream x.next) (requests t.stream es) k (within t.stream)) h.tunnels;
@@ -498,7 +485,7 @@ frames_come setup old bytes es text new ts ss asked_once is_told udp h x =
           omega (arith, a, b, c)
           );
     } in
-    let Q : Front → Type 0 = λ front. (acts : List Due) (streams : List Stream) → EventsAsk setup.mtu ts ss es acts streams → Asked (has_on ts) acts streams (λ id. requests id es) → Fits front None acts ts streams in (
+    let Q : Front → Type 0 = λ front. (acts : List Due) (streams : List Stream) → EventsAsk setup.mtu ts ss es acts streams → Asked (kind_on ts) acts streams (λ id. requests id es) → Fits front None acts ts streams in (
       fine_frames setup udp x.told es x.brings,
       λ id. once_by (has_on ts id) (may_come id old) (may_come id x.next) (requests id es) (λ has. has_each P ts id h.tunnels has) (within id),
       subst Q (sym x.new_is) fits,
@@ -662,9 +649,9 @@ read_loose : (setup : Setup) → IsAskedOnce → IsTold → setup.udp.kind ≡ k
     → Loose None [] ts ss old → Brings setup old bytes es text new → EventsAsk setup.mtu ts ss es acts streams → Loose None acts ts streams new × NoOpens acts
 read_loose setup asked_once is_told udp bytes es text old new ts ss acts streams h brings asks =
     let comes = read_comes setup asked_once is_told udp old bytes es text new ts ss h.front brings in
-    let live : TunnelsLive (has_on ts) ts = each_in (λ (t : Tunnel). has_on ts t.stream ≡ true) ts (λ t i. in_has ts t i) in
-    let seated : AreLive (has_on ts) ss = each_so (IsSeated ts []) (Live (has_on ts)) ss (λ s k. sym (or_none (has_on ts s.id)) ∙ k) h.seated in
-    let asked = events_asked setup.mtu ts es (has_on ts) ss acts streams live seated h.asked comes.0 comes.1 asks in (
+    let live : TunnelsLive (kind_on ts) ts = each_in (λ (t : Tunnel). is_some (kind_on ts t.stream) ≡ true) ts (λ t i. kind_there ts t.stream ∙ in_has ts t i) in
+    let once : AskOnce (λ id. is_some (kind_on ts id)) es = λ id. subst (λ b. requests id es + one b ≤ 1) (sym (kind_there ts id)) (comes.1 id) in
+    let asked = events_asked setup.mtu ts es (kind_on ts) ss acts streams live h.seated h.asked comes.0 once asks in (
       record {
         over = tt;
         follows = asked.follows;
@@ -672,8 +659,8 @@ read_loose setup asked_once is_told udp bytes es text old new ts ss acts streams
         seated = asked.seated;
         alone = h.alone;
         numbered = h.numbered;
-        udp = h.udp;
-        asked = asked.udp;
+        served = h.served;
+        asked = asked.served;
         front = comes.2 acts streams asks asked;
       },
       asked.opens,

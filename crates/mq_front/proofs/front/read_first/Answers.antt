@@ -11,10 +11,10 @@ returns-in-Part g c =
     waits c.args.setup.now (g.T.Tunnels.list c.args.tunnels.now) c.args.count c.args.piece.now c.in-Part.more c.args.due.now (subst P c.in-Part.is c.opening_behind.ensures)
 
 pub returns-in_ok-read-in-Whole : goal.returns-in_ok-read-in-Whole
-returns-in_ok-read-in-Whole g c = λ udp few.
+returns-in_ok-read-in-Whole g c = λ few.
     let P : Opening → Type 0 = λ o. c.args.count < 24 → Opens c.args.count c.args.piece.now o in
     reads_frames c.reads_stand_apart.ensures c.args.setup.now (g.T.Tunnels.list c.args.tunnels.now) c.args.count c.args.piece.now c.in-Whole.frames.now c.args.due.now c.read.new.due c.in_ok-many-in-Whole.many c.read.new.self
-    (subst P c.in-Whole.is c.opening_behind.ensures few) (c.in_ok-many-in-Whole.ensures {u = tt}) (c.in_ok-read-in-Whole.ensures {u = tt}) udp few
+    (subst P c.in-Whole.is c.opening_behind.ensures few) (c.in_ok-many-in-Whole.ensures {u = tt}) (c.in_ok-read-in-Whole.ensures {u = tt}) few
 
 pub returns-in-Other : goal.returns-in-Other
 returns-in-Other g c =

@@ -6,6 +6,7 @@ use Rattle.mq_conn.specs.Conns.{IsConn}
 use Rattle.mq_held.specs.declared.held.PortSeat.{PortSeat}
 use Rattle.mq_step.specs.Holds.{Seats}
 use Rattle.mq_machine.specs.Want.{want_of}
+use Rattle.mq_step.proofs.Asking.{may_call}
 use Rattle.mq_step.proofs.Cores.{same_actor}
 use Rattle.mq_step.proofs.Standing.{same_apart}
 use Rattle.mq_step.proofs.Opening.{Opens, comes, bound_kept, opened_kept, opened_apart, opened_table, opens_fresh, plain_call}
@@ -106,3 +107,9 @@ returns-in-Ok-clause-others g c =
     (ap (λ h. h.bound) asked)
     (seat_keeps (λ t. t.table) c.args.table.now c.seat.new.table c.in-Ok.heard.opened c.ask.new.self c.seat.new.held c.seat.ensures.seats
     c.seat.ensures.table (ap (λ h. h.bound) c.seat.ensures.rest))
+
+pub ask-requires : goal.ask-requires
+ask-requires g c =
+    let k = c.requires.known in
+    let seen = g.O.Office.seen c.args.office.now in
+    may_call c.args.held.now.conn seen seen.actor k.0 c.args.call k.1.conn k.2 k.3

@@ -2,12 +2,13 @@ use Rattle.std.proofs.Common.{◌≡◌, ◌∙◌, false, refl, sym, ap, subst}
 use Rattle.mq_talk.specs.declared.goal.Goal.TheVariants as goals
 use Rattle.mq_talk.specs.declared.book.Call.TheVariants.{Close}
 use Rattle.mq_machine.specs.Acting.{Binder, binder}
+use Rattle.mq_machine.specs.Want as machine
 use Rattle.mq_machine.specs.Want.{Bind, Say, Said, Ask, want_of}
 use Rattle.mq_conn.specs.declared.want.Want.{Want}
 use Rattle.mq_conn.specs.Wants.{IsWant}
 use Rattle.mq_step.specs.Holds.{IsHeld}
 use Rattle.mq_step.proofs.Filling.{none_changed}
-use Rattle.mq_step.proofs.Cores.{said_alive}
+use Rattle.mq_step.proofs.Cores.{IsUdpWant, said_alive, udp_want}
 use Rattle.mq_step.proofs.Saying.{say_some}
 use Rattle.mq_step.proofs.Standing.{same_apart, bound_none}
 use Rattle.mq_step.proofs.Binding.{Stays, held_back, sinks_alone, bind_sinks, says, quiet, ends, err_gives, bind_comes}
@@ -144,3 +145,15 @@ returns-in-SendUdp-clause-apart g c = same_apart c.args.held.now.ports.items c.s
 
 pub returns-in-Ended-clause-apart : goal.returns-in-Ended-clause-apart
 returns-in-Ended-clause-apart g c = c.requires.known.1.apart
+
+pub returns-in-Judge-clause-gives : goal.returns-in-Judge-clause-gives
+returns-in-Judge-clause-gives g c = λ o n so sn s held want.
+    let W : Want → Type 0 = λ w. IsWant w (want_of s.conn) in
+    let U : machine.Want → Type 0 = λ w. IsUdpWant w in
+    absurd (subst U (subst W c.in-Judge.is want) (udp_want c.args.held.now.conn s.conn held.conn))
+
+pub returns-in-Push-clause-gives : goal.returns-in-Push-clause-gives
+returns-in-Push-clause-gives g c = λ o n so sn s held want.
+    let W : Want → Type 0 = λ w. IsWant w (want_of s.conn) in
+    let U : machine.Want → Type 0 = λ w. IsUdpWant w in
+    absurd (subst U (subst W c.in-Push.is want).1 (udp_want c.args.held.now.conn s.conn held.conn))
