@@ -37,8 +37,8 @@ use Rattle.mq_conn.specs.declared.conn.First.TheVariants as first
 use Rattle.mq_conn.specs.declared.conn.Tunnel.{Tunnel}
 use Rattle.mq_conn.specs.Conns.{IsConn, Stands, IsRead, Keeps, HasRoom, Refuses, Past, state, behind, act_of, tunnel_is, tunnels_of}
 use Rattle.mq_conn.specs.Frames.{Comes, Delivers, IsFirst, IsNext, IsPlaceOf, HasNone, PutFirst, PutsFirst, Takes, TookFirst, on_side, took_note, took_waiting}
-use Rattle.mq_conn.specs.declared.queue.Packet.{Packet}
-use Rattle.mq_conn.specs.Queues.{size_of, behind as behind_part}
+use Rattle.mq_conn.specs.declared.queue.Queued.{Queued}
+use Rattle.mq_conn.specs.Queues.{a_packet, size_of, behind as behind_part}
 use Rattle.mq_conn.proofs.Places.{found, missing, waits_at, set_at, bytes_in, one_within, side, side_is, first_at, none_at, either_side, other_side}
 use Rattle.mq_conn.proofs.Serving.{Is, Settles, by_state, goes_on, has_front, is_conn, over_none, settles_so}
 use Rattle.mq_conn.proofs.Wanting.{want_due, follows_first, first_waits}
@@ -90,11 +90,8 @@ shuts c id place u at s stands t is waiting =
 abbrev pub full : List Tunnel → Tunnel → List ℕ → Bool
 full ts t packet = nat_le 64 (length (filter is_packet t.waiting)) || nat_lt 1048576 (sum_by (λ (u : Tunnel). size_of u.waiting) ts + length (capsule_text (datagram packet)))
 
-abbrev coming : From → ℕ → List ℕ → Waiting
-coming from n packet = record { what = machine.Packet from n packet; capsule = capsule_text (datagram packet); framed = 0 }
-
 abbrev came : Bool → machine.Conn → ℕ → From → ℕ → List ℕ → Note × machine.Conn
-came b x id from n packet = cond b (note.Dropped from n cause.QueueFull, x) (note.Queued from n id, record x { tunnels = waits_last id (coming from n packet) x.tunnels })
+came b x id from n packet = cond b (note.Dropped from n cause.QueueFull, x) (note.Queued from n id, record x { tunnels = waits_last id (a_packet from n packet) x.tunnels })
 
 queued_is : (c : Conn) (p : Past) (t : Tunnel) (from : From) (n : ℕ) (packet : List ℕ) (b : Bool) → full c.tunnels.items t packet ≡ b
     → queued (state c p) (tunnel_is t) from n packet ≡ came b (state c p) t.id from n packet
@@ -140,12 +137,12 @@ pub record Sets (c e : Conn) (place : ℕ) (t : Tunnel) : Type 0 where
   pub capacity : vec_capacity e.tunnels ≡ vec_capacity c.tunnels
 
 pub queues : (c e d : Conn) (id place : ℕ) (t : Tunnel) (from : From) (n : ℕ) (packet : List ℕ) → IsPlaceOf c.tunnels.items id place t → full c.tunnels.items t packet ≡ false
-    → Sets c e place (record t { waiting = t.waiting ++ coming from n packet ∷ [] }) → Settles e d → Delivers c d from n id packet (note.Queued from n id)
+    → Sets c e place (record t { waiting = t.waiting ++ a_packet from n packet ∷ [] }) → Settles e d → Delivers c d from n id packet (note.Queued from n id)
 queues c e d id place t from n packet at is sets settles s stands =
     by_state c (λ (x : machine.Conn). Comes d x (tunnel_of x id) from n packet (note.Queued from n id)) go s stands
   where
     w : Waiting
-    w = coming from n packet
+    w = a_packet from n packet
 
     go : (p : Past) → Is c p → Comes d (state c p) (tunnel_of (state c p) id) from n packet (note.Queued from n id)
     go p h =
@@ -440,16 +437,17 @@ same_at old mid place t keeps at = ap (λ (c : Conn). slice_get c.tunnels.items 
 
 -- ---- of what waits first so much was framed
 
-pub takes_all : (old new : Conn) (place count : ℕ) (t u : Tunnel) (w : Waiting) (rest ws : List Waiting) (p : Packet) (framed : ℕ) → u ≡ t → u.waiting ≡ behind_part framed p ∷ ws → t.waiting ≡ w ∷ rest
+pub takes_all : (old new : Conn) (place count : ℕ) (t u : Tunnel) (w : Waiting) (rest ws : List Waiting) (q : Queued) (framed : ℕ) (said : Note) → u ≡ t → u.waiting ≡ behind_part framed q ∷ ws → t.waiting ≡ w ∷ rest
     → length w.capsule ≤ w.framed + count → new.tunnels.items ≡ slice_set old.tunnels.items place (record u { waiting = ws }) → new ≡ record old { tunnels = new.tunnels; next_tunnel = u.id + 1 }
-    → Takes old new place count t w rest (note.Delivered p.from p.n u.id p.packet)
-takes_all old new place count t u w rest ws p framed same popped waiting all items keeps =
-    let e : behind_part framed p ∷ ws ≡ w ∷ rest = sym popped ∙ ap (λ (v : Tunnel). v.waiting) same ∙ waiting in
-    let first : behind_part framed p ≡ w = (let k = e in cc) in
+    → said ≡ whole_note (tunnel_is u) (behind_part framed q) (behind_part framed q).what → Takes old new place count t w rest said
+takes_all old new place count t u w rest ws q framed said same popped waiting all items keeps told =
+    let e : behind_part framed q ∷ ws ≡ w ∷ rest = sym popped ∙ ap (λ (v : Tunnel). v.waiting) same ∙ waiting in
+    let first : behind_part framed q ≡ w = (let k = e in cc) in
     let others : ws ≡ rest = (let k = e in cc) in
     let b : nat_le (length w.capsule) (w.framed + count) ≡ true = le_true (length w.capsule) (w.framed + count) all in
     record {
-      said_is = ap (λ (v : Tunnel). note.Delivered p.from p.n v.id p.packet) same ∙ ap (λ (v : Waiting). whole_note (tunnel_is t) v v.what) first ∙ ap (λ (v : Bool). took_note v t w count) (sym b);
+      said_is = told ∙ ap (λ (v : Tunnel). whole_note (tunnel_is v) (behind_part framed q) (behind_part framed q).what) same ∙ ap (λ (v : Waiting). whole_note (tunnel_is t) v v.what) first
+          ∙ ap (λ (v : Bool). took_note v t w count) (sym b);
       items = items ∙ ap (λ (v : Tunnel). slice_set old.tunnels.items place (record v { waiting = ws })) same ∙ ap (λ (xs : List Waiting). slice_set old.tunnels.items place (record t { waiting = xs })) others
           ∙ ap (λ (v : Bool). slice_set old.tunnels.items place (record t { waiting = took_waiting v w rest count })) (sym b);
       keeps = keeps ∙ ap (λ (v : Tunnel). record old { tunnels = new.tunnels; next_tunnel = v.id + 1 }) same;

@@ -1,16 +1,39 @@
--- What the packets that wait in a tunnel stand for.
-use Rattle.std.specs.Prelude.{ℕ, List, [], ◌∷◌, length, sum_by}
+-- What that which waits in a tunnel stands for.
+use Rattle.std.specs.Prelude.{ℕ, List, [], ◌∷◌, ◌++◌, length, sum_by}
 use Rattle.mq_capsule.specs.Writing.{capsule_text, datagram}
+use Rattle.mq_talk.specs.declared.note.From.{From}
 use Rattle.mq_machine.specs.State as machine
-use Rattle.mq_machine.specs.State.{Waiting}
-use Rattle.mq_conn.specs.declared.queue.Packet.{Packet}
+use Rattle.mq_machine.specs.State.{What, Waiting}
+use Rattle.mq_conn.specs.declared.queue.Queued.{Queued}
+use Rattle.mq_conn.specs.declared.queue.Queued.TheVariants.{Packet, Value}
 
--- a packet that waits, of whose capsule so many bytes were framed
-abbrev pub behind : ℕ → Packet → Waiting
-behind framed p = record { what = machine.Packet p.from p.n p.packet; capsule = capsule_text (datagram p.packet); framed = framed }
+abbrev pub what_of : Queued → What
+what_of (Packet from n header packet) = machine.Packet from n packet
+what_of (Value capsule) = machine.Value
 
-abbrev pub waiting_of : Packet → Waiting
-waiting_of p = behind 0 p
+-- its whole capsule
+abbrev pub capsule_of : Queued → List ℕ
+capsule_of (Packet from n header packet) = header ++ packet
+capsule_of (Value capsule) = capsule
+
+abbrev pub count_of : Queued → ℕ
+count_of (Packet from n header packet) = 1
+count_of (Value capsule) = 0
+
+-- of whose capsule so many bytes were framed
+abbrev pub behind : ℕ → Queued → Waiting
+behind framed q = record { what = what_of q; capsule = capsule_of q; framed = framed }
+
+abbrev pub waiting_of : Queued → Waiting
+waiting_of q = behind 0 q
+
+-- a packet of which nothing was framed
+abbrev pub a_packet : From → ℕ → List ℕ → Waiting
+a_packet from n packet = record { what = machine.Packet from n packet; capsule = capsule_text (datagram packet); framed = 0 }
+
+-- and a control value
+abbrev pub a_value : List ℕ → Waiting
+a_value capsule = record { what = machine.Value; capsule = capsule; framed = 0 }
 
 -- the first was framed so far
 abbrev pub with_framed : ℕ → List Waiting → List Waiting

@@ -8,7 +8,7 @@ use std::marker::Model;
 #[derive(Drop)]
 pub struct Header {
     bytes: [u8; 6],
-    size: usize,
+    size: u8,
 }
 
 impl Model for Header {
@@ -23,9 +23,10 @@ impl Model for Header {
 
 impl Header {
     pub fn as_slice(&self) -> &[u8]
-        ensures { result.now ≡ self.now }
+        ensures is { result.now ≡ self.now }
+        ensures short { length self.now ≤ 6 }
     {
-        let (front, _) = self.bytes.split_at(self.size.min(6));
+        let (front, _) = self.bytes.split_at((self.size as usize).min(6));
         front
     }
 }

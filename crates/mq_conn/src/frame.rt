@@ -8,12 +8,12 @@ ghost use Rattle.mq_machine.specs.Steps as steps;
 ghost use Rattle.mq_machine.specs.Want.{want_of, may_wait};
 ghost use Rattle.mq_conn.specs.Conns.{IsConn, Keeps, Refuses, Starves, tunnel_is};
 ghost use Rattle.mq_conn.specs.Frames.{Delivers, IsNext, IsPlaceOf, HasNone, PutsFirst, TookFirst};
-ghost use Rattle.mq_conn.specs.Queues.{size_of};
+ghost use Rattle.mq_conn.specs.Queues.{size_of, what_of, behind as waits_behind};
 ghost use Rattle.mq_conn.specs.declared.conn.Tunnel.{Tunnel};
 
-use crate::capsule::{behind, capsule_size, header_of};
+use crate::capsule::{behind, capsule_size};
 use crate::conn::{Conn, First, Tunnel};
-use crate::queue::{MOST_PACKETS, Packet};
+use crate::queue::{MOST_PACKETS, Queued};
 use mq_talk::{Cause, From, Note, Why};
 use mq_wire::{Bytes, NoMemory};
 
@@ -48,6 +48,29 @@ fn place_of(tunnels: &[Tunnel], id: u32) -> Option<usize>
         }
     }
     None
+}
+
+/// The note of a capsule of tunnel `to` that was framed to its end. That of a control value is told.
+fn whole(to: u32, last: Queued) -> Note
+    ensures { (t : machine.Tunnel) → t.id ≡ to → (framed : ℕ) → result ≡ steps.whole_note t (waits_behind framed last) (what_of last) }
+{
+    match last {
+        Queued::Packet {
+            from,
+            n,
+            packet,
+            ..
+        } => Note::Delivered {
+            from,
+            n,
+            to,
+            packet,
+        },
+        Queued::Value { capsule } => Note::Control {
+            tunnel: to,
+            capsule,
+        },
+    }
 }
 
 impl Conn {
@@ -107,7 +130,7 @@ impl Conn {
                 cause: Cause::QueueFull,
             };
         }
-        self.tunnels[place].waiting.push(Packet { from, n, packet });
+        self.tunnels[place].waiting.push(from, n, packet);
         self.settle();
         Note::Queued {
             from,
@@ -126,8 +149,7 @@ impl Conn {
         let Some(first) = tunnel.waiting.first() else {
             return false;
         };
-        let size = capsule_size(first.packet.as_slice().len());
-        let left = size.saturating_sub(tunnel.waiting.framed());
+        let left = first.size().saturating_sub(tunnel.waiting.framed());
         match &self.front {
             None => false,
             Some(front) => front.room(tunnel.stream, left) > 0,
@@ -194,9 +216,8 @@ impl Conn {
         let Some(front) = &mut self.front else {
             return Err(NoMemory);
         };
-        let packet = first.packet.as_slice();
-        let header = header_of(packet.len());
-        let (begin, rest) = behind(header.as_slice(), packet, tunnel.waiting.framed());
+        let (begin, rest) = first.parts();
+        let (begin, rest) = behind(begin, rest, tunnel.waiting.framed());
         front.frame(tunnel.stream, begin, rest)
     }
 
@@ -207,15 +228,10 @@ impl Conn {
         let tunnel = self.tunnels.get_mut(place)?;
         let id = tunnel.id;
         self.next_tunnel = next_number(id);
-        let size = capsule_size(tunnel.waiting.first()?.packet.as_slice().len());
+        let size = tunnel.waiting.first()?.size();
         if size.saturating_sub(tunnel.waiting.framed()) <= count {
-            let Packet { from, n, packet } = tunnel.waiting.pop()?;
-            return Some(Note::Delivered {
-                from,
-                n,
-                to: id,
-                packet,
-            });
+            let last = tunnel.waiting.pop()?;
+            return Some(whole(id, last));
         }
         tunnel.waiting.advance(count);
         Some(Note::Part {

@@ -4,6 +4,7 @@ mod cuts;
 mod ends;
 mod limits;
 mod rows;
+mod values;
 mod waiting;
 
 use crate::{Conn, Want};

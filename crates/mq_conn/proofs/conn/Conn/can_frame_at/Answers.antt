@@ -1,4 +1,4 @@
-use Rattle.std.proofs.Common.{◌≡◌, Some, List, ℕ, length, slice_get, ◌∙◌, sym, ap, subst, arith}
+use Rattle.std.proofs.Common.{◌≡◌, Some, List, ℕ, slice_get, ◌∙◌, sym, ap, subst, arith}
 use Rattle.std.proofs.lemmas.Option.{get_or_from_slice_get}
 use Rattle.mq_conn.specs.declared.conn.Tunnel.{Tunnel}
 use Rattle.std.proofs.lemmas.List.{length-drop}
@@ -25,7 +25,7 @@ returns-in-Some-front c = λ s stands goes t at.
     let read : c.in-Some.tunnel.now ≡ t = c.in-Some.ensures.lookup.1 ∙ get_or_from_slice_get c.deref.result.now c.args.place t c.in-Some.tunnel.now items in
     let e = c.in-Some-first.ensures in
     let w = behind e.0 c.in-Some-first.first.now in
-    let size = c.capsule_size-size.ensures.is c.in-Some-first.first.now.packet (ap (λ (xs : List _). length xs) c.as_slice.ensures) in
+    let size = c.size.ensures in
     let framed = c.framed.ensures w e.1 e.2 in
     let cut = length-drop e.0 w.capsule in
     let left = c.saturating_sub-left.ensures in

@@ -3,7 +3,7 @@ use Rattle.std.specs.Vec.{with_item}
 use Rattle.std.proofs.lemmas.Option.{get_or_from_slice_get}
 use Rattle.mq_capsule.specs.Writing.{capsule_text, datagram}
 use Rattle.mq_machine.specs.State.{Waiting, is_packet}
-use Rattle.mq_conn.specs.Queues.{size_of, waiting_of}
+use Rattle.mq_conn.specs.Queues.{a_packet, size_of}
 use Rattle.mq_conn.specs.declared.conn.Tunnel.{Tunnel}
 use Rattle.mq_conn.specs.Frames.{HasNone, IsPlaceOf}
 use Rattle.mq_conn.proofs.Framing.{gone, drops, queues, full, not_false, not_full, not_true}
@@ -56,7 +56,7 @@ returns c =
     let room = c.has_room.ensures.is e.0 at.at c.args.packet (ap (λ (xs : List _). length xs) c.as_slice-2.ensures) in
     let some = not_true (full old.tunnels.items e.0 c.args.packet) (sym room ∙ c.if-not-has_room.false) in
     let read : c.index_mut.result.now ≡ e.0 = c.index_mut.ensures.value ∙ get_or_from_slice_get old.tunnels.items c.in-Some.place e.0 c.index_mut.result.now at.at in
-    let w : Waiting = waiting_of (record { from = c.args.from; n = c.args.n; packet = c.args.packet }) in
+    let w : Waiting = a_packet c.args.from c.args.n c.args.packet in
     let items = ap (λ (xs : List Waiting). slice_set old.tunnels.items c.in-Some.place (record c.index_mut.result.now { waiting = xs })) c.push.ensures
     ∙ ap (λ (u : Tunnel). slice_set old.tunnels.items c.in-Some.place (record u { waiting = u.waiting ++ w ∷ [] })) read in
     queues old (record old { tunnels = with_item old.tunnels c.in-Some.place (record c.index_mut.result.now { waiting = c.push.new.self }) }) c.settle-2.new.self c.args.tunnel c.in-Some.place e.0 c.args.from c.args.n c.args.packet at some

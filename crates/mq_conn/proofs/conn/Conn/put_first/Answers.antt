@@ -1,5 +1,5 @@
-use Rattle.std.proofs.Common.{◌≡◌, Some, None, true, false, List, [], ◌∷◌, ◌++◌, ℕ, ◌<◌, ◌≤◌, length, drop, not, Option, Bool, slice_get, ◌∙◌, refl, sym, ap, subst, arith}
-use Rattle.std.proofs.lemmas.Option.{get_or_from_slice_get, slice_get-get_or}
+use Rattle.std.proofs.Common.{◌≡◌, Some, List, ◌++◌, ℕ, drop, slice_get, ◌∙◌, refl, sym, ap, subst}
+use Rattle.std.proofs.lemmas.Option.{slice_get-get_or}
 use Rattle.mq_conn.specs.declared.conn.Tunnel.{Tunnel}
 use Rattle.mq_front.specs.Fronts.{IsFront, Frames}
 use Rattle.mq_machine.specs.State as machine
@@ -18,8 +18,6 @@ returns c =
     let at : slice_get old.tunnels.items c.args.place ≡ Some u =
     ap (λ (ts : List Tunnel). slice_get ts c.args.place) (sym c.deref.ensures.value) ∙ slice_get-get_or c.deref.result.now c.args.place u c.in-Some.ensures.lookup.3.0 ∙ ap (λ (v : Tunnel). Some v) (sym c.in-Some.ensures.lookup.1) in
     let whole : c.behind.result.0.now ++ c.behind.result.1.now ≡ drop w.framed w.capsule =
-    c.behind.ensures ∙ ap (λ (n : ℕ). drop n (c.as_slice.result.now ++ c.as_slice-packet.result.now)) (c.framed.ensures w e.1 e.2)
-    ∙ ap (λ (xs : List ℕ). drop e.0 (xs ++ c.as_slice-packet.result.now)) c.as_slice.ensures ∙ ap (λ (xs : List ℕ). drop e.0 (c.header_of-header.result ++ xs)) c.as_slice-packet.ensures
-    ∙ ap (λ (xs : List ℕ). drop e.0 xs) (sym (c.header_of-header.ensures.is p.packet (ap (λ (xs : List ℕ). length xs) c.as_slice-packet.ensures))) in
+    c.behind.ensures ∙ ap (λ (n : ℕ). drop n (c.parts.result.0.now ++ c.parts.result.1.now)) (c.framed.ensures w e.1 e.2) ∙ ap (λ (xs : List ℕ). drop e.0 xs) c.parts.ensures in
     let P : List ℕ → Type 0 = λ bytes. (f : machine.Front) (streams : List Stream) (owed : List ℕ) → IsFront c.in-Some-front.front f streams owed → Frames c.frame.new.self c.frame.result f u.stream bytes streams owed in
     puts_first old _ c.args.place c.frame.result u w e.1 c.in-Some-front.front c.frame.new.self at e.2 c.in-Some-front.is refl (subst P whole c.frame.ensures)
