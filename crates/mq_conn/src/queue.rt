@@ -15,8 +15,8 @@ use std::marker::Model;
 /// The most packets that wait in a tunnel.
 pub const MOST_PACKETS: usize = 64;
 
-/// What waits, as its capsule: of a packet, number `n` of its origin, the bytes before it and the packet; of a control value
-/// all bytes in one.
+/// What waits, as its capsule: of a packet, number `n` of its origin, the bytes before it and the packet; of a control
+/// value all bytes in one.
 #[derive(Drop)]
 pub enum Queued {
     Packet {
@@ -60,8 +60,8 @@ impl Queued {
     }
 }
 
-/// What waits, oldest first, with room for 64 packets at any time, so that a packet takes no memory. `size` counts the bytes of
-/// the capsules, `framed` those of the first that were framed, and `packets` the packets.
+/// What waits, oldest first, with room for 64 packets at any time, so that a packet takes no memory. `size` counts the
+/// bytes of the capsules, `framed` those of the first that were framed, and `packets` the packets.
 #[derive(Drop)]
 pub struct Queue {
     items: VecDeque<Queued>,
@@ -176,8 +176,8 @@ impl Queue {
         self.items.push_back_reserved(last);
     }
 
-    /// A control value waits last, whose whole capsule this is. It may be refused memory. All capsules are kept below 2^32 bytes,
-    /// so that a note can count those of each.
+    /// A control value waits last, whose whole capsule this is. It may be refused memory. All capsules are kept below
+    /// 2^32 bytes, so that a note can count the bytes of a part.
     pub fn push_value(&mut self, capsule: Bytes) -> Result<(), NoMemory>
         ensures ok { OnOk result (self.new ≡ self.old ++ a_value capsule ∷ []) }
         ensures err { OnErr result (self.new ≡ self.old) }

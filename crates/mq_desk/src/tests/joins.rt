@@ -1,4 +1,4 @@
-//! Three keys are joined in each order. Whichever is left closes the desk, and the book has what all three asked.
+//! Three keys are joined in six ways. Whichever is left closes the desk, and the book has what all three asked.
 ghost use Rattle.std.specs.Prelude.{◌≡◌, [], IfOk};
 ghost use Rattle.mq_turn.specs.Passes.{IsOf, first_pass, took_in};
 
