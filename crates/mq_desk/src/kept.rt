@@ -1,5 +1,5 @@
 //! The book, as a value that keeps its history.
-ghost use Rattle.std.specs.Prelude.{◌≡◌, ℕ, IfOk, OnErr, IsOk};
+ghost use Rattle.std.specs.Prelude.{◌≡◌, ℕ, length, IfOk, OnErr, IsOk};
 ghost use Rattle.mq_talk.specs.declared.book.Call.TheVariants.{Close};
 ghost use Rattle.mq_talk.specs.Answers.{IsAnswer, IsLegal, MayCall, recorded};
 ghost use Rattle.mq_talk.specs.Judging.{IsJudged};
@@ -36,6 +36,17 @@ impl KeptBook {
             other => self.book.call(self.alloc, actor, other),
         }
     }
+
+    /// What becomes of a packet, by the whole history.
+    fn judge(&self, origin: Origin, flow: &Flow) -> Judged
+        ensures verdict { IsJudged self.now.book.config self.now.book.history origin flow.now result.verdict }
+        ensures at { result.at ≡ length self.now.book.history }
+    {
+        Judged {
+            verdict: self.book.judge(origin, flow),
+            at: self.book.count(),
+        }
+    }
 }
 
 impl Kept for KeptBook {
@@ -68,10 +79,7 @@ impl Kept for KeptBook {
     fn serve(&mut self, ask: Ask) -> Answer {
         match ask {
             Ask::Call { actor, call } => Answer::Called(self.call(actor, call)),
-            Ask::Judge { origin, flow, .. } => Answer::Judged(Judged {
-                verdict: self.book.judge(origin, &flow),
-                at: self.book.count(),
-            }),
+            Ask::Judge { origin, flow, .. } => Answer::Judged(self.judge(origin, &flow)),
         }
     }
 

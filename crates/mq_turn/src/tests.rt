@@ -6,22 +6,34 @@ use mq_wire::NoMemory;
 use std::alloc::Global;
 use std::test::*;
 
-/// Who added, one after another, up to a count.
+/// Who added, one after another. One ask is refused, as for want of memory.
 #[derive(Drop)]
 pub struct Names {
     names: Vec<u32>,
-    most: usize,
+    /// How many asks go before the one that is refused, while it comes.
+    before: Option<usize>,
     ghost few: { length names.items ≤ 1000 },
 }
 
 impl Names {
-    fn new(alloc: Global, most: usize) -> Names
+    fn new(alloc: Global, before: Option<usize>) -> Names
         ensures { result.names.items ≡ [] }
     {
         Names {
             names: Vec::new(alloc),
-            most,
+            before,
         }
+    }
+
+    /// Whether this ask is the one that is refused.
+    fn refuses(&mut self) -> bool
+        ensures { self.new.names ≡ self.old.names }
+    {
+        let Some(before) = self.before else {
+            return false;
+        };
+        self.before = before.checked_sub(1);
+        before == 0
     }
 }
 
@@ -52,7 +64,7 @@ impl Kept for Names {
 
     fn serve(&mut self, ask: u32) -> Result<u32, NoMemory> {
         let at = self.names.len();
-        if at >= self.most || at >= 1000 {
+        if self.refuses() || at >= 1000 {
             return Err(NoMemory);
         }
         self.names.push(ask)?;
@@ -70,7 +82,7 @@ impl Kept for Names {
 
 #[test]
 fn two_passes_add_one_each(rt: HostRuntime) -> Result<(), Fail> {
-    let (turn, mut first) = Turn::new(rt.alloc(), Names::new(rt.alloc(), 1000))?;
+    let (turn, mut first) = Turn::new(rt.alloc(), Names::new(rt.alloc(), None))?;
     let mut second = first.split(&turn)?;
     assert_eq!(rt; first.with_turn(&rt, &turn, 0), Ok(0));
     assert_eq!(rt; second.with_turn(&rt, &turn, 1), Ok(1));
@@ -82,17 +94,21 @@ fn two_passes_add_one_each(rt: HostRuntime) -> Result<(), Fail> {
 
 #[test]
 fn one_that_is_refused_adds_nothing(rt: HostRuntime) -> Result<(), Fail> {
-    let (turn, mut pass) = Turn::new(rt.alloc(), Names::new(rt.alloc(), 1))?;
-    assert_eq!(rt; pass.with_turn(&rt, &turn, 0), Ok(0));
-    assert_eq!(rt; pass.with_turn(&rt, &turn, 0), Err(NoMemory));
-    let names = turn.close(pass);
-    assert_eq!(rt; names.names.as_slice(), [0].as_slice());
+    let (turn, mut first) = Turn::new(rt.alloc(), Names::new(rt.alloc(), Some(1)))?;
+    let mut second = first.split(&turn)?;
+    assert_eq!(rt; first.with_turn(&rt, &turn, 0), Ok(0));
+    assert_eq!(rt; second.with_turn(&rt, &turn, 1), Err(NoMemory));
+    assert_eq!(rt; first.with_turn(&rt, &turn, 0), Ok(1));
+    assert_eq!(rt; second.with_turn(&rt, &turn, 1), Ok(2));
+    first.join(&turn, second);
+    let names = turn.close(first);
+    assert_eq!(rt; names.names.as_slice(), [0, 0, 1].as_slice());
     Ok(())
 }
 
 #[test]
 fn joined_the_other_way_round(rt: HostRuntime) -> Result<(), Fail> {
-    let (turn, mut first) = Turn::new(rt.alloc(), Names::new(rt.alloc(), 1000))?;
+    let (turn, mut first) = Turn::new(rt.alloc(), Names::new(rt.alloc(), None))?;
     let mut second = first.split(&turn)?;
     let mut third = first.split(&turn)?;
     assert_eq!(rt; third.with_turn(&rt, &turn, 2), Ok(0));

@@ -1,6 +1,6 @@
-//! Three keys are joined in six ways. Whichever is left closes the desk, and the book has what all three asked.
+//! Three keys are joined in every order. Whichever is left closes the desk, and the book has what all three asked.
 ghost use Rattle.std.specs.Prelude.{◌≡◌, [], IfOk};
-ghost use Rattle.mq_turn.specs.Passes.{IsOf, first_pass, took_in};
+ghost use Rattle.mq_turn.specs.Passes.{IsOf, IsOnly, first_pass, took_in};
 
 use super::opens;
 use super::tunnels::desk_of;
@@ -57,62 +57,73 @@ fn has_all(book: &Book) -> bool {
         && book.live(2)
 }
 
+/// A key takes in one, and then the other.
+fn one_after_other<R: Wait>(rt: &R, desk: Desk, key: DeskKey, one: DeskKey, other: DeskKey) -> bool
+    requires desk { IsOf desk key × IsOf desk one × IsOf desk other }
+    requires only { IsOnly (took_in (took_in key one) other) }
+{
+    let key = joined(rt, &desk, key, one);
+    let key = joined(rt, &desk, key, other);
+    has_all(&desk.close(key))
+}
+
+/// A key takes in one that took in the other.
+fn one_with_other<R: Wait>(rt: &R, desk: Desk, key: DeskKey, one: DeskKey, other: DeskKey) -> bool
+    requires desk { IsOf desk key × IsOf desk one × IsOf desk other }
+    requires only { IsOnly (took_in key (took_in one other)) }
+{
+    let one = joined(rt, &desk, one, other);
+    let key = joined(rt, &desk, key, one);
+    has_all(&desk.close(key))
+}
+
 #[test]
-fn the_first_takes_the_second_and_then_the_third(rt: HostRuntime) -> Result<(), Fail> {
+fn the_first_is_left(rt: HostRuntime) -> Result<(), Fail> {
     let (desk, key) = desk_of(rt.alloc(), 3)?;
     let (first, second, third) = three_open(&rt, &desk, key)?;
-    let first = joined(&rt, &desk, first, second);
-    let first = joined(&rt, &desk, first, third);
-    assert!(rt; has_all(&desk.close(first)));
+    assert!(rt; one_after_other(&rt, desk, first, second, third));
+    let (desk, key) = desk_of(rt.alloc(), 3)?;
+    let (first, second, third) = three_open(&rt, &desk, key)?;
+    assert!(rt; one_after_other(&rt, desk, first, third, second));
+    let (desk, key) = desk_of(rt.alloc(), 3)?;
+    let (first, second, third) = three_open(&rt, &desk, key)?;
+    assert!(rt; one_with_other(&rt, desk, first, second, third));
+    let (desk, key) = desk_of(rt.alloc(), 3)?;
+    let (first, second, third) = three_open(&rt, &desk, key)?;
+    assert!(rt; one_with_other(&rt, desk, first, third, second));
     Ok(())
 }
 
 #[test]
-fn the_first_takes_the_third_and_then_the_second(rt: HostRuntime) -> Result<(), Fail> {
+fn the_second_is_left(rt: HostRuntime) -> Result<(), Fail> {
     let (desk, key) = desk_of(rt.alloc(), 3)?;
     let (first, second, third) = three_open(&rt, &desk, key)?;
-    let first = joined(&rt, &desk, first, third);
-    let first = joined(&rt, &desk, first, second);
-    assert!(rt; has_all(&desk.close(first)));
+    assert!(rt; one_after_other(&rt, desk, second, first, third));
+    let (desk, key) = desk_of(rt.alloc(), 3)?;
+    let (first, second, third) = three_open(&rt, &desk, key)?;
+    assert!(rt; one_after_other(&rt, desk, second, third, first));
+    let (desk, key) = desk_of(rt.alloc(), 3)?;
+    let (first, second, third) = three_open(&rt, &desk, key)?;
+    assert!(rt; one_with_other(&rt, desk, second, first, third));
+    let (desk, key) = desk_of(rt.alloc(), 3)?;
+    let (first, second, third) = three_open(&rt, &desk, key)?;
+    assert!(rt; one_with_other(&rt, desk, second, third, first));
     Ok(())
 }
 
 #[test]
-fn the_first_takes_the_second_that_took_the_third(rt: HostRuntime) -> Result<(), Fail> {
+fn the_third_is_left(rt: HostRuntime) -> Result<(), Fail> {
     let (desk, key) = desk_of(rt.alloc(), 3)?;
     let (first, second, third) = three_open(&rt, &desk, key)?;
-    let second = joined(&rt, &desk, second, third);
-    let first = joined(&rt, &desk, first, second);
-    assert!(rt; has_all(&desk.close(first)));
-    Ok(())
-}
-
-#[test]
-fn the_first_takes_the_third_that_took_the_second(rt: HostRuntime) -> Result<(), Fail> {
+    assert!(rt; one_after_other(&rt, desk, third, first, second));
     let (desk, key) = desk_of(rt.alloc(), 3)?;
     let (first, second, third) = three_open(&rt, &desk, key)?;
-    let third = joined(&rt, &desk, third, second);
-    let first = joined(&rt, &desk, first, third);
-    assert!(rt; has_all(&desk.close(first)));
-    Ok(())
-}
-
-#[test]
-fn the_second_takes_the_first_and_then_the_third(rt: HostRuntime) -> Result<(), Fail> {
+    assert!(rt; one_after_other(&rt, desk, third, second, first));
     let (desk, key) = desk_of(rt.alloc(), 3)?;
     let (first, second, third) = three_open(&rt, &desk, key)?;
-    let second = joined(&rt, &desk, second, first);
-    let second = joined(&rt, &desk, second, third);
-    assert!(rt; has_all(&desk.close(second)));
-    Ok(())
-}
-
-#[test]
-fn the_third_takes_the_second_that_took_the_first(rt: HostRuntime) -> Result<(), Fail> {
+    assert!(rt; one_with_other(&rt, desk, third, first, second));
     let (desk, key) = desk_of(rt.alloc(), 3)?;
     let (first, second, third) = three_open(&rt, &desk, key)?;
-    let second = joined(&rt, &desk, second, first);
-    let third = joined(&rt, &desk, third, second);
-    assert!(rt; has_all(&desk.close(third)));
+    assert!(rt; one_with_other(&rt, desk, third, second, first));
     Ok(())
 }
