@@ -70,7 +70,7 @@ abbrev pub Puts : Front → Result (Unit {0}) NoMemory → machine.Front → Put
 Puts new (Ok done) old put streams owed = HasPut new put streams owed
 Puts new (Err refused) old put streams owed = IsFront new old streams owed
 
--- A read: what it brings and asks for, of which the book takes what it is asked, and how far the bytes were read then.
+-- A read: what it brings and asks for, within the limits of the book, and how far the bytes were read then.
 pub record ReadsTo (setup : Setup) (ts : List Tunnel) (f : machine.Front) (streams : List Stream) (owed piece : List ℕ) (before after : List Due) (new : Front) : Type 0 where
   pub events : List StreamEvent
   pub text : List ℕ

@@ -1,4 +1,5 @@
--- What is due keeps to the limits of the book: of what a data stream asks it for, it takes each.
+-- What is due keeps to the limits that a call of the book has by itself: how many entries, their order, and their Request IDs.
+-- Whether the tunnel is live is said elsewhere.
 use Rattle.std.specs.Prelude.{List}
 use Rattle.std.specs.List.{AllByRecursion}
 use Rattle.mq_iptun.specs.Acts.{MayAct}
@@ -7,7 +8,7 @@ use Rattle.mq_machine.specs.declared.act.Due.{Due}
 use Rattle.mq_machine.specs.declared.act.Due.TheVariants as due
 use Rattle.mq_machine.specs.declared.act.StreamAct.{StreamAct}
 
--- where it asks the book for addresses or ways, the book takes them
+-- where it asks the book for addresses or ways, these keep to the limits
 abbrev pub MayBeDue : Due → Type 0
 MayBeDue (due.Do (act.Bind id goal)) = Unit {0}
 MayBeDue (due.Do (act.Open id goal)) = Unit {0}

@@ -20,7 +20,7 @@ pub record AreTold (list : List Given) : Type 0 where
   pub few : IsAssignment list
   pub ids : All (λ entry. entry.id < 2 ^ 62) list
 
--- a reply whose lists have a capsule
+-- a reply whose lists are within what a control capsule may hold, where it has any
 abbrev pub CanTell : Reply → Type 0
 CanTell (Opened tunnel routes) = AreRoutes routes
 CanTell (HistoryFull entries live) = Unit {0}

@@ -56,7 +56,7 @@ kind_on ts id = option_map (λ (t : Tunnel). kind_of t.goal) (find (λ (t : Tunn
 abbrev pub with_one : ℕ → Kind → (ℕ → Option Kind) → ℕ → Option Kind
 with_one id kind live other = if id == other then Some kind else live other
 
--- what the data stream of a tunnel of this kind may ask for
+-- what the data stream of a tunnel of this kind may ask for, or its packet's verdict: a push comes of that alone
 abbrev pub IsAsked : Kind → StreamAct → Type 0
 IsAsked kind (stream.Payload n payload) = IsOfUdp kind
 IsAsked kind (stream.Packet n packet flow) = IsOfIp kind
