@@ -1,6 +1,8 @@
 //! What is due, in order.
 ghost use Rattle.std.specs.Prelude.{◌≡◌, List, [], ◌∷◌, ◌++◌, ◌==◌, not, filter, length, MatchOption, OnOk};
+ghost use Rattle.std.specs.List.{list_any};
 ghost use Rattle.mq_machine.specs.Done.{is_on};
+ghost use Rattle.mq_machine.specs.Lawful.{is_opening};
 ghost use Rattle.mq_machine.specs.declared.act.Due.{Due};
 ghost use Rattle.mq_machine.specs.declared.act.Due.TheVariants.{Do};
 
@@ -25,6 +27,22 @@ fn is_on(due: &Due, stream: u32) -> bool
 {
     match due {
         Due::Do(act) => is_act_on(act, stream),
+        _ => false,
+    }
+}
+
+fn is_open(act: &Act) -> bool
+    ensures { result ≡ is_opening (Do act.now) }
+{
+    matches!(act, Act::Open { .. })
+}
+
+/// Whether a tunnel is to open by this.
+fn is_opening(due: &Due) -> bool
+    ensures { result ≡ is_opening due.now }
+{
+    match due {
+        Due::Do(act) => is_open(act),
         _ => false,
     }
 }
@@ -66,6 +84,13 @@ impl Dues {
         ensures { MatchOption result (self.now ≡ []) (λ d. (rest : List Due) × (self.now ≡ d.now ∷ rest)) }
     {
         self.items.front()
+    }
+
+    /// Whether a tunnel is to open.
+    pub fn opens(&self) -> bool
+        ensures { result ≡ list_any is_opening self.now }
+    {
+        self.items.iter().any(is_opening)
     }
 
     /// Takes what is due first.

@@ -94,7 +94,17 @@ is_open (due.Do (act.OfStream id a)) = false
 is_open (due.Spend id size) = false
 is_open (due.Fault code) = false
 
--- none of these is one
+-- the opening of any tunnel
+abbrev pub is_opening : Due → Bool
+is_opening (due.Do (act.Bind id goal)) = false
+is_opening (due.Do (act.Open id goal)) = true
+is_opening (due.Do (act.Refuse id status rule)) = false
+is_opening (due.Do (act.Reset id code)) = false
+is_opening (due.Do (act.OfStream id a)) = false
+is_opening (due.Spend id size) = false
+is_opening (due.Fault code) = false
+
+-- none of these is one of a tunnel for UDP
 abbrev pub NoOpens : List Due → Type 0
 NoOpens dues = list_any is_open dues ≡ false
 

@@ -26,22 +26,13 @@ use Rattle.mq_machine.specs.declared.act.Due.TheVariants as due
 use Rattle.mq_machine.specs.Putting.{Putting, first_of, putting}
 use Rattle.mq_machine.specs.Settle.{settle, settled, passing, spending, gives_up}
 use Rattle.mq_machine.specs.State.{Conn, Tunnel, Waiting, Packet, Front, Head, OverHttp1, OverHttp2, owed, values, kind_of, tunnel_on}
+use Rattle.mq_machine.specs.Lawful.{is_opening}
 use Rattle.mq_machine.specs.Want.{Nothing, Bind, Ask, Over, Answer, Said, Bound, Replied, Put, want_of, want_by, ending_want, over_want, due_want, act_want, tunnel_want, most_values}
 use Rattle.mq_machine.specs.Done.{Done, closing, done, done_by, due_done, act_done, tunnel_done, ending_done, first_waiting, is_on, waits, with_waiting, closed, dropped, sent}
 use Rattle.mq_machine.specs.Steps.{settled_note, is_nothing, is_ending, can_go_on, most_owed, can_frame, tunnels_from, framed, framed_front, framed_by, framing, frame_size, whole_note, next_framed, set_waiting, wrote, finished, finish_by, queued, port_failed}
 use Rattle.mq_machine.proofs.Settling.{settled_rests}
 
 -- ---- openings that are due
-
--- a tunnel is to open in the book
-abbrev pub is_opening : Due → Bool
-is_opening (due.Do (act.Bind id goal)) = false
-is_opening (due.Do (act.Open id goal)) = true
-is_opening (due.Do (act.Refuse id status rule)) = false
-is_opening (due.Do (act.Reset id code)) = false
-is_opening (due.Do (act.OfStream id a)) = false
-is_opening (due.Spend id size) = false
-is_opening (due.Fault code) = false
 
 abbrev pub IsNoOpen : Due → Type 0
 IsNoOpen d = is_opening d ≡ false
