@@ -11,9 +11,9 @@ use mq_talk::Reply;
 use mq_wire::{Bytes, NoMemory, WireFault};
 use std::alloc::Global;
 
-/// The ROUTE_ADVERTISEMENT of these ranges (section 4.7.3).
+/// The whole ROUTE_ADVERTISEMENT of these ranges (section 4.7.3). `Err` is want of memory.
 #[tactic(auto, unfolding(mq_ipcaps::specs::Writing::capsule_text))]
-fn routes_capsule(alloc: Global, ranges: &[Range]) -> Result<Bytes, NoMemory>
+pub fn routes_capsule(alloc: Global, ranges: &[Range]) -> Result<Bytes, NoMemory>
     requires { AreRoutes ranges.now }
     ensures { IfOk result (λ capsule. capsule ≡ capsule_text (record { kind = 3; value = routes_value ranges.now })) }
 {
@@ -22,9 +22,9 @@ fn routes_capsule(alloc: Global, ranges: &[Range]) -> Result<Bytes, NoMemory>
     Ok(Bytes::from_vec(capsule))
 }
 
-/// The ADDRESS_ASSIGN of these entries (section 4.7.1).
+/// The whole ADDRESS_ASSIGN of these entries (section 4.7.1). `Err` is want of memory.
 #[tactic(auto, unfolding(mq_ipcaps::specs::Writing::capsule_text))]
-fn assign_capsule(alloc: Global, list: &[Given]) -> Result<Bytes, NoMemory>
+pub fn assign_capsule(alloc: Global, list: &[Given]) -> Result<Bytes, NoMemory>
     requires { AreTold list.now }
     ensures { IfOk result (λ capsule. capsule ≡ capsule_text (record { kind = 1; value = assign_value list.now })) }
 {

@@ -13,7 +13,7 @@ mod tunnel;
 mod value;
 
 pub use act::IpAct;
-pub use answer::control_capsule;
+pub use answer::{assign_capsule, control_capsule, routes_capsule};
 pub use item::item_act;
 pub use laws::answers_can_be_told;
 pub use number::next_number;
