@@ -1,11 +1,12 @@
 #!/usr/bin/env python3
-"""Writes the examples hundred_tunnels, one_byte_windows and counted_steps, with what COMMAND prints for them beside.
+"""Writes the examples hundred_tunnels, one_byte_windows, counted_steps and queue_full, with what COMMAND prints for them beside.
 
 Usage, at the top of the repository:  tools/tunnel_examples.py COMMAND..
 
 COMMAND plays a script from its standard input, as `crates/masque/out/masque replay` does. The frames are spelled here, by RFC
 9113, sections 4 and 6, and what has to be printed and written is worked out here too: each payload in its own tunnel, both ways,
-eight frames of one byte for one capsule, and the number of steps of each line. It isn't part of the gate.
+eight frames of one byte for one capsule, the number of steps of each line, and which of 66 datagrams find a place. It isn't part
+of the gate.
 """
 import subprocess
 import sys
@@ -21,6 +22,9 @@ ONE_BYTE = """# A client of HTTP/2 that grants its stream one byte at a time: a 
 """
 COUNTED = """# Two tunnels on one connection of HTTP/2: a payload of each goes to its port, a datagram of each port comes back, and the client
 # ends the stream of the first. Each line of steps has as many as there are to do, and the last has one more, at which nothing is.
+"""
+FULL = """# A client of HTTP/2 that grants its stream nothing, and 66 datagrams from the target: 64 wait in the tunnel, and the last two are
+# dropped. When the client grants 1,000 bytes those that wait go to it in order, and one more datagram finds a place.
 """
 
 
@@ -64,6 +68,11 @@ def counted():
     return "".join(lines + [piece(frame(0, 1, 1, b"")), "step 0 4\n"])
 
 
+def full():
+    lines = [FULL, "conn 0\n", piece(opening(0) + request(1)), "run 99\n"] + ["dgram 0 %02x\n" % n for n in range(66)] + ["run 999\n"]
+    return "".join(lines + [piece(frame(8, 0, 1, (1000).to_bytes(4, "big"))), "dgram 0 %02x\n" % 66, "run 999\n"])
+
+
 def frames(printed):
     """The type, stream and contents of each frame that was written."""
     left = b"".join(bytes.fromhex(line.split()[2]) for line in printed if line.startswith("wrote 0 "))
@@ -94,11 +103,21 @@ def check_counted(printed):
     assert "closed 0 End left 0" in printed and len(printed) == 20 and printed[-1] == "idle 0"
 
 
+def check_full(printed):
+    queued = [line for line in printed if line.startswith(("queued ", "dropped "))]
+    wanted = ["queued port0 %d to 0" % n for n in range(64)] + ["dropped port0 %d QueueFull" % n for n in (64, 65)]
+    assert queued == wanted + ["queued port0 66 to 0"]
+    went = [*range(64), 66]
+    assert [line for line in printed if line.startswith("delivered ")] == ["delivered port0 %d to 0 %02x" % (n, n) for n in went]
+    assert [f for f in frames(printed) if f[0] == 0] == [(0, 1, bytes((0, 2, 0, n))) for n in went]
+
+
 def main():
     if len(sys.argv) < 2:
         sys.exit(__doc__)
     examples = [("hundred_tunnels", hundred(), check_hundred), ("one_byte_windows", one_byte(), check_one_byte)]
-    for name, script, check in examples + [("counted_steps", counted(), check_counted)]:
+    examples += [("counted_steps", counted(), check_counted), ("queue_full", full(), check_full)]
+    for name, script, check in examples:
         printed = subprocess.run(sys.argv[1:], input=script, capture_output=True, text=True, check=False).stdout
         check(printed.splitlines())
         for path, text in (f"examples/{name}.script", script), (f"examples/{name}.script.stdout", printed):
