@@ -1,5 +1,5 @@
 -- States whose connections ask for UDP alone, by setups whose templates texts tell: steps and events lead to such states.
-use Rattle.std.proofs.Common.{◌≡◌, ◌⊎◌, ℕ, zero, suc, ◌+◌, Bool, true, false, List, [], ◌∷◌, length, take, Option, Some, None, slice_set, subst, sym, ap, refl, inl, inr}
+use Rattle.std.proofs.Common.{◌≡◌, ◌⊎◌, ℕ, zero, suc, Bool, true, false, List, [], ◌∷◌, length, take, Option, Some, None, slice_set, subst, sym, ap, refl, inl, inr}
 use Rattle.std.specs.Prelude.{option_map, find, ◌==◌, nat_lt}
 use Rattle.std.specs.Bool.{MatchBool}
 use Rattle.std.specs.List.{AllByRecursion}

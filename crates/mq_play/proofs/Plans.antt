@@ -71,13 +71,14 @@ said_behind first.Text text said x = subst SaidLine (sym x.behind.said_is) tt
 said_behind first.Fill text said x = subst SaidLine (sym x.behind.said_is) tt
 said_behind first.Room text said x = subst SaidLine (sym x.behind.said_is) tt
 said_behind first.Dgram text said x = subst SaidLine (sym x.behind.said_is) tt
+said_behind first.Packet text said x = subst SaidLine (sym x.behind.said_is) tt
 said_behind first.Step text said (inl x) = subst SaidLine (sym x.said_is) tt
 said_behind first.Step text said (inr x) = subst SaidLine (sym x.behind.said_is) tt
 said_behind w text said x = subst SaidLine (sym x.said_is) tt
 
 said_line : (text : List ℕ) (said : Line) → Says text said → SaidLine said
 said_line text said (inl blank) = subst SaidLine (sym blank.1) tt
-said_line text said (inr (inl alone)) = subst SaidLine (sym alone.1) tt
+said_line text said (inr (inl alone)) = subst SaidLine (sym alone.said_is) tt
 said_line text said (inr (inr words)) = said_behind words.first words.rest said words.behind
 
 -- ---- what plans have of the lines

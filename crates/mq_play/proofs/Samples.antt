@@ -166,7 +166,10 @@ comment : Says (codes "# a client") line.Blank
 comment = inl (refl, refl)
 
 fail_bind : Says (codes "failbind") (line.Happens event.FailBind)
-fail_bind = inr (inl (refl, refl))
+fail_bind = inr (inl (record { value = event.FailBind; says = inl (refl, refl); said_is = refl }))
+
+fail_net : Says (codes "failnet") (line.Happens event.FailNet)
+fail_net = inr (inl (record { value = event.FailNet; says = inr (refl, refl); said_is = refl }))
 
 conn : Says (codes "conn 2") (line.Happens (event.Conn 2))
 conn = inr (inr (record { part = codes "conn"; first = first.Conn; rest = codes "2"; is = refl; says = refl; behind = record { value = 2; says = record { least = omega arith; most = omega arith; is = sym d2 }; said_is = refl } }))

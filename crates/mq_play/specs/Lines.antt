@@ -1,5 +1,6 @@
 -- The lines of a script.
 use Rattle.std.specs.Prelude.{◌≡◌, ℕ, ◌≤◌, ◌⊎◌, List, [], ◌∷◌, ◌++◌, length, codes, replicate}
+use Rattle.mq_machine.specs.declared.event.Event.{Event}
 use Rattle.mq_machine.specs.declared.event.Event.TheVariants as event
 use Rattle.mq_play.specs.declared.line.Line.{Line}
 use Rattle.mq_play.specs.declared.line.Line.TheVariants as line
@@ -12,7 +13,8 @@ use Rattle.mq_play.specs.Settings.{SaysSetting, setting_word}
 abbrev pub net_number : ℕ
 net_number = 4294967295
 
--- the most bytes that come behind the first ones where a piece is filled up, that a link is said to take, and of a payload
+-- the most bytes that come behind the first ones where a piece is filled up, that a link is said to take, of a payload, and of
+-- a packet
 abbrev pub most_filled : ℕ
 most_filled = 99999
 
@@ -22,6 +24,13 @@ most_room = 2147483647
 abbrev pub most_payload : ℕ
 most_payload = 65527
 
+abbrev pub most_packet : ℕ
+most_packet = 65535
+
+-- the most copies of a packet that arrive at once
+abbrev pub most_copies : ℕ
+most_copies = 1024
+
 -- the most steps of a line
 abbrev pub most_steps : ℕ
 most_steps = 1000000
@@ -30,8 +39,15 @@ most_steps = 1000000
 abbrev pub IsFilled : List ℕ → List ℕ → Type 0
 IsFilled = Parted IsHex (λ front. Parted (IsNumber 1 most_filled) (λ count. Means IsByte (λ byte. front ++ replicate count byte)))
 
+-- bytes in hex, so many at most
+abbrev pub IsHexUpTo : ℕ → List ℕ → List ℕ → Type 0
+IsHexUpTo most text bytes = IsHex text bytes × (length bytes ≤ most)
+
 abbrev pub IsPayload : List ℕ → List ℕ → Type 0
-IsPayload text bytes = IsHex text bytes × (length bytes ≤ most_payload)
+IsPayload = IsHexUpTo most_payload
+
+abbrev pub IsPacket : List ℕ → List ℕ → Type 0
+IsPacket = IsHexUpTo most_packet
 
 -- a worker's number as it is written, or `net`
 abbrev pub IsActor : List ℕ → ℕ → Type 0
@@ -59,6 +75,7 @@ word_text word.FailRead = codes "failread"
 word_text word.FailWrite = codes "failwrite"
 word_text word.Dgram = codes "dgram"
 word_text word.FailPort = codes "failport"
+word_text word.Packet = codes "packet"
 word_text word.Step = codes "step"
 word_text word.Run = codes "run"
 
@@ -78,6 +95,7 @@ SaysBehind word.FailRead = Means IsName (λ conn. line.Happens (event.FailRead c
 SaysBehind word.FailWrite = Means IsName (λ conn. line.Happens (event.FailWrite conn))
 SaysBehind word.Dgram = Parted IsName (λ tunnel. Means IsPayload (λ bytes. line.Happens (event.Datagram tunnel bytes)))
 SaysBehind word.FailPort = Means IsName (λ tunnel. line.Happens (event.FailPort tunnel))
+SaysBehind word.Packet = Parted (IsNumber 1 most_copies) (λ count. Means IsPacket (λ bytes. line.Happens (event.Packet count bytes)))
 SaysBehind word.Step = SaysSteps
 SaysBehind word.Run = Means (IsNumber 1 most_steps) line.Run
 
@@ -86,11 +104,15 @@ abbrev pub IsBlank : List ℕ → Type 0
 IsBlank [] = Unit {0}
 IsBlank (b ∷ text) = b ≡ 35
 
--- What a line without its newline says. Lines for the network, `packet` and `failnet`, come with tunnels for IP packets.
+-- a line that is one word
+abbrev pub IsAlone : List ℕ → Event → Type 0
+IsAlone text said = ((text ≡ codes "failbind") × (said ≡ event.FailBind)) ⊎ ((text ≡ codes "failnet") × (said ≡ event.FailNet))
+
+-- what a line without its newline says
 abbrev pub Says : List ℕ → Line → Type 0
 Says text said =
     (IsBlank text × (said ≡ line.Blank))
-    ⊎ (((text ≡ codes "failbind") × (said ≡ line.Happens event.FailBind))
+    ⊎ (Means IsAlone line.Happens text said
     ⊎ Parted IsWord SaysBehind text said)
 
 -- it is outside the grammar

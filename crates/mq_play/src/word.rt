@@ -30,6 +30,7 @@ pub enum Word {
     FailWrite,
     Dgram,
     FailPort,
+    Packet,
     Step,
     Run,
 }

@@ -6,7 +6,7 @@ use Rattle.hex.specs.declared.error.FromHexError.{FromHexError}
 use Rattle.hex.specs.declared.error.FromHexError.TheVariants.{OutOfMemory}
 use Rattle.std.proofs.lemmas.List.Elements.{All-cons, All-nil}
 use Rattle.mq_play.specs.Parts.{IsByte, IsHex, IsSayable, IsText, said_byte}
-use Rattle.mq_play.specs.Lines.{IsPayload}
+use Rattle.mq_play.specs.Lines.{IsHexUpTo}
 use Rattle.mq_play.proofs.reading.Hexes.{IsHexOf, hex_refused, one_hex}
 use Rattle.mq_play.proofs.reading.Texts.{IsTextOf, one_text}
 use Rattle.mq_script.specs.Reading.{IsParsed}
@@ -71,12 +71,12 @@ no_byte text bytes hex none byte b = none byte (one_hex text bytes (byte ∷ [])
 pub byte_fault : (text : List ℕ) (fault : LineFault) → IsParsed {T = List ℕ} (IsHex text) (Err fault) → IsParsed {T = ℕ} (IsByte text) (Err fault)
 byte_fault text fault h = parsed_fault (IsHex text) (IsByte text) fault (λ byte b. (byte ∷ [], byte_hex text byte b)) h
 
-pub payload_fault : (text : List ℕ) (fault : LineFault) → IsParsed {T = List ℕ} (IsHex text) (Err fault) → IsParsed {T = List ℕ} (IsPayload text) (Err fault)
-payload_fault text fault h = parsed_fault (IsHex text) (IsPayload text) fault (λ bytes p. (bytes, p.0)) h
+pub up_to_fault : (most : ℕ) (text : List ℕ) (fault : LineFault) → IsParsed {T = List ℕ} (IsHex text) (Err fault) → IsParsed {T = List ℕ} (IsHexUpTo most text) (Err fault)
+up_to_fault most text fault h = parsed_fault (IsHex text) (IsHexUpTo most text) fault (λ bytes p. (bytes, p.0)) h
 
 -- a longer one
-pub no_payload : (text bytes : List ℕ) → IsHex text bytes → 65527 < length bytes → (value : List ℕ) → IsPayload text value → ⊥
-no_payload text bytes hex long value p =
+pub too_long : (most : ℕ) (text bytes : List ℕ) → IsHex text bytes → most < length bytes → (value : List ℕ) → IsHexUpTo most text value → ⊥
+too_long most text bytes hex long value p =
     let same : bytes ≡ value = one_hex text bytes value (hex.are, hex.is) (p.0.are, p.0.is) in
     let lengths : length bytes ≡ length value = ap length same in
     let short = p.1 in

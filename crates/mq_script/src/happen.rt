@@ -7,7 +7,7 @@ ghost use Rattle.mq_script.specs.Reading.{CutsName, IsParsed};
 
 use crate::fault::LineFault;
 use crate::fill_piece::parse_filled;
-use crate::hex_piece::{parse_hex, parse_payload};
+use crate::hex_piece::{parse_hex, parse_packet, parse_payload};
 use crate::number::{LAST_WORKER, number_in, parse_name, parse_room};
 use crate::text_piece::parse_text;
 use mq_machine::Event;
@@ -15,6 +15,9 @@ use mq_play::Line;
 use mq_text::{cut, cut_once};
 use mq_wire::Bytes;
 use std::alloc::Global;
+
+/// The most copies of a packet that arrive at once.
+const MOST_COPIES: u32 = 1024;
 
 /// The number of a link or a tunnel, and what stands behind it and a space.
 fn cut_name(rest: &[u8]) -> Option<(u32, &[u8])>
@@ -82,6 +85,21 @@ pub fn parse_dgram(alloc: Global, rest: &[u8]) -> Result<Line, LineFault>
     };
     let bytes = parse_payload(alloc, digits)?;
     Ok(Line::Happens(Event::Datagram { tunnel, bytes }))
+}
+
+/// The packets of `packet N HEX`.
+pub fn parse_packets(alloc: Global, rest: &[u8]) -> Result<Line, LineFault>
+    ensures { IsParsed (SaysBehind word.Packet rest.now) result }
+{
+    cut_once();
+    let Some((count, digits)) = cut(b' ', rest) else {
+        return Err(LineFault::Syntax);
+    };
+    let Some(count) = number_in(1, MOST_COPIES, count) else {
+        return Err(LineFault::Syntax);
+    };
+    let bytes = parse_packet(alloc, digits)?;
+    Ok(Line::Happens(Event::Packet { count, bytes }))
 }
 
 /// The room of `room C N` and `room C all`.

@@ -1,6 +1,6 @@
 //! Bytes in lower-case hex.
 ghost use Rattle.std.specs.Prelude.{◌≡◌, ◌∷◌, [], ◌↔◌, ◌<◌, ◌≤◌, ◌⊎◌, IsTrue, All};
-ghost use Rattle.mq_play.specs.Lines.{IsPayload};
+ghost use Rattle.mq_play.specs.Lines.{IsHexUpTo, IsPacket, IsPayload};
 ghost use Rattle.mq_play.specs.Parts.{IsByte, IsHex};
 ghost use Rattle.mq_script.specs.Reading.{IsFound, IsParsed};
 
@@ -10,6 +10,9 @@ use std::alloc::Global;
 
 /// The most bytes of a payload (RFC 9298, section 5).
 const MOST_PAYLOAD: usize = 65_527;
+
+/// The most bytes of a packet.
+const MOST_PACKET: usize = 65_535;
 
 /// Whether a text has no capital hex digit, which `hex::decode` takes.
 fn lacks_capitals(text: &[u8]) -> bool
@@ -32,15 +35,29 @@ pub fn parse_hex(alloc: Global, text: &[u8]) -> Result<Bytes, LineFault>
     Ok(Bytes::from_vec(bytes))
 }
 
+/// The bytes that a text spells in hex, so many at most.
+fn parse_up_to(alloc: Global, most: usize, text: &[u8]) -> Result<Bytes, LineFault>
+    ensures { IsParsed (IsHexUpTo most text.now) result }
+{
+    let bytes = parse_hex(alloc, text)?;
+    if bytes.as_slice().len() > most {
+        return Err(LineFault::Syntax);
+    }
+    Ok(bytes)
+}
+
 /// The payload that a text spells in hex.
 pub fn parse_payload(alloc: Global, text: &[u8]) -> Result<Bytes, LineFault>
     ensures { IsParsed (IsPayload text.now) result }
 {
-    let bytes = parse_hex(alloc, text)?;
-    if bytes.as_slice().len() > MOST_PAYLOAD {
-        return Err(LineFault::Syntax);
-    }
-    Ok(bytes)
+    parse_up_to(alloc, MOST_PAYLOAD, text)
+}
+
+/// The packet that a text spells in hex.
+pub fn parse_packet(alloc: Global, text: &[u8]) -> Result<Bytes, LineFault>
+    ensures { IsParsed (IsPacket text.now) result }
+{
+    parse_up_to(alloc, MOST_PACKET, text)
 }
 
 /// The byte, where there is just one.

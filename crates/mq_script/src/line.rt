@@ -1,14 +1,14 @@
 //! The lines of a script.
-ghost use Rattle.std.specs.Prelude.{◌≡◌, ◌⊎◌, ◌↔◌, IfOk, IsTrue, codes};
+ghost use Rattle.std.specs.Prelude.{◌≡◌, ◌⊎◌, ◌↔◌, IfOk, IsTrue};
 ghost use Rattle.mq_play.specs.declared.line.Line.{Line};
-ghost use Rattle.mq_play.specs.Lines.{IsBlank, IsWord, Says, SaysBehind, SaysNothing};
+ghost use Rattle.mq_play.specs.Lines.{IsAlone, IsBlank, IsWord, Says, SaysBehind, SaysNothing};
 ghost use Rattle.mq_play.specs.Parts.{Parted};
-ghost use Rattle.mq_script.specs.Reading.{IsParsed};
+ghost use Rattle.mq_script.specs.Reading.{IsFound, IsParsed};
 
 use crate::fault::LineFault;
 use crate::happen::{
     parse_bytes, parse_conn, parse_dgram, parse_end, parse_fail_port, parse_fail_read,
-    parse_fail_write, parse_fill, parse_link_room, parse_said,
+    parse_fail_write, parse_fill, parse_link_room, parse_packets, parse_said,
 };
 use crate::setting::parse_setting;
 use crate::steps::{parse_run, parse_step};
@@ -28,11 +28,15 @@ fn is_blank(line: &[u8]) -> bool
     }
 }
 
-/// Whether a line is `failbind`.
-fn is_fail_bind(line: &[u8]) -> bool
-    ensures { IsTrue result ↔ (line.now ≡ codes "failbind") }
+/// What a line orders that is one word.
+fn parse_alone(line: &[u8]) -> Option<Event>
+    ensures { IsFound (IsAlone line.now) result }
 {
-    matches!(line, b"failbind")
+    match line {
+        b"failbind" => Some(Event::FailBind),
+        b"failnet" => Some(Event::FailNet),
+        _ => None,
+    }
 }
 
 /// What stands behind a word and a space.
@@ -51,6 +55,7 @@ fn parse_behind(alloc: Global, word: Word, rest: &[u8]) -> Result<Line, LineFaul
         Word::FailWrite => parse_fail_write(rest),
         Word::Dgram => parse_dgram(alloc, rest),
         Word::FailPort => parse_fail_port(rest),
+        Word::Packet => parse_packets(alloc, rest),
         Word::Step => parse_step(rest),
         Word::Run => parse_run(rest),
     }
@@ -80,8 +85,8 @@ pub fn parse_line(alloc: Global, line: &[u8]) -> Result<Line, LineFault>
     if is_blank(line) {
         return Ok(Line::Blank);
     }
-    if is_fail_bind(line) {
-        return Ok(Line::Happens(Event::FailBind));
+    if let Some(event) = parse_alone(line) {
+        return Ok(Line::Happens(event));
     }
     parse_words(alloc, line)
 }

@@ -42,6 +42,7 @@ fn parse_plain_word(text: &[u8]) -> Option<Word>
         b"failwrite" => Some(Word::FailWrite),
         b"dgram" => Some(Word::Dgram),
         b"failport" => Some(Word::FailPort),
+        b"packet" => Some(Word::Packet),
         b"step" => Some(Word::Step),
         b"run" => Some(Word::Run),
         _ => None,

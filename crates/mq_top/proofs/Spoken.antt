@@ -6,7 +6,7 @@ use Rattle.mq_play.specs.declared.line.Line.{Line}
 use Rattle.mq_play.specs.declared.line.Line.TheVariants as line
 use Rattle.mq_play.specs.declared.word.Word.{Word}
 use Rattle.mq_play.specs.declared.word.Word.TheVariants as word
-use Rattle.mq_play.specs.Lines.{Says, SaysBehind, SaysPiece, SaysSteps, IsFilled}
+use Rattle.mq_play.specs.Lines.{IsAlone, IsFilled, Says, SaysBehind, SaysPiece, SaysSteps}
 use Rattle.mq_play.specs.Parts.{Means, IsHex, IsText}
 use Rattle.mq_top.specs.Telling.{IsSpoken}
 use Rattle.mq_world.specs.Worlds.{IsServed, IsOutside}
@@ -62,12 +62,17 @@ behind_comes word.FailRead text said h = made_comes (λ conn. line.Happens (even
 behind_comes word.FailWrite text said h = made_comes (λ conn. line.Happens (event.FailWrite conn)) text said (λ conn h. (tt, λ other e. cc)) h
 behind_comes word.Dgram text said h = made_comes (λ bytes. line.Happens (event.Datagram h.first bytes)) h.rest said (λ bytes h. (h.1, λ other e. cc)) h.behind
 behind_comes word.FailPort text said h = made_comes (λ tunnel. line.Happens (event.FailPort tunnel)) text said (λ tunnel h. (tt, λ other e. cc)) h
+behind_comes word.Packet text said h = made_comes (λ bytes. line.Happens (event.Packet h.first bytes)) h.rest said (λ bytes h. (h.1, λ other e. cc)) h.behind
 behind_comes word.Step text said h = steps_come text said h
 behind_comes word.Run text said h = made_comes line.Run text said (λ count h. tt) h
 
+alone_comes : (text : List ℕ) (e : Event) → IsAlone text e → MayCome (line.Happens e)
+alone_comes text e (inl h) = subst (λ (e : Event). MayCome (line.Happens e)) (sym h.1) (tt, λ actor same. cc)
+alone_comes text e (inr h) = subst (λ (e : Event). MayCome (line.Happens e)) (sym h.1) (tt, λ actor same. cc)
+
 said_comes : (text : List ℕ) (said : Line) → Says text said → MayCome said
 said_comes text said (inl blank) = subst MayCome (sym blank.1) tt
-said_comes text said (inr (inl fails)) = subst MayCome (sym fails.1) (tt, λ actor e. cc)
+said_comes text said (inr (inl alone)) = made_comes line.Happens text said (λ e h. alone_comes text e h) alone
 said_comes text said (inr (inr parted)) = behind_comes parted.first parted.rest said parted.behind
 
 pub spoken_served : (e : Event) → IsSpoken (line.Happens e) → IsServed e

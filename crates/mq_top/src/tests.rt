@@ -5,6 +5,7 @@ mod generated;
 mod limits;
 mod lines;
 mod many;
+mod network;
 mod requests;
 mod rows;
 

@@ -6,12 +6,11 @@ use Rattle.mq_talk.specs.declared.note.Note.{Note}
 use Rattle.mq_machine.specs.declared.event.Event.{Event}
 use Rattle.mq_machine.specs.declared.event.Event.TheVariants as event
 use Rattle.mq_machine.specs.State.{State}
-use Rattle.mq_machine.specs.Turn.{WorkerOf, ThePump}
+use Rattle.mq_machine.specs.Turn.{Actor, WorkerOf, ThePump}
 use Rattle.mq_play.specs.Events.{happen}
 use Rattle.mq_world.specs.declared.stepped.WorldFault.{WorldFault}
 use Rattle.mq_world.specs.declared.stepped.WorldFault.TheVariants as fault
-use Rattle.mq_world.specs.declared.workers.Workers.{Workers}
-use Rattle.mq_world.specs.Worlds.{IsWorld, IsOutside, StepOf, StepGives, Happens, WorkerGives, stepped_by, done_by}
+use Rattle.mq_world.specs.Worlds.{ActorGives, IsOutside, StepOf, StepGives, Happens, actor_at, stepped_by, done_by}
 
 module _ (stands : State → Type 0) (s : State) where
   pub done_gives : (e : Event) (r : Result ⊤ WorldFault) → IsOutside e → Happens stands s e r → StepGives stands s e (done_by r)
@@ -25,19 +24,20 @@ module _ (stands : State → Type 0) (s : State) where
   done_state e (Err fault.Missing) told = (s, told.1)
   done_state e (Err fault.NoMemory) told = (s, told.1)
 
-  pub worker_gives : (actor : ℕ) (r : Result (Option Note) NoMemory) (t : State) → nat_lt actor (length s.workers) ≡ true → nat_lt (length s.workers) actor ≡ false
-      → WorkerGives s actor r t → stands t → StepGives stands s (event.Step actor) (Ok (stepped_by r))
-  worker_gives actor r t less there gives st = by_result r gives where
-    of : StepOf s (event.Step actor) (WorkerOf actor)
-    of = record { number = actor; is = refl; there = there; named = sym (ap (λ (b : Bool). if b then WorkerOf actor else ThePump) less) }
+  pub actor_gives : (number : ℕ) (actor : Actor) (r : Result (Option Note) NoMemory) (t : State) → actor ≡ actor_at s number → nat_lt (length s.workers) number ≡ false
+      → ActorGives s actor r t → stands t → StepGives stands s (event.Step number) (Ok (stepped_by r))
+  actor_gives number actor r t named there gives st = by_result r gives where
+    of : StepOf s (event.Step number) actor
+    of = record { number = number; is = refl; there = there; named = named }
 
-    by_result : (r : Result (Option Note) NoMemory) → WorkerGives s actor r t → StepGives stands s (event.Step actor) (Ok (stepped_by r))
-    by_result (Ok (Some note)) gives = (WorkerOf actor, t, of, gives, st)
-    by_result (Ok None) gives = (WorkerOf actor, of, gives.0, subst stands gives.1 st)
-    by_result (Err refused) gives = (WorkerOf actor, gives.0, t, of, gives.1, st)
+    by_result : (r : Result (Option Note) NoMemory) → ActorGives s actor r t → StepGives stands s (event.Step number) (Ok (stepped_by r))
+    by_result (Ok (Some note)) gives = (actor, t, of, gives, st)
+    by_result (Ok None) gives = (actor, of, gives.0, subst stands gives.1 st)
+    by_result (Err refused) gives = (actor, gives.0, t, of, gives.1, st)
 
--- the pump has none
-pub pump_gives : (old : Workers) (s : State) → IsWorld old s → (actor : ℕ) → nat_lt actor (length s.workers) ≡ false → nat_lt (length s.workers) actor ≡ false
-    → StepOf s (event.Step actor) ThePump
-pump_gives old s is actor none there =
-    record { number = actor; is = refl; there = there; named = sym (ap (λ (b : Bool). if b then WorkerOf actor else ThePump) none) }
+-- whose number it is
+pub worker_at : (s : State) (number : ℕ) → nat_lt number (length s.workers) ≡ true → WorkerOf number ≡ actor_at s number
+worker_at s number less = sym (ap (λ (b : Bool). if b then WorkerOf number else ThePump) less)
+
+pub pump_at : (s : State) (number : ℕ) → nat_lt number (length s.workers) ≡ false → ThePump ≡ actor_at s number
+pump_at s number none = sym (ap (λ (b : Bool). if b then WorkerOf number else ThePump) none)

@@ -1,17 +1,19 @@
 -- A world before anything happened stands for the first state of its plan.
-use Rattle.std.proofs.Common.{◌≡◌, ℕ, zero, suc, ◌+◌, ◌<◌, Bool, false, List, [], ◌∷◌, ◌++◌, length, map, refl, sym, ap, subst, ◌∙◌, arith}
+use Rattle.std.proofs.Common.{◌≡◌, ℕ, zero, suc, ◌+◌, ◌<◌, Bool, false, List, [], ◌∷◌, ◌++◌, length, map, None, refl, sym, ap, subst, ◌∙◌, arith}
 use Rattle.std.specs.Prelude.{replicate}
 use Rattle.std.proofs.lemmas.List.{length-append}
 use Rattle.std.proofs.lemmas.List.Elements.{All-nil}
 use Rattle.mq_talk.specs.declared.book.Config.{Config}
-use Rattle.mq_talk.specs.Mails.{Boxes, box_at}
+use Rattle.mq_talk.specs.Config.{IsConfig}
+use Rattle.mq_talk.specs.Mails.{Boxes}
 use Rattle.mq_talk.specs.Offices.{Seen}
 use Rattle.mq_machine.specs.declared.setup.Setup.{Setup}
-use Rattle.mq_machine.specs.State.{Told, Worker, new_worker, Shared}
-use Rattle.mq_machine.specs.Turn.{last_of}
+use Rattle.mq_machine.specs.State.{Told, Worker, new_worker, new_net, Shared}
 use Rattle.mq_mem.specs.Mails.{Mail as MailOf, empty_boxes}
 use Rattle.mq_mem.specs.Offices.{Office as OfficeOf, seen_of}
 use Rattle.mq_mem.proofs.Boxes.{length_empty}
+use Rattle.mq_net.specs.Sims.{Sim, holds_of, new_sim}
+use Rattle.mq_pump.specs.Holds.{IsPump}
 use Rattle.mq_play.specs.declared.plan.Plan.{Plan}
 use Rattle.mq_play.specs.Events.{new_workers, state_of}
 use Rattle.mq_play.specs.Settings.{IsPlan}
@@ -56,12 +58,6 @@ one_more seen boxes setup actors after count a are x is =
 
 -- ---- all of them
 
--- every inbox is empty
-empty_at : (count i : ℕ) → box_at (replicate count []) i ≡ []
-empty_at zero i = refl
-empty_at (suc count) zero = refl
-empty_at (suc count) (suc i) = empty_at count i
-
 -- the book of a plan, in which nothing is written
 abbrev pub unwritten : Config → OfficeOf
 unwritten config = record { book = record { config = config; history = [] }; actor = 0 }
@@ -73,11 +69,14 @@ abbrev sharing : OfficeOf → MailOf → Bool → Shared
 sharing office mail fails = shared_of (record { office = office; mail = mail; bind_fails = fails })
 
 pub stands_new : (plan : Plan) (world : Workers) (count : ℕ) → IsPlan plan → world.links.items ≡ [] → world.office ≡ unwritten plan.book → world.mail ≡ unsent plan.workers → world.bind_fails ≡ false → count ≡ plan.workers
+    → world.pump.net ≡ new_sim plan.hosts → world.pump.workers ≡ plan.workers → IsPump world.pump (record { mtu = plan.setup.mtu; to_push = None; to_send = None; net = new_net [] })
     → AreNew (seen_of (unwritten plan.book)) (unsent plan.workers).boxes plan.setup world.workers.items count → IsWorld world (state_of plan)
-stands_new plan world count is_plan links office mail fails end are =
+stands_new plan world count is_plan links office mail fails end net beside new_pump are =
     let workers : world.office.book.config.workers ≡ plan.workers = ap (λ (o : OfficeOf). o.book.config.workers) office ∙ is_plan.book.workers_are in
     let served : AreServed [] (seen_of (unwritten plan.book)) (unsent plan.workers).boxes 0 world.workers.items (new_workers plan.setup plan.workers) =
     subst (λ (n : ℕ). AreServed [] (seen_of (unwritten plan.book)) (unsent plan.workers).boxes 0 world.workers.items (new_workers plan.setup n)) end are.served in
+    let pump_is : IsPump world.pump (state_of plan).pump =
+    record { mtu = new_pump.mtu; to_push = new_pump.to_push; to_send = new_pump.to_send; received = new_pump.received; room = new_pump.room; can_go = new_pump.can_go; can_send = new_pump.can_send } in
     record {
       links = sym (ap (λ (ts : List ToldBy). map told_of ts) links);
       workers = subst (λ (m : MailOf). AreServed [] (seen_of world.office) m.boxes 0 world.workers.items (new_workers plan.setup plan.workers)) (sym mail)
@@ -88,6 +87,7 @@ stands_new plan world count is_plan links office mail fails end are =
       count = are.size ∙ end ∙ sym workers;
       few = let size = are.size in let most = is_plan.few in omega (arith, size, end, most);
       boxes = ap (λ (m : MailOf). length m.boxes) mail ∙ length_empty (plan.workers + 1) ∙ ap (λ (n : ℕ). n + 1) (sym workers);
-      pump = record { push = refl; send = refl; arrived = refl; box = empty_at (plan.workers + 1) (last_of (state_of plan).shared.boxes) };
+      config = subst IsConfig (sym (ap (λ (o : OfficeOf). o.book.config) office)) is_plan.book.config;
+      pump = record { stands = pump_is; net = sym (ap (λ (n : Sim). holds_of n) net); workers_are = beside ∙ sym workers };
       offered = All-nil (λ (t : Told). t.worker < length world.workers.items);
     }

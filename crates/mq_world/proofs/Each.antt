@@ -46,7 +46,8 @@ stands_changed old s is k f still a b at does = record {
   count = set_length old.workers.items k b ∙ is.count;
   few = subst (λ (n : ℕ). n ≤ 4) (sym (set_length old.workers.items k b)) is.few;
   boxes = is.boxes;
-  pump = record { push = is.pump.push; send = is.pump.send; arrived = is.pump.arrived; box = is.pump.box };
+  config = is.config;
+  pump = is.pump;
   offered = subst (λ (n : ℕ). All (λ (t : Told). t.worker < n) s.links) (sym (set_length old.workers.items k b)) is.offered;
 }
 

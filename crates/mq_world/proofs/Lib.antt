@@ -7,5 +7,6 @@ pub mod Reaching
 pub mod Saying
 pub mod Happening
 pub mod Offered
+pub mod Pumping
 pub mod Quieting
 pub mod Answering

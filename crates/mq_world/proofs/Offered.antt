@@ -83,7 +83,8 @@ module _ (old : Workers) (s : State) (is : IsWorld old s) where
           count = size ∙ is.count;
           few = subst (λ (n : ℕ). n ≤ 4) (sym size) is.few;
           boxes = is.boxes;
-          pump = record { push = is.pump.push; send = is.pump.send; arrived = is.pump.arrived; box = is.pump.box };
+          config = is.config;
+          pump = is.pump;
           offered = subst (λ (n : ℕ). All (λ (u : Told). u.worker < n) (s.links ++ t ∷ [])) (sym size)
               (All-append (λ (u : Told). u.worker < length old.workers.items) s.links (t ∷ []) is.offered
               (All-cons (λ (u : Told). u.worker < length old.workers.items) t [] within (All-nil (λ (u : Told). u.worker < length old.workers.items))));
@@ -104,6 +105,7 @@ module _ (old : Workers) (s : State) (is : IsWorld old s) where
     count = is.count;
     few = is.few;
     boxes = is.boxes;
+    config = is.config;
     pump = is.pump;
     offered = is.offered;
   }

@@ -1,5 +1,5 @@
 -- That no actor of a world has a turn.
-use Rattle.std.proofs.Common.{◌≡◌, ◌↔◌, ◌⊎◌, inl, inr, ℕ, zero, suc, ◌+◌, ◌<◌, Bool, true, false, not, ◌||◌, ◌&&◌, List, [], ◌∷◌, length, map, slice_get, Option, Some, None, refl, sym, ap, ◌∙◌, arith}
+use Rattle.std.proofs.Common.{◌≡◌, ◌↔◌, ◌⊎◌, inl, inr, ℕ, zero, suc, ◌+◌, ◌<◌, Bool, true, false, not, ◌||◌, List, [], ◌∷◌, length, map, slice_get, Option, Some, None, refl, sym, ap, ◌∙◌, arith}
 use Rattle.std.specs.Prelude.{is_some, option_and_then}
 use Rattle.std.specs.List.{list_any}
 use Rattle.std.proofs.lemmas.List.{map-append}
@@ -7,8 +7,8 @@ use Rattle.std.proofs.lemmas.List.Folds.{list_any-append}
 use Rattle.mq_talk.specs.declared.place.Parcel.{Parcel}
 use Rattle.mq_talk.specs.Mails.{Boxes, box_at}
 use Rattle.mq_talk.specs.Offices.{Seen}
-use Rattle.mq_machine.specs.State.{Told, Worker, Pump, State}
-use Rattle.mq_machine.specs.Turn.{Actor, WorkerOf, ThePump, Seat, pump_try, has_turn, last_of, turn_of}
+use Rattle.mq_machine.specs.State.{Told, Worker, State}
+use Rattle.mq_machine.specs.Turn.{Actor, WorkerOf, ThePump, Seat, has_turn, turn_of}
 use Rattle.mq_mem.specs.Mails.{is_waiting}
 use Rattle.mq_mem.specs.Offices.{seen_of}
 use Rattle.mq_play.specs.Play.{actors_of, up_to}
@@ -16,18 +16,6 @@ use Rattle.mq_plain.specs.Served.{Plain, Serves}
 use Rattle.mq_world.specs.declared.workers.Workers.{Workers}
 use Rattle.mq_world.specs.Worlds.{IsWorld}
 use Rattle.mq_world.proofs.Worlds.{served_at}
-
--- ---- the pump
-
-and_false : (b : Bool) → (b && false) ≡ false
-and_false true = refl
-and_false false = refl
-
-pump_none : (p : Pump) (box : List Parcel) → p.to_push ≡ None → p.to_send ≡ None → p.net.holds.arrived ≡ [] → box ≡ [] → is_some (pump_try p box) ≡ false
-pump_none p box push send arrived empty = rw (push, send, arrived, empty) (rw (and_false (not p.net.holds.receive_fails)) refl)
-
-pub pump_quiet : (old : Workers) (s : State) → IsWorld old s → has_turn s ThePump ≡ false
-pump_quiet old s is = pump_none s.pump (box_at s.shared.boxes (last_of s.shared.boxes)) is.pump.push is.pump.send is.pump.arrived is.pump.box
 
 -- ---- a worker
 
@@ -102,7 +90,9 @@ pub some_acts : (s : State) (k : ℕ) → k < length s.workers → has_turn s (W
 some_acts s k less here =
     sym (ap not (any_actor s ∙ ap (λ (b : Bool). b || list_any (has_turn s) (ThePump ∷ [])) (any_acts s k (length s.workers) less here)))
 
--- none has one
-pub none_acts : (old : Workers) (s : State) → IsWorld old s → NoneBefore s (length s.workers) → true ≡ not (list_any (has_turn s) (actors_of s))
-none_acts old s is none =
-    sym (ap not (any_actor s ∙ ap (λ (b : Bool). b || list_any (has_turn s) (ThePump ∷ [])) none ∙ ap (λ (b : Bool). b || false) (pump_quiet old s is)))
+-- none but the pump may have one
+pub pump_alone : (s : State) → NoneBefore s (length s.workers) → list_any (has_turn s) (actors_of s) ≡ has_turn s ThePump
+pump_alone s none = any_actor s ∙ ap (λ (b : Bool). b || list_any (has_turn s) (ThePump ∷ [])) none ∙ or_false (has_turn s ThePump) where
+  or_false : (b : Bool) → (b || false) ≡ b
+  or_false true = refl
+  or_false false = refl

@@ -78,7 +78,8 @@ module _ (old : Workers) (s : State) (is : IsWorld old s) (conn : ℕ) (t : Told
     count = is.count;
     few = is.few;
     boxes = is.boxes;
-    pump = record { push = is.pump.push; send = is.pump.send; arrived = is.pump.arrived; box = is.pump.box };
+    config = is.config;
+    pump = is.pump;
     offered = workers_ended (length old.workers.items) s.links conn is.offered;
   }
 

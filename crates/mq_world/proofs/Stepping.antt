@@ -1,5 +1,5 @@
 -- What a step of one of its workers makes of a world.
-use Rattle.std.proofs.Common.{◌≡◌, ◌≢◌, ℕ, zero, suc, ◌+◌, ◌<◌, ◌≤◌, false, List, [], ◌∷◌, length, All, slice_get, slice_set, Option, Some, None, Result, Ok, Err, refl, sym, ap, subst, ◌∙◌, arith}
+use Rattle.std.proofs.Common.{◌≡◌, ℕ, zero, suc, ◌+◌, ◌<◌, ◌≤◌, false, List, [], ◌∷◌, length, All, slice_get, slice_set, Option, Some, None, Result, Ok, Err, refl, sym, ap, subst, ◌∙◌, arith}
 use Rattle.std.specs.Prelude.{unwrap_or, is_some, option_and_then}
 use Rattle.std.specs.Vec.{with_item}
 use Rattle.std.specs.Prelude.{get_or}
@@ -9,19 +9,20 @@ use Rattle.mq_talk.specs.declared.book.Config.{Config}
 use Rattle.mq_talk.specs.declared.book.Entry.{Entry}
 use Rattle.mq_talk.specs.declared.note.Note.{Note}
 use Rattle.mq_talk.specs.declared.place.Parcel.{Parcel}
+use Rattle.mq_talk.specs.Config.{IsConfig}
 use Rattle.mq_talk.specs.Mails.{Boxes, box_at}
 use Rattle.mq_machine.specs.State.{Told, Worker, Shared, Orders, State}
 use Rattle.mq_machine.specs.Shared.{Ordered}
 use Rattle.mq_machine.specs.Silent.{WorkerStarves}
-use Rattle.mq_machine.specs.Turn.{WorkerTurn, turn_of, last_of}
+use Rattle.mq_machine.specs.Turn.{WorkerOf, WorkerTurn, turn_of}
 use Rattle.mq_mem.specs.Mails.{Mail as MailOf}
 use Rattle.mq_mem.specs.Offices.{Office as OfficeOf, seen_of}
 use Rattle.mq_actor.proofs.Others.{set_length}
 use Rattle.mq_world.specs.declared.workers.Workers.{Workers}
 use Rattle.mq_plain.specs.Served.{Plain, Serves}
 use Rattle.mq_plain.specs.Taking.{Common, shared_of, Leads, Gives, Took}
-use Rattle.mq_world.specs.Worlds.{IsWorld, WorkerGives}
-use Rattle.mq_world.proofs.Sharing.{PushNone, seat_kept, starved_kept}
+use Rattle.mq_world.specs.Worlds.{IsWorld, ActorGives}
+use Rattle.mq_world.proofs.Sharing.{seat_keeps, starved_keeps}
 use Rattle.mq_world.proofs.Worlds.{served_turned, served_at, served_set}
 
 -- what stands at a place is set there
@@ -35,11 +36,6 @@ set_own {A} (y ∷ xs) (suc i) x at = ap {B = List A} (λ (zs : List A). y ∷ z
 -- what is read in a list stands there
 pub read_at : {A : Type 0} (xs : List A) (i : ℕ) (x : A) → i < length xs → x ≡ get_or xs i x → slice_get xs i ≡ Some x
 read_at xs i x less is = slice_get-get_or xs i x less ∙ ap Some (sym is)
-
--- the last inbox is the pump's
-pub last_at : (boxes : Boxes) (n : ℕ) → length boxes ≡ n + 1 → last_of boxes ≡ n
-last_at [] n size = absurd (omega (arith, size))
-last_at (box ∷ boxes) n size = omega (arith, size)
 
 -- what is shared, by its parts
 abbrev of_parts : Config → List Entry → Boxes → Orders → Shared
@@ -81,28 +77,8 @@ module _ (old : Workers) (s : State) (is : IsWorld old s) (k : ℕ) (less : k < 
       subst (λ (m : MailOf). Took s.links k (record { office = record old.office { actor = k }; mail = m; bind_fails = old.bind_fails }) new b w result) mail_is
       (subst (λ (o : OfficeOf). Took s.links k (record { office = o; mail = mail; bind_fails = old.bind_fails }) new b w result) office_is took)
 
-  module _ (new : Common) (b : Plain) (result : Result (Option Note) NoMemory) (w : Worker) (at : slice_get s.workers k ≡ Some w) (named : w.id ≡ k) (calm : PushNone w)
+  module _ (new : Common) (b : Plain) (result : Result (Option Note) NoMemory) (w : Worker) (at : slice_get s.workers k ≡ Some w) (named : w.id ≡ k)
       (took : Took s.links k (turned old k) new b w result) where
-    -- no other inbox changed
-    others : (r : Result (Option Note) NoMemory) → Gives (turned old k) new w r took.t → (i : ℕ) → k ≢ i → box_at new.mail.boxes i ≡ box_at old.mail.boxes i
-    others (Ok (Some note)) d i ne =
-        ap (λ (bs : Boxes). box_at bs i) d.leads.boxes
-        ∙ (seat_kept w (shared_of (turned old k)) d.turn.seat d.answer note took.t d.after calm d.turn.next).others i (λ e. ne (sym named ∙ e))
-    others (Ok None) q i ne = ap (λ (sh : Shared). box_at sh.boxes i) q.is
-    others (Err fault) q i ne =
-        ap (λ (bs : Boxes). box_at bs i) q.leads.boxes
-        ∙ (starved_kept w (shared_of (turned old k)) q.starves.seat q.reached q.answer took.t q.after calm q.starves.starves).others i (λ e. ne (sym named ∙ e))
-
-    -- the pump's is the last, and it is empty still
-    rests : box_at new.mail.boxes (last_of new.mail.boxes) ≡ []
-    rests =
-        let n : ℕ = old.office.book.config.workers in
-        let last_new : last_of new.mail.boxes ≡ n = last_at new.mail.boxes n (took.boxes ∙ is.boxes) in
-        let last_old : last_of old.mail.boxes ≡ n = last_at old.mail.boxes n is.boxes in
-        let ne : k ≢ n = λ e. omega (arith, less, is.count, e) in
-        ap (λ (i : ℕ). box_at new.mail.boxes i) last_new ∙ others result took.gives n ne ∙ ap (λ (i : ℕ). box_at old.mail.boxes i) (sym last_old)
-        ∙ ap (λ (sh : Shared). box_at sh.boxes (last_of sh.boxes)) (sym is.shared) ∙ is.pump.box
-
     abbrev after : State
     after = record s { workers = slice_set s.workers k took.t; shared = shared_of new }
 
@@ -121,7 +97,8 @@ module _ (old : Workers) (s : State) (is : IsWorld old s) (k : ℕ) (less : k < 
           count = set_length old.workers.items k b ∙ is.count ∙ sym workers;
           few = subst (λ (n : ℕ). n ≤ 4) (sym (set_length old.workers.items k b)) is.few;
           boxes = took.boxes ∙ is.boxes ∙ ap (λ (n : ℕ). n + 1) (sym workers);
-          pump = record { push = is.pump.push; send = is.pump.send; arrived = is.pump.arrived; box = rests };
+          config = subst IsConfig (sym took.config) is.config;
+          pump = record { stands = is.pump.stands; net = is.pump.net; workers_are = is.pump.workers_are ∙ sym workers };
           offered = subst (λ (n : ℕ). All (λ (t : Told). t.worker < n) s.links) (sym (set_length old.workers.items k b)) is.offered;
         }
 
@@ -136,7 +113,7 @@ module _ (old : Workers) (s : State) (is : IsWorld old s) (k : ℕ) (less : k < 
     ends sh leads config = parts_same new.office.book.config sh.config new.office.book.history sh.book new.mail.boxes sh.boxes (shared_of new).orders
         (leads.config ∙ sym config) leads.book leads.boxes
 
-    gives : (r : Result (Option Note) NoMemory) → Gives (turned old k) new w r took.t → WorkerGives s k r after
+    gives : (r : Result (Option Note) NoMemory) → Gives (turned old k) new w r took.t → ActorGives s (WorkerOf k) r after
     gives (Ok (Some note)) d =
         let here = subst (λ (box : List Parcel). WorkerTurn w box (shared_of (turned old k)) d.answer note took.t d.after) (box_is d.box d.was) d.turn in
         record {
@@ -148,7 +125,7 @@ module _ (old : Workers) (s : State) (is : IsWorld old s) (k : ℕ) (less : k < 
           at = at;
           turn = of_state (λ (sh : Shared). WorkerTurn w (box_at sh.boxes w.id) sh d.answer note took.t d.after) here;
           ordered = of_state (λ (sh : Shared). Ordered sh.orders d.answer (shared_of new).orders) d.ordered;
-          after_is = ends d.after d.leads (seat_kept w (shared_of (turned old k)) d.turn.seat d.answer note took.t d.after calm d.turn.next).config;
+          after_is = ends d.after d.leads (seat_keeps w (shared_of (turned old k)) d.turn.seat d.answer note took.t d.after d.turn.next);
           new_is = refl;
         }
     gives (Ok None) q =
@@ -172,10 +149,10 @@ module _ (old : Workers) (s : State) (is : IsWorld old s) (k : ℕ) (less : k < 
             at = at;
             starves = of_state (λ (sh : Shared). WorkerStarves w (box_at sh.boxes w.id) sh q.reached q.answer took.t q.after) here;
             ordered = of_state (λ (sh : Shared). Ordered sh.orders q.answer (shared_of new).orders) q.ordered;
-            after_is = ends q.after q.leads (starved_kept w (shared_of (turned old k)) q.starves.seat q.reached q.answer took.t q.after calm q.starves.starves).config;
+            after_is = ends q.after q.leads (starved_keeps w (shared_of (turned old k)) q.starves.seat q.reached q.answer took.t q.after q.starves.starves);
             new_is = refl;
           },
         )
 
-    pub stepped : (t : State) × IsWorld behind t × WorkerGives s k result t
+    pub stepped : (t : State) × IsWorld behind t × ActorGives s (WorkerOf k) result t
     stepped = (after, stands, gives result took.gives)

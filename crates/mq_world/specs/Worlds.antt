@@ -6,16 +6,20 @@ use Rattle.mq_talk.specs.declared.book.Call.TheVariants as call
 use Rattle.mq_talk.specs.declared.goal.Goal.{Goal}
 use Rattle.mq_talk.specs.declared.goal.Goal.TheVariants as goal
 use Rattle.mq_talk.specs.declared.note.Note.{Note}
-use Rattle.mq_talk.specs.Mails.{Boxes, box_at}
+use Rattle.mq_talk.specs.Config.{IsConfig}
+use Rattle.mq_talk.specs.Mails.{Boxes}
 use Rattle.mq_talk.specs.Offices.{Seen}
 use Rattle.mq_machine.specs.declared.event.Event.{Event}
 use Rattle.mq_machine.specs.declared.event.Event.TheVariants as event
-use Rattle.mq_machine.specs.State.{Link, Told, Worker, State}
+use Rattle.mq_machine.specs.State.{Link, Told, Worker, Pump, State}
 use Rattle.mq_machine.specs.Silent.{Reached, SilentTurn}
-use Rattle.mq_machine.specs.Turn.{Actor, WorkerOf, ThePump, Turn, Quiet, last_of}
+use Rattle.mq_machine.specs.Turn.{Actor, WorkerOf, ThePump, Turn, Quiet}
 use Rattle.mq_mem.specs.Offices.{seen_of}
+use Rattle.mq_net.specs.Sims.{Sim, holds_of}
+use Rattle.mq_pump.specs.declared.pump.Pump.{Pump as PumpBy}
+use Rattle.mq_pump.specs.Holds.{IsPump}
 use Rattle.mq_play.specs.Events.{at_link, happen, has_link, is_missing}
-use Rattle.mq_play.specs.Lines.{most_payload}
+use Rattle.mq_play.specs.Lines.{most_packet, most_payload}
 use Rattle.mq_plain.specs.Served.{Plain, Serves}
 use Rattle.mq_plain.specs.Taking.{Common, shared_of}
 use Rattle.mq_world.specs.declared.stepped.Stepped.{Stepped}
@@ -41,14 +45,13 @@ AreServed links seen boxes from (a ∷ actors) (w ∷ ws) = Serves links seen bo
 abbrev pub common_of : Workers → Common
 common_of world = record { office = world.office; mail = world.mail; bind_fails = world.bind_fails }
 
--- the pump holds nothing, nothing came from the network, and no worker pushed anything to it
-pub record PumpRests (s : State) : Type 0 where
-  pub push : s.pump.to_push ≡ None
-  pub send : s.pump.to_send ≡ None
-  pub arrived : s.pump.net.holds.arrived ≡ []
-  pub box : box_at s.shared.boxes (last_of s.shared.boxes) ≡ []
+-- The pump is that of the state, beside so many workers, and its network tells what that of the state holds.
+pub record IsPumpOf (workers : ℕ) (p : PumpBy Sim) (s : Pump) : Type 0 where
+  pub stands : IsPump p s
+  pub net : s.net.holds ≡ holds_of p.net
+  pub workers_are : p.workers ≡ workers
 
--- its workers, what was said of links, the book, the inboxes and the orders are those of the state
+-- its workers, its pump, what was said of links, the book, the inboxes and the orders are those of the state
 pub record IsWorld (world : Workers) (s : State) : Type 0 where
   pub links : s.links ≡ map told_of world.links.items
   pub workers : AreServed s.links (seen_of world.office) world.mail.boxes 0 world.workers.items s.workers
@@ -56,18 +59,18 @@ pub record IsWorld (world : Workers) (s : State) : Type 0 where
   pub count : length world.workers.items ≡ world.office.book.config.workers
   pub few : length world.workers.items ≤ 4
   pub boxes : length world.mail.boxes ≡ world.office.book.config.workers + 1
-  pub pump : PumpRests s
+  pub config : IsConfig world.office.book.config
+  pub pump : IsPumpOf world.office.book.config.workers world.pump s.pump
   -- each link was offered to one of them
   pub offered : All (λ (t : Told). t.worker < length world.workers.items) s.links
 
 -- ---- what happens
 
--- An event is within its bounds, and none of the network.
+-- an event is within its bounds
 abbrev pub IsServed : Event → Type 0
 IsServed (event.Piece conn bytes) = 0 < length bytes
 IsServed (event.Datagram tunnel bytes) = length bytes ≤ most_payload
-IsServed event.FailNet = ⊥
-IsServed (event.Packet count bytes) = ⊥
+IsServed (event.Packet count bytes) = length bytes ≤ most_packet
 IsServed e = ⊤
 
 -- the actor of this number: the network's is the count of workers
@@ -78,11 +81,12 @@ actor_at s number = if nat_lt number (length s.workers) then WorkerOf number els
 abbrev pub IsOutside : Event → Type 0
 IsOutside e = (actor : ℕ) → e ≢ event.Step actor
 
--- it takes memory: a new link, a piece, a datagram
+-- it takes memory: a new link, a piece, a datagram, packets
 abbrev pub TakesMemory : Event → Type 0
 TakesMemory (event.Conn actor) = ⊤
 TakesMemory (event.Piece conn bytes) = ⊤
 TakesMemory (event.Datagram tunnel bytes) = ⊤
+TakesMemory (event.Packet count bytes) = ⊤
 TakesMemory e = ⊥
 
 -- the event is a step of this actor, which is one
@@ -116,11 +120,11 @@ LinkHappens stands s conn change (Ok done) = (has_link s conn ≡ true) × stand
 LinkHappens stands s conn change (Err fault.Missing) = (has_link s conn ≡ false) × stands s
 LinkHappens stands s conn change (Err fault.NoMemory) = ⊥
 
--- what a step of a worker gives: its turn, or it has none, or the seat whose turn it was was refused memory
-abbrev pub WorkerGives : State → ℕ → Result (Option Note) NoMemory → State → Type 0
-WorkerGives s number (Ok (Some note)) t = Turn s (WorkerOf number) note t
-WorkerGives s number (Ok None) t = Quiet s (WorkerOf number) × (t ≡ s)
-WorkerGives s number (Err refused) t = (reached : Reached) × SilentTurn s (WorkerOf number) reached t
+-- what a step of an actor gives: its turn, or it has none, or whose turn it was was refused memory
+abbrev pub ActorGives : State → Actor → Result (Option Note) NoMemory → State → Type 0
+ActorGives s actor (Ok (Some note)) t = Turn s actor note t
+ActorGives s actor (Ok None) t = Quiet s actor × (t ≡ s)
+ActorGives s actor (Err refused) t = (reached : Reached) × SilentTurn s actor reached t
 
 -- as the world answers these
 abbrev pub stepped_by : Result (Option Note) NoMemory → Stepped

@@ -1,6 +1,7 @@
-//! A world in memory: all workers round one book and one set of inboxes.
+//! A world in memory: all actors round one book and one set of inboxes.
 #![tactic(auto)]
 
+mod pump;
 mod stepped;
 mod told;
 mod tunnel;

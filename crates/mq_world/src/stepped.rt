@@ -11,7 +11,8 @@ pub enum Stepped {
     Did(Note),
     /// The actor has no step, and nothing changed.
     Idle,
-    /// The actor's step was refused memory: the connection whose turn it was is ending with that, or the link stays offered.
+    /// The actor's step was refused memory: the connection whose turn it was is ending with that, or the link stays offered, or
+    /// the packet waits on the network.
     Refused,
 }
 
@@ -21,6 +22,6 @@ pub enum WorldFault {
     /// The event names what never was: an actor, a link or a tunnel for UDP; or it is a piece behind the end of its link, or
     /// one link too many.
     Missing,
-    /// Memory for a new link, a piece or a datagram was refused.
+    /// Memory for a new link, a piece, a datagram or a packet was refused.
     NoMemory,
 }

@@ -1,26 +1,28 @@
-//! All workers, what was said of their links, and what they share.
+//! All actors, what was said of links, and what the actors share.
 ghost use Rattle.std.specs.Prelude.{◌≡◌, ◌<◌, ◌≤◌, ◌||◌, true, false, not, length, map, nat_le, nat_lt, slice_get, Some, Err, IfOk, OnOk, OnErr};
 ghost use Rattle.std.specs.List.{list_any};
 ghost use Rattle.std.specs.Option.{option_map};
 ghost use Rattle.mq_machine.specs.State as machine;
 ghost use Rattle.mq_machine.specs.declared.event.Event.TheVariants.{Conn, Datagram, End, FailBind, FailPort, Piece, Step};
-ghost use Rattle.mq_machine.specs.Turn.{has_turn};
+ghost use Rattle.mq_machine.specs.Turn.{WorkerOf, has_turn};
 ghost use Rattle.mq_play.specs.Events.{happen, is_ended, is_missing, most_links, state_of};
 ghost use Rattle.mq_play.specs.Lines.{most_payload};
 ghost use Rattle.mq_play.specs.Play.{actors_of};
 ghost use Rattle.mq_play.specs.Settings.{IsPlan};
 ghost use Rattle.mq_plain.specs.Coming.{changed};
 ghost use Rattle.mq_world.specs.declared.stepped.WorldFault.TheVariants as fault;
-ghost use Rattle.mq_world.specs.Worlds.{Happens, IsWorld, LinkHappens, StepGives, WorkerGives, stepped_by, told_of};
+ghost use Rattle.mq_world.specs.Worlds.{Happens, IsWorld, LinkHappens, StepGives, ActorGives, stepped_by, told_of};
 
 use crate::stepped::{Stepped, WorldFault};
 use crate::told::Told;
 use crate::tunnel::opener_of;
 use mq_mem::{PlainMail, PlainOffice};
+use mq_net::SimNet;
 use mq_plain::{
     LinkEvent, Plain, PlainPorts, arrive, change, fail_send, is_quiet, offer, piece, take,
 };
 use mq_play::Plan;
+use mq_pump::Pump;
 use mq_talk::Note;
 use mq_wire::{Bytes, NoMemory};
 use std::alloc::Global;
@@ -28,7 +30,7 @@ use std::alloc::Global;
 /// The most links of a world.
 const MOST_LINKS: usize = 65_536;
 
-/// The workers of a world in memory, and what they share.
+/// The workers of a world in memory, the pump, and what they share.
 #[derive(Drop)]
 pub struct Workers {
     pub alloc: Global,
@@ -36,6 +38,8 @@ pub struct Workers {
     pub links: Vec<Told>,
     /// By their numbers.
     pub workers: Vec<Plain>,
+    /// Its number is the count of workers.
+    pub pump: Pump<SimNet>,
     pub office: PlainOffice,
     /// One inbox for each worker, and the pump's.
     pub mail: PlainMail,
@@ -44,7 +48,8 @@ pub struct Workers {
 }
 
 impl Workers {
-    /// The workers of a plan, to which nothing happened yet: they have no links, and the book and the inboxes are empty.
+    /// The actors of a plan, to which nothing happened yet: the workers have no links, nothing came from the network, and the
+    /// book and the inboxes are empty.
     pub(crate) fn new(alloc: Global, plan: Plan) -> Result<Workers, NoMemory>
         requires { IsPlan plan }
         ensures { IfOk result (λ world. IsWorld world (state_of plan)) }
@@ -53,8 +58,10 @@ impl Workers {
             workers: count,
             setup,
             book,
-            ..
+            hosts,
         } = plan;
+        let net = SimNet::new(alloc, hosts.as_slice())?;
+        let pump = Pump::new(alloc, net, count, setup.mtu)?;
         let office = PlainOffice::of(alloc, book)?;
         let mail = PlainMail::new(alloc, count + 1)?;
         let mut workers = Vec::with_capacity(alloc, count as usize)?;
@@ -68,6 +75,7 @@ impl Workers {
             alloc,
             links: Vec::new(alloc),
             workers,
+            pump,
             office,
             mail,
             bind_fails: false,
@@ -220,7 +228,7 @@ impl Workers {
         self.workers.len() as u32
     }
 
-    /// An actor takes a step. The pump, whose number is the count of workers, has none.
+    /// An actor takes a step. The pump's number is the count of workers.
     pub(crate) fn act(&mut self, actor: u32) -> Result<Stepped, WorldFault>
         requires { (s : machine.State) × IsWorld self.old s }
         ensures { (s : machine.State) → IsWorld self.old s → StepGives (IsWorld self.new) s (Step actor) result }
@@ -230,7 +238,7 @@ impl Workers {
             return Err(WorldFault::Missing);
         }
         if actor == count {
-            return Ok(Stepped::Idle);
+            return Ok(stepped(self.pump()));
         }
         Ok(stepped(self.step(actor)))
     }
@@ -239,7 +247,7 @@ impl Workers {
     fn step(&mut self, number: u32) -> Result<Option<Note>, NoMemory>
         requires stands { (s : machine.State) × IsWorld self.old s }
         requires number { number < length self.old.workers.items }
-        ensures { (s : machine.State) → IsWorld self.old s → (t : machine.State) × IsWorld self.new t × WorkerGives s number result t }
+        ensures { (s : machine.State) → IsWorld self.old s → (t : machine.State) × IsWorld self.new t × ActorGives s (WorkerOf number) result t }
     {
         self.office.turn_to(number);
         self.mail.turn_to(number);
@@ -264,11 +272,11 @@ impl Workers {
                 return false;
             }
         }
-        true
+        self.pump_is_quiet()
     }
 }
 
-/// What the step of a worker gave.
+/// What the step of an actor gave.
 fn stepped(given: Result<Option<Note>, NoMemory>) -> Stepped
     ensures { result ≡ stepped_by given }
 {

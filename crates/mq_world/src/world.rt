@@ -17,7 +17,7 @@ use mq_wire::NoMemory;
 use std::alloc::Global;
 use std::marker::Model;
 
-/// All actors of a proxy in memory: its workers, and the pump, which has nothing to do as long as no tunnel is for IP packets.
+/// All actors of a proxy in memory: its workers, and the pump, which has a simulated network.
 #[derive(Drop)]
 pub struct World {
     inside: Workers,
@@ -39,7 +39,8 @@ impl Model for World {
 }
 
 impl World {
-    /// The world of a plan, in which nothing happened yet: its workers have no links, and the book and the inboxes are empty.
+    /// The world of a plan, in which nothing happened yet: its workers have no links, nothing came from the network, and the
+    /// book and the inboxes are empty.
     pub fn new(alloc: Global, plan: Plan) -> Result<World, NoMemory>
         requires { IsPlan plan }
         ensures { IfOk result (λ world. IsWorld world (state_of plan)) }
@@ -56,7 +57,7 @@ impl World {
     }
 
     /// Something happens: something comes from outside, or an actor takes a step. The actor of the network has the count of
-    /// workers as its number. A piece has a byte, a datagram has at most 65,527, and packets of the network aren't served.
+    /// workers as its number. A piece has a byte, a datagram has at most 65,527, and a packet at most 65,535.
     /// `Missing` comes where the event names what never was; it and `NoMemory` change nothing.
     pub fn step(&mut self, event: Event) -> Result<Stepped, WorldFault>
         requires { IsServed event }
@@ -76,8 +77,11 @@ impl World {
                 Ok(Stepped::Done)
             }
             Event::Step { actor } => self.inside.act(actor),
-            Event::FailNet => unreachable!(),
-            Event::Packet { .. } => unreachable!(),
+            Event::FailNet => {
+                self.inside.fail_net();
+                Ok(Stepped::Done)
+            }
+            Event::Packet { count, bytes } => done(self.inside.packet(count, &bytes)),
         }
     }
 

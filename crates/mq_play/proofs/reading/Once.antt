@@ -6,6 +6,7 @@ use Rattle.mq_addr.specs.declared.kind.Kind.TheVariants as kind
 use Rattle.mq_addr.specs.declared.prefix.Prefix.{Prefix}
 use Rattle.mq_addr.specs.Addr.{HasAddrBytes, HasOneAddr, IsAddrText}
 use Rattle.mq_addr.specs.Prefixes.{HasOnePrefix}
+use Rattle.mq_machine.specs.declared.event.Event.{Event}
 use Rattle.mq_machine.specs.declared.event.Event.TheVariants as event
 use Rattle.mq_policy.specs.declared.rule.Rule.TheVariants as rule
 use Rattle.mq_play.specs.declared.line.Line.{Line}
@@ -15,7 +16,7 @@ use Rattle.mq_play.specs.declared.word.Word.{Word}
 use Rattle.mq_play.specs.declared.word.Word.TheVariants as word
 use Rattle.mq_play.specs.declared.word.SettingWord.{SettingWord}
 use Rattle.mq_play.specs.declared.word.SettingWord.TheVariants as setting
-use Rattle.mq_play.specs.Lines.{IsActor, IsBlank, IsFilled, IsPayload, IsWord, Says, SaysBehind, SaysPiece, SaysSteps, word_text}
+use Rattle.mq_play.specs.Lines.{IsActor, IsAlone, IsBlank, IsFilled, IsPacket, IsPayload, IsWord, Says, SaysBehind, SaysPiece, SaysSteps, word_text}
 use Rattle.mq_play.specs.Parts.{IsHex, IsName, IsNumber, IsNumberOr, IsText, Means, Parted}
 use Rattle.mq_play.specs.Settings.{IsBlock, IsKind, IsNamed, IsRoute, IsShare, IsTemplateOf, SaysRule, SaysSetting}
 use Rattle.mq_play.proofs.reading.Lacking.{class_lacks, is_visible}
@@ -68,6 +69,7 @@ module _ (once : IsCutOnce) (bytes : HasAddrBytes) (addr : HasOneAddr) (prefix :
   behind_once word.FailWrite = means_once IsName (λ (conn : ℕ). line.Happens (event.FailWrite conn)) name_once
   behind_once word.Dgram = parted_once IsName _ once names_lack name_once (λ tunnel. means_once IsPayload (λ (payload : List ℕ). line.Happens (event.Datagram tunnel payload)) (λ text a b h k. hex_once text a b h.0 k.0))
   behind_once word.FailPort = means_once IsName (λ (tunnel : ℕ). line.Happens (event.FailPort tunnel)) name_once
+  behind_once word.Packet = parted_once (IsNumber 1 1024) _ once (number_lacks 1 1024 (omega arith)) (number_once 1 1024 (omega arith)) (λ count. means_once IsPacket (λ (packet : List ℕ). line.Happens (event.Packet count packet)) (λ text a b h k. hex_once text a b h.0 k.0))
   behind_once word.Step = steps_once
   behind_once word.Run = means_once (IsNumber 1 1000000) line.Run (number_once 1 1000000 (omega arith))
 
@@ -86,23 +88,41 @@ not_blank text said h blank =
     let same = blank_first text blank in
     cc
 
--- `failbind` is neither
-pub fail_lacks : (text : List ℕ) → text ≡ codes "failbind" → Lacks 32 text
-fail_lacks text h = subst (Lacks 32) (sym h) (class_lacks is_visible 32 (codes "failbind") refl refl)
+-- a line of one word is neither
+alone_lacks : (text : List ℕ) (said : Event) → IsAlone text said → Lacks 32 text
+alone_lacks text said (inl h) = subst (Lacks 32) (sym h.0) (class_lacks is_visible 32 (codes "failbind") refl refl)
+alone_lacks text said (inr h) = subst (Lacks 32) (sym h.0) (class_lacks is_visible 32 (codes "failnet") refl refl)
 
-pub fail_not_blank : (text : List ℕ) → text ≡ codes "failbind" → IsBlank text → ⊥
-fail_not_blank text h blank =
-    let other : (get_or text 0 35 == 35) ≡ false = ap (λ (xs : List ℕ). get_or xs 0 35 == 35) h in
+alone_first : (text : List ℕ) (said : Event) → IsAlone text said → (get_or text 0 35 == 35) ≡ false
+alone_first text said (inl h) = ap (λ (xs : List ℕ). get_or xs 0 35 == 35) h.0
+alone_first text said (inr h) = ap (λ (xs : List ℕ). get_or xs 0 35 == 35) h.0
+
+alone_not_blank : (text : List ℕ) (said : Event) → IsAlone text said → IsBlank text → ⊥
+alone_not_blank text said h blank =
+    let other = alone_first text said h in
     let same = blank_first text blank in
     cc
 
+-- their fifth letters differ
+two_words : (text : List ℕ) → text ≡ codes "failbind" → text ≡ codes "failnet" → ⊥
+two_words text h k =
+    let bind : (get_or text 4 0 == 98) ≡ true = ap (λ (xs : List ℕ). get_or xs 4 0 == 98) h in
+    let net : (get_or text 4 0 == 98) ≡ false = ap (λ (xs : List ℕ). get_or xs 4 0 == 98) k in
+    cc
+
+alone_once : IsSingle IsAlone
+alone_once text a b (inl h) (inl k) = h.1 ∙ sym k.1
+alone_once text a b (inl h) (inr k) = absurd (two_words text h.0 k.0)
+alone_once text a b (inr h) (inl k) = absurd (two_words text k.0 h.0)
+alone_once text a b (inr h) (inr k) = h.1 ∙ sym k.1
+
 pub says_once : IsCutOnce → HasAddrBytes → HasOneAddr → HasOnePrefix → (text : List ℕ) (a b : Line) → Says text a → Says text b → a ≡ b
 says_once once bytes addr prefix text a b (inl h) (inl k) = h.1 ∙ sym k.1
-says_once once bytes addr prefix text a b (inl h) (inr (inl k)) = absurd (fail_not_blank text k.0 h.0)
+says_once once bytes addr prefix text a b (inl h) (inr (inl k)) = absurd (alone_not_blank text k.value k.says h.0)
 says_once once bytes addr prefix text a b (inl h) (inr (inr k)) = absurd (not_blank text b k h.0)
-says_once once bytes addr prefix text a b (inr (inl h)) (inl k) = absurd (fail_not_blank text h.0 k.0)
-says_once once bytes addr prefix text a b (inr (inl h)) (inr (inl k)) = h.1 ∙ sym k.1
-says_once once bytes addr prefix text a b (inr (inl h)) (inr (inr k)) = absurd (parted_none IsWord SaysBehind text (fail_lacks text h.0) b k)
+says_once once bytes addr prefix text a b (inr (inl h)) (inl k) = absurd (alone_not_blank text h.value h.says k.0)
+says_once once bytes addr prefix text a b (inr (inl h)) (inr (inl k)) = means_once IsAlone line.Happens alone_once text a b h k
+says_once once bytes addr prefix text a b (inr (inl h)) (inr (inr k)) = absurd (parted_none IsWord SaysBehind text (alone_lacks text h.value h.says) b k)
 says_once once bytes addr prefix text a b (inr (inr h)) (inl k) = absurd (not_blank text a h k.0)
-says_once once bytes addr prefix text a b (inr (inr h)) (inr (inl k)) = absurd (parted_none IsWord SaysBehind text (fail_lacks text k.0) a h)
+says_once once bytes addr prefix text a b (inr (inr h)) (inr (inl k)) = absurd (parted_none IsWord SaysBehind text (alone_lacks text k.value k.says) a h)
 says_once once bytes addr prefix text a b (inr (inr h)) (inr (inr k)) = words_once once bytes addr prefix text a b h k

@@ -37,6 +37,7 @@ word_lacks word.FailRead = class_lacks is_visible 32 (codes "failread") refl ref
 word_lacks word.FailWrite = class_lacks is_visible 32 (codes "failwrite") refl refl
 word_lacks word.Dgram = class_lacks is_visible 32 (codes "dgram") refl refl
 word_lacks word.FailPort = class_lacks is_visible 32 (codes "failport") refl refl
+word_lacks word.Packet = class_lacks is_visible 32 (codes "packet") refl refl
 word_lacks word.Step = class_lacks is_visible 32 (codes "step") refl refl
 word_lacks word.Run = class_lacks is_visible 32 (codes "run") refl refl
 
@@ -70,7 +71,8 @@ word_by first second third fifth =
     else (if first == 116 then (if third == 120 then word.Text else word.Setting setting.Template)
     else (if first == 100 then (if second == 103 then word.Dgram else word.Setting setting.Deny)
     else (if first == 114 then (if second == 117 then word.Run else (if third == 111 then word.Room else word.Setting (setting_by first second third)))
-    else word.Setting (setting_by first second third))))))))
+    else (if first == 112 then (if second == 97 then word.Packet else word.Setting setting.Pool)
+    else word.Setting (setting_by first second third)))))))))
 
 abbrev word_of : List ℕ → Word
 word_of text = word_by (get_or text 0 0) (get_or text 1 0) (get_or text 2 0) (get_or text 4 0)
@@ -86,6 +88,7 @@ word_back word.FailRead = refl
 word_back word.FailWrite = refl
 word_back word.Dgram = refl
 word_back word.FailPort = refl
+word_back word.Packet = refl
 word_back word.Step = refl
 word_back word.Run = refl
 word_back (word.Setting setting.Workers) = refl
@@ -116,6 +119,7 @@ word_first word.FailRead rest = refl
 word_first word.FailWrite rest = refl
 word_first word.Dgram rest = refl
 word_first word.FailPort rest = refl
+word_first word.Packet rest = refl
 word_first word.Step rest = refl
 word_first word.Run rest = refl
 word_first (word.Setting setting.Workers) rest = refl

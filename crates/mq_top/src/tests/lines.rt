@@ -7,7 +7,7 @@ use std::alloc::{AllocError, Global};
 use std::test::Fail;
 
 /// Scripts that print nothing.
-const GOOD: [&[u8]; 26] = [
+const GOOD: [&[u8]; 28] = [
     b"workers 1\nconn 0\n",
     b"workers 4\nconn 3\nconn 0\n",
     b"workers 4\nworkers 1\nconn 0\n",
@@ -17,6 +17,8 @@ const GOOD: [&[u8]; 26] = [
     b"conn 0\nfill 0 61 99999 62\n",
     b"conn 0\ntext 0  !~\\\\\\r\\n\n",
     b"failbind\nfailbind\n",
+    b"failnet\nfailnet\n",
+    b"packet 1 00\npacket 1024 ff\n",
     b"run 1\n",
     b"run 1000000\n",
     b"mtu 1280\nmtu 65535\n",
@@ -37,7 +39,7 @@ const GOOD: [&[u8]; 26] = [
 ];
 
 /// Scripts of which one line is bad, and its number.
-const BAD: [(&[u8], &[u8]); 57] = [
+const BAD: [(&[u8], &[u8]); 64] = [
     (b"# said\n\nstep 1\n", b"3"),
     (b"bytes 0 00\nconn 0\n", b"1"),
     (b"conn 1\n", b"1"),
@@ -61,8 +63,15 @@ const BAD: [(&[u8], &[u8]); 57] = [
     (b"failport 0\n", b"1"),
     (b"conn 0\nfailport 0\n", b"2"),
     (b"failbind 0\n", b"1"),
-    (b"failnet\n", b"1"),
-    (b"packet 1 00\n", b"1"),
+    (b"failnet 0\n", b"1"),
+    (b"failnet \n", b"1"),
+    (b"packet\n", b"1"),
+    (b"packet 1\n", b"1"),
+    (b"packet 1 \n", b"1"),
+    (b"packet 1 0\n", b"1"),
+    (b"packet 0 00\n", b"1"),
+    (b"packet 1025 00\n", b"1"),
+    (b"packet 01 00\n", b"1"),
     (b"conn 0\nbytes 0 \n", b"2"),
     (b"conn 0\nbytes 0 0\n", b"2"),
     (b"conn 0\nbytes 0 AA\n", b"2"),

@@ -45,5 +45,8 @@ returns-in-Dgram c = let word = c.in-Dgram.is in rw word c.parse_dgram.ensures
 pub returns-in-FailPort : goal.returns-in-FailPort
 returns-in-FailPort c = let word = c.in-FailPort.is in rw word c.parse_fail_port.ensures
 
+pub returns-in-Packet : goal.returns-in-Packet
+returns-in-Packet c = let word = c.in-Packet.is in rw word c.parse_packets.ensures
+
 pub returns-in-Run : goal.returns-in-Run
 returns-in-Run c = let word = c.in-Run.is in rw word c.parse_run.ensures

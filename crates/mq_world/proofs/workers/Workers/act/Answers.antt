@@ -1,12 +1,11 @@
 use Rattle.std.proofs.Common.{suc, ◌<◌, length, Ok, sym, subst, arith}
 use Rattle.std.proofs.lemmas.Bool.{lt-leb, lt-ltb}
 use Rattle.mq_machine.specs.declared.event.Event.TheVariants.{Step}
-use Rattle.mq_machine.specs.Turn.{ThePump}
+use Rattle.mq_machine.specs.Turn.{WorkerOf, ThePump}
 use Rattle.mq_world.specs.declared.stepped.Stepped.{Stepped}
 use Rattle.mq_world.specs.Worlds.{IsWorld, StepGives}
-use Rattle.mq_world.proofs.Answering.{pump_gives, worker_gives}
+use Rattle.mq_world.proofs.Answering.{actor_gives, pump_at, worker_at}
 use Rattle.mq_world.proofs.Offered.{workers_long}
-use Rattle.mq_world.proofs.Quieting.{pump_quiet}
 use Rattle.mq_world.proofs.workers.Workers.act.Goals as goal
 
 pub returns-then-actor-count : goal.returns-then-actor-count
@@ -17,11 +16,13 @@ returns-then-actor-count c = λ s is.
 
 pub returns-then-actor-count-2 : goal.returns-then-actor-count-2
 returns-then-actor-count-2 c = λ s is.
+    let took = c.pump.ensures s is in
     let count = c.count-count.ensures s is in
     let same = c.if-actor-count-2.true in
     let none = lt-leb (suc c.args.actor) (length s.workers) (omega (arith, same, count)) in
     let there = lt-leb (suc (length s.workers)) c.args.actor (omega (arith, same, count)) in
-    (ThePump, pump_gives c.args.self.now s is c.args.actor none there, pump_quiet c.args.self.now s is, is)
+    subst (λ (x : Stepped). StepGives (IsWorld c.pump.new.self) s (Step c.args.actor) (Ok x)) (sym c.stepped.ensures)
+    (actor_gives (IsWorld c.pump.new.self) s c.args.actor ThePump c.pump.result took.0 (pump_at s c.args.actor none) there took.2 took.1)
 
 pub step-requires-clause-number : goal.step-requires-clause-number
 step-requires-clause-number c =
@@ -35,5 +36,5 @@ returns c = λ s is.
     let count = c.count-count.ensures s is in
     let less : c.args.actor < length s.workers = omega (arith, c.if-actor-count.false, c.if-actor-count-2.false, count) in
     let there = lt-leb (suc (length s.workers)) c.args.actor (omega (arith, less)) in
-    subst (λ (x : Stepped). StepGives (IsWorld c.step.new.self) s (Step c.args.actor) (Ok x)) (sym c.stepped.ensures)
-    (worker_gives (IsWorld c.step.new.self) s c.args.actor c.step.result took.0 (lt-ltb c.args.actor (length s.workers) less) there took.2 took.1)
+    subst (λ (x : Stepped). StepGives (IsWorld c.step.new.self) s (Step c.args.actor) (Ok x)) (sym c.stepped-2.ensures)
+    (actor_gives (IsWorld c.step.new.self) s c.args.actor (WorkerOf c.args.actor) c.step.result took.0 (worker_at s c.args.actor (lt-ltb c.args.actor (length s.workers) less)) there took.2 took.1)

@@ -1,6 +1,6 @@
-use Rattle.std.proofs.Common.{◌≡◌, ℕ, ◌<◌, not, length, ap, subst, ◌∙◌, arith}
+use Rattle.std.proofs.Common.{◌≡◌, ℕ, ◌<◌, not, length, sym, ap, subst, ◌∙◌, arith}
 use Rattle.mq_world.proofs.Offered.{workers_long}
-use Rattle.mq_world.proofs.Quieting.{NoneBefore, worker_quiet, one_quiet, some_acts, none_acts}
+use Rattle.mq_world.proofs.Quieting.{NoneBefore, worker_quiet, one_quiet, some_acts, pump_alone}
 use Rattle.mq_world.proofs.Stepping.{read_at}
 use Rattle.mq_world.proofs.workers.Workers.are_quiet.Goals as goal
 
@@ -28,4 +28,4 @@ returns c = λ s is.
     let old = c.args.self.now in
     let long = workers_long old s is in
     let end : c.loop-number.number ≡ length s.workers = omega (arith, c.loop-number-test.false, c.loop-number.auto.number-end, c.len-number-end.ensures, long) in
-    none_acts old s is (subst (λ (n : ℕ). NoneBefore s n) end (c.loop-number.invariant s is))
+    c.pump_is_quiet.ensures s is ∙ ap not (sym (pump_alone s (subst (λ (n : ℕ). NoneBefore s n) end (c.loop-number.invariant s is))))

@@ -10,6 +10,7 @@ returns c = λ s is. record {
   count = is.count;
   few = is.few;
   boxes = is.boxes;
-  pump = record { push = is.pump.push; send = is.pump.send; arrived = is.pump.arrived; box = is.pump.box };
+  config = is.config;
+  pump = is.pump;
   offered = is.offered;
 }

@@ -1,10 +1,12 @@
-use Rattle.std.proofs.Common.{◌≡◌, ℕ, ◌+◌, ◌<◌, false, length, refl, sym, ap, subst, ◌∙◌, arith}
+use Rattle.std.proofs.Common.{◌≡◌, ℕ, ◌+◌, ◌<◌, false, List, length, refl, sym, ap, subst, ◌∙◌, arith}
+use Rattle.mq_addr.specs.declared.addr.Addr.{Addr}
 use Rattle.mq_talk.specs.Offices.{Seen}
 use Rattle.mq_machine.specs.declared.setup.Setup.{Setup}
 use Rattle.mq_machine.specs.State.{new_worker}
 use Rattle.mq_mem.specs.Offices.{seen_of}
 use Rattle.mq_mem.specs.Ports.{Ports as PortsOf}
 use Rattle.mq_mem.proofs.Boxes.{length_empty}
+use Rattle.mq_net.specs.Sims.{new_sim}
 use Rattle.mq_actor.specs.Holds.{IsWorker}
 use Rattle.mq_plain.specs.Served.{words, Plain}
 use Rattle.mq_plain.proofs.Begun.{begins}
@@ -29,4 +31,6 @@ loop-number-preserved c =
 pub returns : goal.returns
 returns c =
     let end : c.loop-number.number ≡ c.args.plan.workers = omega (arith, c.loop-number-test.false, c.loop-number.auto.number-end) in
-    stands_new c.args.plan _ c.loop-number.number c.requires c.new-2.ensures.items c.in_ok-office.ensures c.in_ok-mail.ensures refl end c.loop-number.invariant
+    let pump = c.in_ok-pump.ensures in
+    stands_new c.args.plan _ c.loop-number.number c.requires c.new-4.ensures.items c.in_ok-office.ensures c.in_ok-mail.ensures refl end
+    (pump.is.0 ∙ c.in_ok-net.ensures ∙ ap (λ (hosts : List Addr). new_sim hosts) c.as_slice.ensures) pump.is.1 pump.stands c.loop-number.invariant
