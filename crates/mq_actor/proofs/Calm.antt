@@ -3,8 +3,10 @@
 use Rattle.std.proofs.Common.{◌≡◌, ◌⊎◌, inl, inr, ℕ, zero, suc, ◌+◌, ◌<◌, ◌≤◌, List, [], ◌∷◌, ◌++◌, map, length, slice_get, slice_set, Option, Some}
 use Rattle.std.proofs.Common.{All, append-nil, refl, sym, ap, subst, ◌∙◌, arith, true, false}
 use Rattle.std.proofs.lemmas.Bool.{cases_lt, lt-ltb}
+use Rattle.std.proofs.lemmas.List.{map-set}
 use Rattle.std.proofs.lemmas.List.Elements.{All-push}
 use Rattle.mq_addr.specs.declared.kind.Kind.TheVariants as kind
+use Rattle.mq_talk.specs.declared.book.Entry.{Entry}
 use Rattle.mq_talk.specs.declared.note.Note.{Note}
 use Rattle.mq_talk.specs.declared.note.Note.TheVariants as note
 use Rattle.mq_talk.specs.declared.place.Parcel.{Parcel}
@@ -12,37 +14,41 @@ use Rattle.mq_talk.specs.Mails.{Boxes, IsTold, PopGives}
 use Rattle.mq_talk.specs.Offices.{Seen, IsSame}
 use Rattle.mq_machine.specs.State.{Conn, new_conn, new_link, Port, Offer, Held, Worker, Orders, Shared}
 use Rattle.mq_machine.specs.Want.{Said}
-use Rattle.mq_machine.specs.Turn.{Seat, Offers, Inbox, most_live, can_act, turn_of, accepted, InboxNext}
+use Rattle.mq_machine.specs.Turn.{Seat, Offers, Inbox, most_live, can_act, turn_of, accepted, replace, InboxNext}
 use Rattle.mq_machine.specs.Acting.{Outside, ConnsTold, OffersTold, PortsTold, HasTold, FaultsFit, Known, Meets, Binder, Writes}
 use Rattle.mq_machine.specs.Acting.{StepDone, StepQuiet, StepSilent}
 use Rattle.mq_conn.specs.Conns.{IsConn}
 use Rattle.mq_held.specs.declared.held.Held.{Held as HeldBy}
 use Rattle.mq_step.specs.Rooms.{HasRooms}
 use Rattle.mq_step.specs.Holds.{IsHeld}
-use Rattle.mq_step.specs.Sights.{idle, idle_port}
-use Rattle.mq_step.proofs.Cores.{udp_tunnels}
+use Rattle.mq_step.specs.Sights.{idle}
 use Rattle.mq_step.proofs.Receiving.{idle_faults}
 use Rattle.mq_step.proofs.Standing.{new_stands}
 use Rattle.mq_step.proofs.Wanting.{sees_same}
 use Rattle.mq_actor.specs.declared.offer.Offer.{Offer as OfferBy}
 use Rattle.mq_actor.specs.declared.ring.Ring.{Ring}
+use Rattle.mq_actor.specs.Goes.{shapes_of}
 use Rattle.mq_actor.specs.Holds.{AreHeld, AreOffered, AreDistinct, HaveOwnPorts, IsWorker, numbers_of}
 use Rattle.mq_actor.specs.Passing.{Tried, TellsSame, PassedOver}
 use Rattle.mq_actor.specs.Seats.{OffersWait, Accepts, Takes}
 use Rattle.mq_actor.specs.Seen.{Words, Moment, SeesConn, SeesOffer, SeesRing}
 use Rattle.mq_actor.specs.Steps.{sight}
 use Rattle.mq_actor.proofs.Between.{get_append, get_last, held_refilled, offered_at, offered_none, sees_at, apart_of}
-use Rattle.mq_actor.proofs.Helds.{at_held, held_length, held_pushed}
+use Rattle.mq_actor.proofs.Helds.{held_at, held_length, held_pushed}
 use Rattle.mq_actor.proofs.Between.{numbers_passed, told_so_far, over_so_far, offers_so_far, vain_so_far}
 use Rattle.mq_actor.proofs.Cores.{AreApart, cores_of}
 use Rattle.mq_actor.proofs.InRing.{Precedes, at_all, all_at}
-use Rattle.mq_actor.proofs.Lists.{map_get}
-use Rattle.mq_actor.proofs.Others.{set_length, popped_none, AreForUdp, none_for_ip, cores_refilled, cores_pushed, told_refilled, told_pushed}
+use Rattle.mq_actor.proofs.Lefts.{AllFine, all_fine, numbers_set}
+use Rattle.mq_actor.proofs.Lists.{apart_map, found_at, map_get, replace_sets}
+use Rattle.mq_actor.proofs.Neighbours.{Fine}
+use Rattle.mq_actor.proofs.Others.{set_length, cores_refilled, cores_pushed, told_refilled, told_pushed}
 use Rattle.mq_actor.proofs.Others.{was_box, boxes_told, relinked, ports_pushed, numbers_moved, offered_first, offered_refilled}
+use Rattle.mq_actor.proofs.Parcels.{Becomes, Came, One, came, now_at, number_like, own_ports_like, seen_like}
 use Rattle.mq_actor.proofs.Passings.{held_passed}
+use Rattle.mq_actor.proofs.Pointwise.{Pointwise, pointwise_set, within}
 use Rattle.mq_actor.proofs.Refilled.{refill, refilled, reoffered, refills, conns_told, offers_told, faults_refilled}
 use Rattle.mq_actor.proofs.SoFar.{Vain, SoFar, Covers}
-use Rattle.mq_actor.proofs.Tunnels.{known_same, known_accepted}
+use Rattle.mq_actor.proofs.Tunnels.{known_same, known_accepted, known_goes}
 use Rattle.mq_actor.proofs.Writing.{writes_nothing}
 use Rattle.mq_actor.proofs.Turning.{turn_is, no_turn, before_waited, offers_can, all_waited}
 
@@ -80,13 +86,15 @@ module _ {L Q : Type 0} (words : Words L Q) (r m s : Ring L) (old mid : Moment L
   tells_same seen i h at =
       told_so_far words r m old mid boxes boxes_now count tried offers_tried inbox_tried so o n sees x is i h at (λ g at_g. seen i g at_g)
 
-  told_now : SeenNow → ConnsTold n now.conns
-  told_now seen = conns_told n now.conns (λ i h at. one i h (map_get (refilled o 0 idle) x.conns i h at)) where
-    one : (i : ℕ) (h : Held) → (y : Held) × (slice_get x.conns i ≡ Some y) × (h ≡ refilled o 0 idle y)
-        → IsTold (n.link h.conn.number) h.link × PortsTold n h.ports
-    one i h (y, at, e) =
+  told_at : SeenNow → (i : ℕ) (h : Held) → slice_get now.conns i ≡ Some h → IsTold (n.link h.conn.number) h.link × PortsTold n h.ports
+  told_at seen i h at_h = one (map_get (refilled o 0 idle) x.conns i h at_h) where
+    one : (y : Held) × (slice_get x.conns i ≡ Some y) × (h ≡ refilled o 0 idle y) → IsTold (n.link h.conn.number) h.link × PortsTold n h.ports
+    one (y, at, e) =
         let P : Held → Type 0 = λ z. IsTold (n.link z.conn.number) z.link × PortsTold n z.ports in
         subst P (sym e) (told_refilled o n 0 y (tells_same seen i y at))
+
+  told_now : SeenNow → ConnsTold n now.conns
+  told_now seen = conns_told n now.conns (λ i h at. told_at seen i h at)
 
   -- an offered link tells what it told
   offer_same : s.offered ≡ r.offered → (i : ℕ) (f : Offer) → slice_get x.offered i ≡ Some f → n.link f.number ≡ o.link f.number
@@ -317,11 +325,6 @@ module _ {L Q : Type 0} (words : Words L Q) (r m s : Ring L) (old mid : Moment L
 
   -- ---- a packet came through the inbox
 
-  udp_now_all : All AreForUdp now.conns
-  udp_now_all = all_at AreForUdp now.conns (λ i h at. one i h (at_held words.most mid.table m.conns.items now.conns i h held_now at)) where
-    one : (i : ℕ) (h : Held) → (g : HeldBy L) × (slice_get m.conns.items i ≡ Some g) × IsHeld words.most mid.table g h → AreForUdp h
-    one i h (g, at, stands) = udp_tunnels g.conn h.conn stands.conn
-
   not_before : (from : ℕ) → Precedes from 1 Inbox 1 Inbox → ⊥
   not_before from (inl (le, less)) = omega (arith, le, less)
   not_before from (inr (inl (late, later, less))) = omega (arith, less)
@@ -332,17 +335,142 @@ module _ {L Q : Type 0} (words : Words L Q) (r m s : Ring L) (old mid : Moment L
       let v = vain 1 Inbox covers seen in
       record { offers = v.offers; inbox = λ before. absurd (not_before x.next_seat before); conns = v.conns }
 
-  -- The parcel in front of the inbox was taken, and dropped, since no tunnel here takes packets. The inbox wasn't tried before.
-  pub taken_gives : (orders : Orders) (said : Note) (boxes_after : Option Boxes) → boxes_now ≡ boxes → Covers r.next_seat tried offers_tried inbox_tried 1 Inbox
-      → Takes count boxes_now r.id m s said boxes_after
+  apart_now : AreApart now.conns
+  apart_now = apart_map (refilled o 0 idle) (λ h. refl) x.conns apart
+
+  -- each connection is fine
+  fine_now : SeenNow → Pointwise (Fine words.most mid.table n x.id) m.conns.items now.conns
+  fine_now seen = record {
+    size = held_length words.most mid.table m.conns.items now.conns held_now;
+    at = λ i g u at_g at_u. one i g u at_u (held_at words.most mid.table m.conns.items now.conns i g held_now at_g);
+  } where
+    one : (i : ℕ) (g : HeldBy L) (u : Held) → slice_get now.conns i ≡ Some u → (h : Held) × (slice_get now.conns i ≡ Some h) × IsHeld words.most mid.table g h
+        → Fine words.most mid.table n x.id g u
+    one i g u at_u (h, at_h, stands) =
+        let both : Some h ≡ Some u = sym at_h ∙ at_u in
+        let e : h ≡ u = cc in
+        let P : Held → Type 0 = λ z. IsHeld words.most mid.table g z in
+        let told = told_at seen i u at_u in
+        record { stands = subst P e stands; link = told.0; ports = told.1; actor = at_all (λ (z : Held). z.conn.actor ≡ x.id) now.conns actors_now i u at_u }
+
+  -- what is known of the connections that the ring has now, and of those that the worker has then
+  record Taken (us : List Held) : Type 0 where
+    pub seen : SeenNow
+    pub fine : AllFine words.most mid.table n x.id s.conns.items us
+    pub ports : HaveOwnPorts s.conns.items
+    pub numbers : AreDistinct (numbers_of s.conns.items r.offered.items)
+    pub knows : (after : Option Boxes) (c : Boxes) → IsTold after c → length c ≡ count → Known (sight n mid.seen after) (record now { conns = us; next_seat = 2 })
+
+  taken_none : (us : List Held) → s.conns.items ≡ m.conns.items → us ≡ now.conns → Taken us
+  taken_none us items conns =
+      let T : List Held → Type 0 = λ hs. Taken hs in
+      let F : List (HeldBy L) → Type 0 = λ hs. AllFine words.most mid.table n x.id hs now.conns in
+      let O : List (HeldBy L) → Type 0 = λ hs. HaveOwnPorts hs in
+      let N : List (HeldBy L) → Type 0 = λ hs. AreDistinct (numbers_of hs r.offered.items) in
+      subst T (sym conns) (record {
+        seen = seen_same items;
+        fine = subst F (sym items) (all_fine words.most mid.table n x.id m.conns.items now.conns (fine_now (seen_same items)));
+        ports = subst O (sym items) own;
+        numbers = subst N (sym items) (subst AreDistinct (sym (numbers_now r.offered.items)) is.numbers);
+        knows = known_now 2;
+      })
+
+  module _ (mine : old.seen.actor ≡ r.id) (us : List Held) (one : One words.most mid.table m.conns.items s.conns.items now held_now apart_now us) where
+    abbrev became : Held
+    became = record one.h { conn = one.c }
+
+    number_is : one.c.number ≡ one.h.conn.number
+    number_is = ap (λ (z : Conn). z.number) one.brings.rest
+
+    seen_one : SeenNow
+    seen_one i g at_g =
+        let P : List (HeldBy L) → Type 0 = λ hs. slice_get hs i ≡ Some g in
+        let a = now_at m.conns.items one.place one.was one.now one.at_was one.rest i g (subst P at_conns at_g) in
+        let Q : List (HeldBy L) → Type 0 = λ hs. slice_get hs i ≡ Some a.0 in
+        seen_like words mid.table n a.0 g a.2 (sees_at words mid.table mid.binds s n i a.0 sees_now (subst Q (sym one.items) a.1))
+
+    fine_one : Fine words.most mid.table n x.id one.now became
+    fine_one =
+        let was = (fine_now seen_one).at one.place one.was one.h one.at_was one.at_is in
+        let T : ℕ → Type 0 = λ k. IsTold (n.link k) one.h.link in
+        record {
+          stands = one.stands;
+          link = subst T (sym number_is) was.link;
+          ports = was.ports;
+          actor = ap (λ (z : Conn). z.actor) one.brings.rest ∙ was.actor;
+        }
+
+    fine_all : AllFine words.most mid.table n x.id (slice_set m.conns.items one.place one.now) (slice_set now.conns one.place became)
+    fine_all =
+        let all = fine_now seen_one in
+        all_fine words.most mid.table n x.id (slice_set m.conns.items one.place one.now) (slice_set now.conns one.place became)
+        (pointwise_set (Fine words.most mid.table n x.id) one.place m.conns.items now.conns one.now became
+        (record { size = all.size; at = λ i g u ne at_g at_u. all.at i g u at_g at_u }) fine_one (within m.conns.items one.place one.was one.at_was))
+
+    numbers_one : AreDistinct (numbers_of (slice_set m.conns.items one.place one.now) r.offered.items)
+    numbers_one =
+        numbers_set m.conns.items r.offered.items one.place one.was one.now one.at_was (number_like m.conns.items one.place one.was one.now one.at_was one.rest)
+        (subst AreDistinct (sym (numbers_now r.offered.items)) is.numbers)
+
+    -- the tunnels that the office knows are those that it knew
+    knows_one : (after : Option Boxes) (c : Boxes) → IsTold after c → length c ≡ count
+        → Known (sight n mid.seen after) (record now { conns = slice_set now.conns one.place became; next_seat = 2 })
+    knows_one after c tells size = by_held (map_get (refilled o 0 idle) x.conns one.place one.h one.at_is) where
+      seen_are : mid.seen.entries ≡ old.seen.entries
+      seen_are = ap (λ (z : Seen). z.entries) so.passed.seen
+
+      sh : Shared
+      sh = shared (record { bind = false }) c
+
+      by_held : (y : Held) × (slice_get x.conns one.place ≡ Some y) × (one.h ≡ refilled o 0 idle y)
+          → Known (sight n mid.seen after) (record now { conns = slice_set now.conns one.place became; next_seat = 2 })
+      by_held (y, at_y, h_is) =
+          let core : one.h.conn ≡ y.conn = ap (λ (z : Held). z.conn) h_is in
+          let cores : cores_of (slice_set now.conns one.place became) ≡ cores_of (replace y.conn.number (Some became) x.conns) =
+          map-set (λ (h : Held). h.conn) now.conns one.place became
+          ∙ ap (λ (cs : List Conn). slice_set cs one.place one.c) (cores_refilled o 0 idle x.conns)
+          ∙ sym (map-set (λ (h : Held). h.conn) x.conns one.place became)
+          ∙ ap (λ (hs : List Held). cores_of hs) (sym (replace_sets x.conns one.place y became apart at_y)) in
+          let last : y.conn.next_tunnel ≤ length old.seen.entries = at_all (λ (h : Held). h.conn.next_tunnel ≤ length old.seen.entries) x.conns known.last one.place y at_y in
+          let next : one.c.next_tunnel ≡ y.conn.next_tunnel = ap (λ (z : Conn). z.next_tunnel) one.brings.rest ∙ ap (λ (z : Conn). z.next_tunnel) core in
+          let long : length mid.seen.entries ≡ length old.seen.entries = ap (λ (b : List Entry). length b) seen_are in
+          known_goes (sight o old.seen boxes) (sight n mid.seen after) x (record now { conns = slice_set now.conns one.place became; next_seat = 2 }) y.conn.number y (Some became)
+          sh sh known (mine ∙ sym is.id) apart (record { at = found_at x.conns one.place y apart at_y; id = refl; setup = refl; cores = cores })
+          (λ g some.
+          let e : became ≡ g = cc in
+          let P : Held → Type 0 = λ z. (z.conn.number ≡ y.conn.number) × (z.conn.next_tunnel ≤ length mid.seen.entries) in
+          subst P e (number_is ∙ ap (λ (z : Conn). z.number) core, omega (arith, last, next, long)))
+          (at_all (λ (h : Held). h.conn.actor ≡ x.id) x.conns is.actors one.place y at_y) (sees_same old.seen) seen_are same_seen.config
+          (inl (record { tunnels_are = one.brings.shapes ∙ ap (λ (z : Conn). shapes_of z.tunnels) core; book = refl })) (sized after c tells size)
+
+    taken_one : Taken us
+    taken_one =
+        let T : List Held → Type 0 = λ hs. Taken hs in
+        let F : List (HeldBy L) → Type 0 = λ hs. AllFine words.most mid.table n x.id hs (slice_set now.conns one.place became) in
+        let O : List (HeldBy L) → Type 0 = λ hs. HaveOwnPorts hs in
+        let N : List (HeldBy L) → Type 0 = λ hs. AreDistinct (numbers_of hs r.offered.items) in
+        subst T (sym one.conns) (record {
+          seen = seen_one;
+          fine = subst F (sym one.items) fine_all;
+          ports = subst O (sym one.items) (own_ports_like m.conns.items one.place one.was one.now one.at_was one.rest own);
+          numbers = subst N (sym one.items) numbers_one;
+          knows = knows_one;
+        })
+
+  taken_by : old.seen.actor ≡ r.id → (us : List Held) → Becomes words.most mid.table m.conns.items s.conns.items now held_now apart_now us → Taken us
+  taken_by mine us (inl (items, conns)) = taken_none us items conns
+  taken_by mine us (inr one) = taken_one mine us one
+
+  -- The parcel in front of the inbox was taken, and came to its tunnel, or was dropped. The inbox wasn't tried before.
+  pub taken_gives : (orders : Orders) (said : Note) (boxes_after : Option Boxes) → old.seen.actor ≡ r.id → boxes_now ≡ boxes
+      → Covers r.next_seat tried offers_tried inbox_tried 1 Inbox → Takes count boxes_now r.id m s said boxes_after
       → (t : Worker) × IsWorker words.most mid.table s t × HasTold n t × Known (sight n mid.seen boxes_after) t × Writes old.seen mid.seen x.id
       × StepDone orders (sight o old.seen boxes) (sight n mid.seen boxes_after) x said t
-  taken_gives orders said boxes_after same covers takes = (
-    became,
-    worker_now 2 (ap (λ (q : Ring L). q.id) takes.rest) (ap (λ (q : Ring L). q.setup) takes.rest) offered conns
-        (ap (λ (q : Ring L). q.rooms) takes.rest) (ap (λ (q : Ring L). q.next_seat) takes.rest),
-    told_all conns offered,
-    known_now 2 boxes_after p.after p.is size,
+  taken_gives orders said boxes_after mine same covers takes = (
+    became_then,
+    worker,
+    (taken.fine.told, offers_same offered),
+    taken.knows boxes_after p.after p.is size,
     nothing_written,
     record {
       now = now;
@@ -358,11 +486,20 @@ module _ {L Q : Type 0} (words : Words L Q) (r m s : Ring L) (old mid : Moment L
       waited = before_waited o n x box 0 idle 1 Inbox apart refl (λ i h at found. inr refl) can_here vain_here;
       faults = faults;
       binds = held_back;
-      became = became;
+      became = became_then;
       next = (refl, takes_out);
       is = refl;
     },
   ) where
+    c : Came words.most mid.table m.conns.items s.conns.items now held_now apart_now takes.parcel said
+    c = came words.most mid.table m.conns.items s.conns.items now held_now apart_now takes.parcel said takes.comes
+
+    taken : Taken c.us
+    taken = taken_by mine c.us c.becomes
+
+    became_then : Worker
+    became_then = record now { conns = c.us; next_seat = 2 }
+
     p : PopGives count boxes_now r.id (Some takes.parcel) boxes_after
     p = takes.pops
 
@@ -372,14 +509,8 @@ module _ {L Q : Type 0} (words : Words L Q) (r m s : Ring L) (old mid : Moment L
     box : List Parcel
     box = takes.parcel ∷ rest
 
-    became : Worker
-    became = record now { next_seat = 2 }
-
     told : IsTold boxes p.before
     told = let P : Option Boxes → Type 0 = λ bs. IsTold bs p.before in subst P same p.was
-
-    conns : s.conns.items ≡ m.conns.items
-    conns = ap (λ (q : Ring L). q.conns.items) takes.rest
 
     offered : s.offered ≡ r.offered
     offered = ap (λ (q : Ring L). q.offered) takes.rest ∙ ap (λ (q : Ring L). q.offered) so.ring
@@ -391,16 +522,35 @@ module _ {L Q : Type 0} (words : Words L Q) (r m s : Ring L) (old mid : Moment L
     can_here = lt-ltb 0 (length box) (omega arith)
 
     vain_here : Vain o n x box 1 Inbox
-    vain_here = vain_inbox box (seen_same conns) covers
+    vain_here = vain_inbox box taken.seen covers
 
-    takes_out : InboxNext now (shared orders p.before) said became (shared orders p.after)
+    worker : IsWorker words.most mid.table s became_then
+    worker =
+        let offers : s.offered.items ≡ r.offered.items = ap (λ q. q.items) offered in
+        let setup : s.setup ≡ m.setup = ap (λ (q : Ring L). q.setup) takes.rest in
+        let O : List (OfferBy L) → Type 0 = λ gs. AreOffered gs now.offered in
+        let N : List (OfferBy L) → Type 0 = λ gs. AreDistinct (numbers_of s.conns.items gs) in
+        record {
+          id = sym id_now ∙ ap (λ (q : Ring L). q.id) (sym takes.rest);
+          setup = sym setup_now ∙ sym setup;
+          offered = subst O (sym offers) (offered_refilled o r.offered.items x.offered is.offered);
+          conns = taken.fine.held;
+          next = ap (λ (q : Ring L). q.next_seat) (sym takes.rest);
+          actors = taken.fine.actors;
+          udp = ap (λ z. z.udp.kind) setup ∙ udp_now;
+          rooms = subst HasRooms (ap (λ (q : Ring L). q.rooms) (sym takes.rest)) rooms;
+          ports = taken.ports;
+          numbers = subst N (sym offers) taken.numbers;
+        }
+
+    takes_out : InboxNext now (shared orders p.before) said became_then (shared orders p.after)
     takes_out =
         let P : ℕ → Type 0 = λ k. slice_get p.before k ≡ Some (takes.parcel ∷ rest) in
         record {
           parcel = takes.parcel;
           rest = rest;
           box = subst P (sym is.id) p.does.1;
-          is = popped_none now takes.parcel (none_for_ip now takes.parcel.to udp_now_all) ∙ ap (λ (k : Note). (k, became)) (sym takes.said_is);
+          is = c.popped_is;
           after_is = ap (shared orders) (p.does.2 ∙ ap (λ (k : ℕ). slice_set p.before k rest) (sym is.id));
         }
 

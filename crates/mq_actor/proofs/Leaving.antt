@@ -1,7 +1,9 @@
 -- What leaves the ring at each turn.
-use Rattle.std.proofs.Common.{◌≡◌, ℕ, zero, suc, Bool, List, [], ◌∷◌, ◌++◌, map, remove, slice_get, slice_set, Option, Some, None, MatchOption, Result, Ok, Err, sym, ap, subst, ◌∙◌}
+use Rattle.std.proofs.Common.{◌≡◌, inl, inr, ℕ, zero, suc, Bool, List, [], ◌∷◌, ◌++◌, map, remove, slice_get, slice_set, Option, Some, None, MatchOption, Result, Ok, Err, sym, ap, subst, ◌∙◌}
 use Rattle.mq_wire.specs.declared.NoMemory.{NoMemory}
 use Rattle.mq_talk.specs.declared.note.Note.{Note}
+use Rattle.mq_talk.specs.declared.place.Place.{Place}
+use Rattle.mq_talk.specs.declared.place.Place.TheVariants as place
 use Rattle.mq_talk.specs.Mails.{Boxes}
 use Rattle.mq_held.specs.declared.held.Held.{Held as HeldBy}
 use Rattle.mq_step.specs.declared.stepped.Stepped.{Stepped}
@@ -11,7 +13,7 @@ use Rattle.mq_actor.specs.Ended.{conn_numbers, offer_numbers, numbers_in, LeftAl
 use Rattle.mq_actor.specs.declared.offer.Offer.{Offer as OfferBy}
 use Rattle.mq_actor.specs.Holds.{numbers_of}
 use Rattle.mq_actor.specs.Passing.{Stopped, PassGives, LeavesRing}
-use Rattle.mq_actor.specs.Seats.{AcceptGives, InboxGives}
+use Rattle.mq_actor.specs.Seats.{AcceptGives, ComesTo, InboxGives}
 use Rattle.mq_actor.specs.Seen.{Words, Moment}
 use Rattle.mq_actor.proofs.Between.{numbers_passed}
 use Rattle.mq_actor.proofs.Lists.{get_map, map_remove}
@@ -88,9 +90,15 @@ pop_left {L} conns offers count old new id upper r s said gives all =
     let t = gives.1 in
     all_left conns offers s (record {
       none = ap (λ (z : Ring L). z.ended) t.rest ∙ all.none;
-      numbers = ap (λ (z : Ring L). conn_numbers z) t.rest ∙ all.numbers;
+      numbers = by_place t.parcel.to t.comes ∙ all.numbers;
       offered = ap (λ (z : Ring L). offer_numbers z) t.rest ∙ all.offered;
-    })
+    }) where
+      by_place : (to : Place) → ComesTo to gives.1.parcel r.conns.items s.conns.items said → conn_numbers s ≡ conn_numbers r
+      by_place place.Net misses = ap (λ (hs : List (HeldBy L)). numbers_of_all hs) misses.conns
+      by_place (place.Tunnel tunnel actor) (inl (none, misses)) = ap (λ (hs : List (HeldBy L)). numbers_of_all hs) misses.conns
+      by_place (place.Tunnel tunnel actor) (inr c) =
+          ap (λ (hs : List (HeldBy L)). numbers_of_all hs) c.conns
+          ∙ set_same r.conns.items c.place c.was c.now c.first.at (ap (λ (z : HeldBy L). z.number) c.rest)
 
 -- ---- the connections
 

@@ -32,6 +32,8 @@ pub mod Turns
 pub mod Passes
 pub mod Stages
 pub mod Kept
+mod Brought
+pub mod Parcels
 pub mod Calm
 pub mod Others
 pub mod Coming

@@ -1,18 +1,12 @@
 -- What the offered links, the inbox and connections beside them come to.
-use Rattle.std.proofs.Common.{◌≡◌, ◌≢◌, inl, inr, ◌⊎◌, ℕ, zero, suc, ◌==◌, Bool, true, false, cond, List, [], ◌∷◌, ◌++◌, map, All, slice_get, slice_set}
-use Rattle.std.proofs.Common.{length, find, Option, Some, None, MatchOption, refl, sym, ap, subst, ◌∙◌}
+use Rattle.std.proofs.Common.{◌≡◌, ◌≢◌, inl, inr, ◌⊎◌, ℕ, zero, suc, ◌==◌, Bool, true, false, List, [], ◌∷◌, ◌++◌, map, All, slice_get, slice_set}
+use Rattle.std.proofs.Common.{length, Option, Some, None, MatchOption, refl, sym, ap, subst, ◌∙◌}
 use Rattle.std.specs.Prelude.{⊤, if◌then◌else◌}
-use Rattle.std.proofs.lemmas.List.Elements.{All-head, All-tail, All-nil}
+use Rattle.std.proofs.lemmas.List.Elements.{All-nil}
 use Rattle.slab.specs.Slab.{Slab}
-use Rattle.mq_addr.specs.declared.kind.Kind.TheVariants as kind
-use Rattle.mq_talk.specs.declared.note.Note.TheVariants as note
-use Rattle.mq_talk.specs.declared.place.Cause.TheVariants as cause
 use Rattle.mq_talk.specs.declared.place.Parcel.{Parcel}
-use Rattle.mq_talk.specs.declared.place.Place.{Place}
-use Rattle.mq_talk.specs.declared.place.Place.TheVariants as place
 use Rattle.mq_talk.specs.Mails.{Boxes, IsTold}
-use Rattle.mq_machine.specs.State.{Conn, Tunnel, Link, Offer, Held, Worker, kind_of, tunnel_of}
-use Rattle.mq_machine.specs.Turn.{has_tunnel, tunnel_in, popped, source_of}
+use Rattle.mq_machine.specs.State.{Conn, Link, Offer, Held}
 use Rattle.mq_machine.specs.Acting.{Outside, PortsTold, ConnsTold, WasInbox}
 use Rattle.mq_held.specs.declared.held.Held.{Held as HeldBy}
 use Rattle.mq_held.specs.declared.held.PortSeat.{PortSeat}
@@ -29,51 +23,12 @@ use Rattle.mq_actor.proofs.Refilled.{refilled, reoffered, told_idle}
 
 -- ---- lists
 
-found_in : {A : Type 0} (P : A → Type 0) (b : Bool) (y x : A) (rest : Option A) → cond b (Some y) rest ≡ Some x → P y → (rest ≡ Some x → P x) → P x
-found_in P true y x rest is here later = let e : y ≡ x = cc in subst P e here
-found_in P false y x rest is here later = later is
-
--- what holds of all holds of what is found
-pub found_holds : {A : Type 0} (P : A → Type 0) (p : A → Bool) (xs : List A) (x : A) → All P xs → find p xs ≡ Some x → P x
-found_holds P p [] x all is = absurd cc
-found_holds P p (y ∷ xs) x all is = found_in P (p y) y x (find p xs) is (All-head P y xs all) (found_holds P p xs x (All-tail P y xs all))
-
 -- a list in which one element was set is as long
 pub set_length : {A : Type 0} (xs : List A) (i : ℕ) (x : A) → length (slice_set xs i x) ≡ length xs
 set_length [] zero x = refl
 set_length [] (suc i) x = refl
 set_length (y ∷ xs) zero x = refl
 set_length (y ∷ xs) (suc i) x = ap (λ (k : ℕ). suc k) (set_length xs i x)
-
--- ---- the inbox
-
--- where no connection has the tunnel, the packet is dropped
-pub popped_none : (w : Worker) (parcel : Parcel) → tunnel_in w parcel.to ≡ None
-    → popped w parcel ≡ (note.Dropped (source_of parcel.from) parcel.n cause.Gone, record w { next_seat = 2 })
-popped_none w parcel is = rw is refl
-
--- the tunnel is for UDP
-abbrev pub IsForUdp : Tunnel → Type 0
-IsForUdp t = kind_of t.goal ≡ kind.Udp
-
--- all of its tunnels are
-abbrev pub AreForUdp : Held → Type 0
-AreForUdp h = All IsForUdp h.conn.tunnels
-
--- tunnels for UDP take no packets
-pub none_for_ip : (w : Worker) (to : Place) → All AreForUdp w.conns → tunnel_in w to ≡ None
-none_for_ip w place.Net all = refl
-none_for_ip w (place.Tunnel tunnel actor) all = by_found (find (has_tunnel tunnel) w.conns) refl where
-  by_tunnel : (h : Held) (found : Option Tunnel) → find (has_tunnel tunnel) w.conns ≡ Some h → AreForUdp h → tunnel_of h.conn tunnel ≡ found
-      → tunnel_in w (place.Tunnel tunnel actor) ≡ None
-  by_tunnel h None at udp is = rw (at, is) refl
-  by_tunnel h (Some t) at udp is =
-      let kind_is : kind_of t.goal ≡ kind.Udp = found_holds IsForUdp (λ (u : Tunnel). u.id == tunnel) h.conn.tunnels t udp is in
-      rw (at, is, kind_is) refl
-
-  by_found : (found : Option Held) → find (has_tunnel tunnel) w.conns ≡ found → tunnel_in w (place.Tunnel tunnel actor) ≡ None
-  by_found None is = rw is refl
-  by_found (Some h) is = by_tunnel h (tunnel_of h.conn tunnel) is (found_holds AreForUdp (has_tunnel tunnel) w.conns h all is) refl
 
 -- ---- cores
 

@@ -5,8 +5,10 @@ use Rattle.std.specs.Result.{IsErr}
 use Rattle.std.proofs.lemmas.List.Elements.{All-contains_itself}
 use Rattle.mq_wire.specs.declared.NoMemory.{NoMemory}
 use Rattle.mq_talk.specs.declared.note.Note.{Note}
-use Rattle.mq_talk.specs.Offices.{Seen as SeenBy}
+use Rattle.mq_talk.specs.Offices.{IsSound, Seen as SeenBy}
 use Rattle.mq_talk.specs.Mails.{Boxes, PopGives}
+use Rattle.mq_talk.specs.declared.place.Place.{Place}
+use Rattle.mq_talk.specs.declared.place.Place.TheVariants as place
 use Rattle.mq_machine.specs.State.{Held, Tunnel, Worker}
 use Rattle.mq_machine.specs.Acting.{Outside, Known, IsOpen, Writes, Steps}
 use Rattle.mq_held.specs.declared.held.Held.{Held as HeldBy}
@@ -16,7 +18,7 @@ use Rattle.mq_actor.specs.declared.offer.Offer.{Offer as OfferBy}
 use Rattle.mq_actor.specs.declared.ring.Ring.{Ring}
 use Rattle.mq_actor.specs.Holds.{IsWorker, AreHeld, AreDistinct, HaveOwnPorts, numbers_of}
 use Rattle.mq_actor.specs.Passing.{Tried, Passed, Stopped, PassGives, AreKnown, is_in_part, InPart}
-use Rattle.mq_actor.specs.Seats.{OffersWait, Accepts, AcceptGives, Takes, InboxGives}
+use Rattle.mq_actor.specs.Seats.{OffersWait, Accepts, AcceptGives, ComesTo, Takes, InboxGives}
 use Rattle.mq_actor.specs.Seen.{Words, Moment, SeesRing}
 use Rattle.mq_actor.specs.Steps.{sight}
 use Rattle.mq_actor.proofs.Between.{apart_of, numbers_passed}
@@ -24,9 +26,11 @@ use Rattle.mq_actor.proofs.Cores.{AreApart}
 use Rattle.mq_actor.proofs.Calm.{idle_gives, refused_gives, taken_gives, accepted_gives}
 use Rattle.mq_actor.proofs.Coming.{Own, own_untried, own_upper, own_lower, so_far, first_passed, lower_passed, all_passed, offers_waited}
 use Rattle.mq_actor.proofs.InRing.{all_at, at_all}
+use Rattle.mq_actor.proofs.Lefts.{numbers_set}
 use Rattle.mq_actor.proofs.Lists.{found_at}
 use Rattle.mq_actor.proofs.Others.{numbers_moved}
 use Rattle.mq_actor.proofs.Outcomes.{acted_gives}
+use Rattle.mq_actor.proofs.Parcels.{number_like, own_tunnels_like}
 use Rattle.mq_actor.proofs.Passings.{known_passed, held_passed}
 use Rattle.mq_actor.proofs.Sighted.{HaveOwnTunnels, sighted, own_tunnels, own_tunnels_pushed}
 use Rattle.mq_actor.proofs.Sights.{acted_seen}
@@ -82,8 +86,8 @@ module _ {L Q : Type 0} (words : Words L Q) (self : Ring L) (old : Moment L Q) (
   fit : (o : Outside) (x : Worker) → Known (sight o old.seen boxes) x → (bs : Boxes) → boxes ≡ Some bs → length bs ≡ count
   fit o x known bs e = known.boxes bs e ∙ sym inboxes
 
-  known_all : (o : Outside) (x : Worker) → IsWorker words.most old.table self x → Known (sight o old.seen boxes) x → All (λ (s : Held). IsKnown old.seen old.seen.actor s) x.conns
-  known_all o x is known = all_at (λ (s : Held). IsKnown old.seen old.seen.actor s) x.conns each where
+  known_all : (o : Outside) (x : Worker) → IsSound old.seen → IsWorker words.most old.table self x → Known (sight o old.seen boxes) x → All (λ (s : Held). IsKnown old.seen old.seen.actor s) x.conns
+  known_all o x sound is known = all_at (λ (s : Held). IsKnown old.seen old.seen.actor s) x.conns each where
     each : (i : ℕ) (s : Held) → slice_get x.conns i ≡ Some s → IsKnown old.seen old.seen.actor s
     each i s at =
         let A : Held → Type 0 = λ h. h.conn.actor ≡ x.id in
@@ -92,6 +96,7 @@ module _ {L Q : Type 0} (words : Words L Q) (self : Ring L) (old : Moment L Q) (
         let e = is.id in
         let f = office in
         record {
+          sound = sound;
           worker = omega (arith, lt, e, f);
           actor_is = actor ∙ is.id ∙ sym office;
           tunnels = all_at (λ (t : Tunnel). IsOpen old.seen.entries old.seen.actor t.id s.conn.number t.stream t.goal) s.conn.tunnels (λ j t at_t. open_at i s at j t at_t);
@@ -112,10 +117,10 @@ module _ {L Q : Type 0} (words : Words L Q) (self : Ring L) (old : Moment L Q) (
               }))
 
   -- what the calls of a connection need
-  pub known_conns : (o : Outside) (x : Worker) → IsWorker words.most old.table self x → Known (sight o old.seen boxes) x → AreKnown words old
-  known_conns o x is known =
+  pub known_conns : (o : Outside) (x : Worker) → IsSound old.seen → IsWorker words.most old.table self x → Known (sight o old.seen boxes) x → AreKnown words old
+  known_conns o x sound is known =
       let A : List (HeldBy L) → Type 0 = λ hs. AreHeld words.most old.table hs x.conns in
-      (x.conns, subst A (sym starts) is.conns, known_all o x is known)
+      (x.conns, subst A (sym starts) is.conns, known_all o x sound is known)
 
   -- ---- who sees the ring
 
@@ -173,6 +178,35 @@ module _ {L Q : Type 0} (words : Words L Q) (self : Ring L) (old : Moment L Q) (
       let N : List (OfferBy L) → Type 0 = λ fs. AreDistinct (numbers_of s.conns.items fs) in
       sighted words mid.table mid.binds s ended (subst N (sym offered) (subst A (sym conns) (numbers_then mid tried x passed is))) (subst T (sym conns) (tunnels_then mid tried o x passed is known))
 
+  -- a packet came through the inbox
+  pub taken_seen : (amount : ℕ) (before : Option Boxes) (id : ℕ) (m s : Ring L) (mid : Moment L Q) (tried : Tried) (said : Note) (after : Option Boxes) → Passed words old mid tried
+      → mid.conns ≡ m.conns.items → m.offered.items ≡ self.offered.items → m.ended ≡ None → Takes amount before id m s said after → Seen s mid
+  taken_seen amount before id m s mid tried said after passed conns offered ended takes o x is known = by_place takes.parcel.to takes.comes where
+    T : List (HeldBy L) → Type 0
+    T hs = HaveOwnTunnels hs
+
+    A : List (HeldBy L) → Type 0
+    A hs = AreDistinct (numbers_of hs self.offered.items)
+
+    none_left : s.ended ≡ None
+    none_left = ap (λ (z : Ring L). z.ended) takes.rest ∙ ended
+
+    same_offers : s.offered.items ≡ self.offered.items
+    same_offers = ap (λ (z : Ring L). z.offered.items) takes.rest ∙ offered
+
+    missed : s.conns.items ≡ m.conns.items → (n : Outside) × SeesRing words mid.table mid.binds s n
+    missed items = calm_seen s mid tried passed (items ∙ sym conns) same_offers none_left o x is known
+
+    by_place : (to : Place) → ComesTo to takes.parcel m.conns.items s.conns.items said → (n : Outside) × SeesRing words mid.table mid.binds s n
+    by_place place.Net misses = missed misses.conns
+    by_place (place.Tunnel tunnel actor) (inl (none, misses)) = missed misses.conns
+    by_place (place.Tunnel tunnel actor) (inr c) =
+        let N : List (OfferBy L) → Type 0 = λ fs. AreDistinct (numbers_of s.conns.items fs) in
+        let numbers = numbers_set m.conns.items self.offered.items c.place c.was c.now c.first.at (number_like m.conns.items c.place c.was c.now c.first.at c.rest)
+        (subst A conns (numbers_then mid tried x passed is)) in
+        let tunnels = own_tunnels_like m.conns.items c.place c.was c.now c.first.at c.rest (subst T conns (tunnels_then mid tried o x passed is known)) in
+        sighted words mid.table mid.binds s none_left (subst N (sym same_offers) (subst A (sym c.conns) numbers)) (subst T (sym c.conns) tunnels)
+
   -- a link was accepted
   pub accepted_seen : (m s : Ring L) (mid : Moment L Q) (tried : Tried) (said : Note) → Passed words old mid tried → mid.conns ≡ m.conns.items → m.offered.items ≡ self.offered.items → m.ended ≡ None
       → Accepts m s said → Seen s mid
@@ -220,15 +254,14 @@ module _ {L Q : Type 0} (words : Words L Q) (self : Ring L) (old : Moment L Q) (
       let own = own_untried boxes count self.id (own_place o x is known) (fit o x known) in
       let so = so_far words (begun self) old boxes count starts (begun self) old boxes Untried (InUpper self.next_seat 0) ⊥ (first_passed words (begun self) old boxes count starts) refl first.1 own in
       taken_gives words (begun self) (begun self) s old old boxes boxes count Untried (InUpper self.next_seat 0) ⊥ so starts is.ports is.rooms o n sees later inboxes x (worker_begun x is)
-      known orders said after refl (covers_inbox self.next_seat gave.0) (subst I mine gave.1)
+      known orders said after office refl (covers_inbox self.next_seat gave.0) (subst I mine gave.1)
 
   pub pop_did_sights : (one s : Ring L) (said : Note) (boxes_after : Option Boxes) (id : ℕ) → id ≡ self.id → AcceptGives true (begun self) one (Ok None)
       → InboxGives count boxes id true one s (Some said) boxes_after → Seen s old
   pop_did_sights one s said after id mine first gives =
       let G : Ring L → Type 0 = λ z. InboxGives count boxes id true z s (Some said) after in
-      let rest = (subst G first.0 gives).1.rest in
-      (calm_seen s old Untried (first_passed words (begun self) old boxes count starts)
-      (ap (λ (z : Ring L). z.conns.items) rest ∙ sym starts) (ap (λ (z : Ring L). z.offered.items) rest) (ap (λ (z : Ring L). z.ended) rest))
+      let takes = (subst G first.0 gives).1 in
+      (taken_seen count boxes id (begun self) s old Untried said after (first_passed words (begun self) old boxes count starts) starts refl refl takes)
 
   -- ---- behind both, in the upper part
 
@@ -346,7 +379,7 @@ module _ {L Q : Type 0} (words : Words L Q) (self : Ring L) (old : Moment L Q) (
             let gave = subst G second.0 gives in
             let down = down_is 1 true gave.0 in
             taken_gives words (begun self) three s old mid boxes boxes_one count (AllUpper self.next_seat) ⊤ (InUpper self.next_seat 1) (so_four o x is known) at_mid own_ports has_rooms o n
-            sees later inboxes x (worker_begun x is) known orders said after (not_upper down) (covers_inbox_later self.next_seat down) (subst I mine gave.1) where
+            sees later inboxes x (worker_begun x is) known orders said after office (not_upper down) (covers_inbox_later self.next_seat down) (subst I mine gave.1) where
               not_upper : is_in_part false self.next_seat 1 ≡ true → boxes_one ≡ boxes
               not_upper down = by_part (is_in_part true self.next_seat 1) refl where
                 by_part : (b : Bool) → is_in_part true self.next_seat 1 ≡ b → boxes_one ≡ boxes
@@ -356,9 +389,9 @@ module _ {L Q : Type 0} (words : Words L Q) (self : Ring L) (old : Moment L Q) (
         pub pop_did_later_sights : (s : Ring L) (said : Note) (boxes_after : Option Boxes) → InboxGives count boxes_one id false four s (Some said) boxes_after → Seen s mid
         pop_did_later_sights s said after gives =
             let G : Ring L → Type 0 = λ z. InboxGives count boxes_one id false z s (Some said) after in
-            let rest = (subst G second.0 gives).1.rest in
-            (calm_seen s mid (AllUpper self.next_seat) passed (ap (λ (z : Ring L). z.conns.items) rest ∙ sym at_mid)
-            (ap (λ (z : Ring L). z.offered.items) rest ∙ ap (λ (z : Ring L). z.offered.items) three_is) (ap (λ (z : Ring L). z.ended) rest ∙ ap (λ (z : Ring L). z.ended) three_is))
+            let takes = (subst G second.0 gives).1 in
+            (taken_seen count boxes_one id three s mid (AllUpper self.next_seat) said after passed at_mid
+            (ap (λ (z : Ring L). z.offered.items) three_is) (ap (λ (z : Ring L). z.ended) three_is) takes)
 
         -- ---- behind both there
 

@@ -4,6 +4,7 @@ ghost use Rattle.mq_addr.specs.declared.kind.Kind.TheVariants as kind;
 ghost use Rattle.mq_talk.specs.Mails.{Boxes};
 ghost use Rattle.mq_machine.specs.State as machine;
 ghost use Rattle.mq_machine.specs.State.{Orders, new_worker, with_offer};
+ghost use Rattle.mq_talk.specs.Offices.{IsSound};
 ghost use Rattle.mq_machine.specs.Acting.{Outside, Known, Writes, Steps, binder};
 ghost use Rattle.mq_ports.specs.Tables.{IsBalanced};
 ghost use Rattle.mq_actor.specs.Ended.{conn_numbers, offer_numbers, AreLeft};
@@ -88,6 +89,7 @@ impl<L: WriteReady, P: Ports> Actor<L, P> {
     where
         P::P: ReceiveReady,
         requires known { (o : Outside) × (w : machine.Worker) × IsWorker P.P.most self.old.table.table self.old.ring w × Known (sight o (O.seen office.old) (M.boxes mail.old)) w }
+        requires sound { IsSound (O.seen office.old) }
         requires office { (O.seen office.old).actor ≡ self.old.ring.id }
         requires mail { M.actor mail.old ≡ self.old.ring.id }
         requires inboxes { M.count mail.old ≡ (O.seen office.old).config.workers + 1 }
@@ -106,6 +108,7 @@ impl<L: WriteReady, P: Ports> Actor<L, P> {
         ensures ring { (self.new.alloc ≡ self.old.alloc) × (self.new.ring.id ≡ self.old.ring.id) × (self.new.ring.setup ≡ self.old.ring.setup) }
         ensures left { AreLeft (conn_numbers self.old.ring) (offer_numbers self.old.ring) self.new.ring }
         ensures office { (O.seen office.new).actor ≡ (O.seen office.old).actor }
+        ensures sound { IsSound (O.seen office.old) → IsSound (O.seen office.new) }
         ensures mail { M.actor mail.new ≡ M.actor mail.old }
         ensures inboxes { M.count mail.new ≡ M.count mail.old }
         ensures balanced { IsBalanced P.P.place (P.past self.old.table.ports) self.old.table.table.slots → IsBalanced P.P.place (P.past self.new.table.ports) self.new.table.table.slots }

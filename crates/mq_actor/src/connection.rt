@@ -2,6 +2,7 @@
 ghost use Rattle.std.specs.Prelude.{◌≡◌, ◌<◌, Bool, Some, remove, slice_get};
 ghost use Rattle.std.specs.Vec.{vec_len};
 ghost use Rattle.mq_addr.specs.declared.kind.Kind.TheVariants as kind;
+ghost use Rattle.mq_talk.specs.Offices.{IsSound};
 ghost use Rattle.mq_machine.specs.Acting.{binder};
 ghost use Rattle.mq_ports.specs.Tables.{IsBalanced};
 ghost use Rattle.mq_held.specs.declared.held.Held.{Held as HeldBy};
@@ -39,6 +40,7 @@ impl<L: WriteReady> Ring<L> {
         ensures ports { HaveOwnPorts self.new.conns.items }
         ensures rooms { HasRooms self.new.rooms }
         ensures actor { (O.seen office.new).actor ≡ (O.seen office.old).actor }
+        ensures sound { IsSound (O.seen office.old) → IsSound (O.seen office.new) }
         ensures balanced { IsBalanced P.P.place (P.past table.old.ports) table.old.table.slots → IsBalanced P.P.place (P.past table.new.ports) table.new.table.slots }
     {
         let held = &mut self.conns[place];
@@ -76,6 +78,7 @@ impl<L: WriteReady> Ring<L> {
         ensures ports { HaveOwnPorts self.new.conns.items }
         ensures rooms { HasRooms self.new.rooms }
         ensures actor { (O.seen office.new).actor ≡ (O.seen office.old).actor }
+        ensures sound { IsSound (O.seen office.old) → IsSound (O.seen office.new) }
         ensures balanced { IsBalanced P.P.place (P.past table.old.ports) table.old.table.slots → IsBalanced P.P.place (P.past table.new.ports) table.new.table.slots }
     {
         let seat = seat_of(self.conns[place].number);
@@ -114,6 +117,7 @@ impl<L: WriteReady> Ring<L> {
         ensures ports { HaveOwnPorts self.new.conns.items }
         ensures rooms { HasRooms self.new.rooms }
         ensures actor { (O.seen office.new).actor ≡ (O.seen office.old).actor }
+        ensures sound { IsSound (O.seen office.old) → IsSound (O.seen office.new) }
         ensures balanced { IsBalanced P.P.place (P.past table.old.ports) table.old.table.slots → IsBalanced P.P.place (P.past table.new.ports) table.new.table.slots }
     {
         let seat = seat_of(self.conns[place].number);

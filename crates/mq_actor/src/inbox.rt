@@ -1,10 +1,13 @@
 //! The turn of the inbox.
-ghost use Rattle.std.specs.Prelude.{◌≡◌};
+ghost use Rattle.std.specs.Prelude.{◌≡◌, ◌<◌};
+ghost use Rattle.std.specs.Vec.{vec_len};
+ghost use Rattle.mq_talk.specs.declared.note.Note.TheVariants as note;
+ghost use Rattle.mq_talk.specs.declared.place.Cause.TheVariants as cause;
 ghost use Rattle.mq_machine.specs.Turn.{source_of as source_is};
-ghost use Rattle.mq_actor.specs.Seats.{InboxGives};
+ghost use Rattle.mq_actor.specs.Seats.{ComesAt, ComesTo, InboxGives, IsPlaceWith};
 
 use crate::ring::{Ring, is_in};
-use mq_talk::{Cause, From, Mail, Note, Origin};
+use mq_talk::{Cause, From, Mail, Note, Origin, Parcel, Place};
 
 /// Whose packet it is, as a note says it.
 fn source_of(origin: Origin) -> From
@@ -16,9 +19,56 @@ fn source_of(origin: Origin) -> From
     }
 }
 
+/// A packet for which there is no tunnel is dropped.
+fn gone(from: From, n: u64) -> Note
+    ensures { result ≡ note.Dropped from n cause.Gone }
+{
+    Note::Dropped {
+        from,
+        n,
+        cause: Cause::Gone,
+    }
+}
+
 impl<L: Drop> Ring<L> {
-    /// Takes a parcel from its inbox, where that seat is in this part of the ring. Tunnels for UDP take none, so that it is
-    /// dropped.
+    /// The place of the first connection that has this live tunnel.
+    fn place_with(&self, tunnel: u32) -> Option<usize>
+        ensures { IsPlaceWith self.now.conns.items tunnel result }
+    {
+        for place in 0..self.conns.len() {
+            if self.conns[place].conn.is_live(tunnel) {
+                return Some(place);
+            }
+        }
+        None
+    }
+
+    /// A packet comes to this tunnel of the connection at a place.
+    fn come_at(&mut self, place: usize, tunnel: u32, parcel: Parcel) -> Note
+        requires { place < vec_len self.old.conns }
+        ensures comes { ComesAt place tunnel parcel self.old.conns.items self.new.conns.items result }
+        ensures rest { self.new ≡ record self.old { conns = self.new.conns } }
+    {
+        let held = &mut self.conns[place];
+        held.conn
+            .deliver(source_of(parcel.from), parcel.n, tunnel, parcel.packet)
+    }
+
+    /// A packet comes to its tunnel, where a connection has that.
+    fn come(&mut self, parcel: Parcel) -> Note
+        ensures comes { ComesTo parcel.to parcel self.old.conns.items self.new.conns.items result }
+        ensures rest { self.new ≡ record self.old { conns = self.new.conns } }
+    {
+        let Place::Tunnel { tunnel, .. } = parcel.to else {
+            return gone(source_of(parcel.from), parcel.n);
+        };
+        match self.place_with(tunnel) {
+            None => gone(source_of(parcel.from), parcel.n),
+            Some(place) => self.come_at(place, tunnel, parcel),
+        }
+    }
+
+    /// Takes a parcel from its inbox, where that seat is in this part of the ring: its packet comes to its tunnel.
     pub(crate) fn pop<M: Mail>(&mut self, upper: bool, mail: &mut M) -> Option<Note>
         ensures gives { InboxGives (M.count mail.old) (M.boxes mail.old) (M.actor mail.old) upper self.old self.new result (M.boxes mail.new) }
         ensures ring { (self.new.id ≡ self.old.id) × (self.new.setup ≡ self.old.setup) }
@@ -30,10 +80,6 @@ impl<L: Drop> Ring<L> {
         }
         let parcel = mail.pop()?;
         self.next_seat = 2;
-        Some(Note::Dropped {
-            from: source_of(parcel.from),
-            n: parcel.n,
-            cause: Cause::Gone,
-        })
+        Some(self.come(parcel))
     }
 }

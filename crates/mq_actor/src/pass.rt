@@ -1,6 +1,7 @@
 //! The connections of a part of the ring.
 ghost use Rattle.std.specs.Prelude.{◌≡◌};
 ghost use Rattle.mq_addr.specs.declared.kind.Kind.TheVariants as kind;
+ghost use Rattle.mq_talk.specs.Offices.{IsSound};
 ghost use Rattle.mq_machine.specs.Acting.{binder};
 ghost use Rattle.mq_ports.specs.Tables.{IsBalanced};
 ghost use Rattle.mq_step.specs.Rooms.{HasRooms};
@@ -35,6 +36,7 @@ impl<L: WriteReady> Ring<L> {
         ensures ports { HaveOwnPorts self.new.conns.items }
         ensures rooms { HasRooms self.new.rooms }
         ensures actor { (O.seen office.new).actor ≡ (O.seen office.old).actor }
+        ensures sound { IsSound (O.seen office.old) → IsSound (O.seen office.new) }
         ensures balanced { IsBalanced P.P.place (P.past table.old.ports) table.old.table.slots → IsBalanced P.P.place (P.past table.new.ports) table.new.table.slots }
     {
         for place in 0..self.conns.len() {

@@ -1,6 +1,7 @@
 //! One step of a worker.
 ghost use Rattle.std.specs.Prelude.{◌≡◌, ◌+◌};
 ghost use Rattle.mq_machine.specs.State.{Worker};
+ghost use Rattle.mq_talk.specs.Offices.{IsSound};
 ghost use Rattle.mq_machine.specs.Acting.{Outside, Known, Steps, binder};
 ghost use Rattle.mq_ports.specs.Tables.{IsBalanced};
 ghost use Rattle.mq_actor.specs.Ended.{conn_numbers, offer_numbers, AreLeft};
@@ -29,6 +30,7 @@ impl<L: WriteReady> Ring<L> {
     where
         P::P: ReceiveReady,
         requires known { (o : Outside) × (w : Worker) × IsWorker P.P.most table.old.table self.old w × Known (sight o (O.seen office.old) (M.boxes mail.old)) w }
+        requires sound { IsSound (O.seen office.old) }
         requires office { (O.seen office.old).actor ≡ self.old.id }
         requires mail { M.actor mail.old ≡ self.old.id }
         requires inboxes { M.count mail.old ≡ (O.seen office.old).config.workers + 1 }
@@ -41,6 +43,7 @@ impl<L: WriteReady> Ring<L> {
         ensures ring { (self.new.id ≡ self.old.id) × (self.new.setup ≡ self.old.setup) }
         ensures left { AreLeft (conn_numbers self.old) (offer_numbers self.old) self.new }
         ensures office { (O.seen office.new).actor ≡ (O.seen office.old).actor }
+        ensures sound { IsSound (O.seen office.old) → IsSound (O.seen office.new) }
         ensures mail { M.actor mail.new ≡ M.actor mail.old }
         ensures inboxes { M.count mail.new ≡ M.count mail.old }
         ensures balanced { IsBalanced P.P.place (P.past table.old.ports) table.old.table.slots → IsBalanced P.P.place (P.past table.new.ports) table.new.table.slots }

@@ -123,7 +123,7 @@ pub tells_drop : (c : Conn) (id n : ℕ) (why : Cause) (result : Result Note NoM
 tells_drop c id n why (Ok said) h = λ s st over.
     let on : tunnel_on s id ≡ Some h.0 = ap (λ (ts : List machine.Tunnel). find (λ (u : machine.Tunnel). u.stream == id) ts) (tunnels_are c s st) ∙ h.1 in
     (s, ap (λ (o : Option machine.Tunnel). tunnel_done s o (stream.Drop n why) Said) on ∙ ap (λ (x : Note). Some (x, s)) (sym h.2), st)
-tells_drop c id n why (Err fault) h = record { is = refl; items = refl }
+tells_drop c id n why (Err fault) h = record { is = refl; items = refl; spare_is = λ h. h }
 
 -- ---- what a tunnel's stream asks for
 

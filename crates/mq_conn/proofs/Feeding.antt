@@ -1,14 +1,13 @@
 -- A connection takes a read, and the end of its link.
-use Rattle.std.proofs.Common.{◌≡◌, ◌≢◌, ℕ, ◌≤◌, cond, Bool, true, false, List, [], ◌∷◌, ◌++◌, length, drop, Option, Some, None, refl, sym, ap, ◌∙◌, subst}
+use Rattle.std.proofs.Common.{◌≡◌, ℕ, Bool, true, false, List, [], ◌∷◌, ◌++◌, drop, Option, Some, None, refl, sym, ap, ◌∙◌, subst}
 use Rattle.std.specs.Prelude.{vec_len, vec_capacity}
 use Rattle.mq_addr.specs.declared.kind.Kind.TheVariants as kind
 use Rattle.mq_h2.specs.Laws.{IsAskedOnce, IsTold}
 use Rattle.mq_front.specs.declared.front.Front.{Front}
 use Rattle.mq_front.specs.declared.finish.Finish.{Finish}
 use Rattle.mq_front.specs.declared.finish.Finish.TheVariants.{Ends, Closes}
-use Rattle.mq_front.specs.Fronts.{IsFront, Reads, Finishes, finish_of}
+use Rattle.mq_front.specs.Fronts.{IsFront, Finishes, finish_of}
 use Rattle.mq_talk.specs.declared.note.End.{End}
-use Rattle.mq_talk.specs.declared.note.End.TheVariants as end
 use Rattle.mq_talk.specs.declared.note.Why.{Why}
 use Rattle.mq_talk.specs.declared.note.Why.TheVariants as why
 use Rattle.mq_machine.specs.declared.act.Act.TheVariants as act
@@ -17,7 +16,7 @@ use Rattle.mq_machine.specs.declared.act.Due.{Due}
 use Rattle.mq_machine.specs.declared.act.Due.TheVariants as due
 use Rattle.mq_machine.specs.declared.setup.Setup.{Setup}
 use Rattle.mq_machine.specs.Cores.{Feeds}
-use Rattle.mq_machine.specs.Lawful.{IsLoose, NoOpens}
+use Rattle.mq_front.specs.Limits.{AllMayBeDue}
 use Rattle.mq_machine.specs.Reading.{EndsThere, TookNext}
 use Rattle.mq_machine.specs.Settle.{settle, is_given_up}
 use Rattle.mq_machine.specs.State as machine
@@ -27,15 +26,18 @@ use Rattle.mq_machine.proofs.Lawful.Idle.{finished_loose}
 use Rattle.mq_conn.specs.declared.conn.Conn.{Conn}
 use Rattle.mq_conn.specs.declared.conn.First.{First}
 use Rattle.mq_conn.specs.declared.conn.First.TheVariants as first
-use Rattle.mq_conn.specs.Conns.{IsConn, IsRead, Stands, HasRoom, Past, state, behind, tunnels_of}
+use Rattle.mq_conn.specs.declared.conn.Tunnel.{Tunnel}
+use Rattle.mq_conn.specs.Conns.{IsConn, IsRead, IsSpare, Stands, HasRoom, Past, state, behind, tunnels_of}
+use Rattle.mq_conn.specs.Rooms.{KeepsTunnels, Read}
+use Rattle.mq_conn.proofs.Ready.{ready_first}
 use Rattle.mq_conn.specs.Frames.{LinkEnds}
 use Rattle.mq_machine.proofs.Lawful.Taking.{took_loose}
 use Rattle.mq_conn.proofs.Framing.{drop_more, given_more}
-use Rattle.mq_conn.proofs.Serving.{Is, Settles, by_state, has_front, is_conn, reads_on, settles_so}
+use Rattle.mq_conn.proofs.Serving.{Is, Settles, by_state, has_front, reads_on, settles_so}
 
-pub takes_so : (c mid d : Conn) (setup : Setup) (piece : List ℕ) (g h : Front) → IsAskedOnce → IsTold → setup.udp.kind ≡ kind.Udp → c.front ≡ Some g → mid ≡ record c { front = Some h; due = mid.due }
-    → Reads setup (tunnels_of c.tunnels.items) piece c.due mid.due g h → Settles mid d → Feeds (IsConn c) (IsConn d) ⊥ setup piece true
-takes_so c mid d setup piece g h once told udp fronted keeps reads settles s stands can =
+pub takes_so : (c read ready d : Conn) (setup : Setup) (piece : List ℕ) → IsAskedOnce → IsTold → setup.udp.kind ≡ kind.Udp → Read c read setup piece → KeepsTunnels read ready
+    → HasRoom ready.spare (vec_len ready.tunnels) (vec_capacity ready.tunnels) ready.due → Settles ready d → Feeds (IsConn c) (IsConn d) ⊥ setup piece true
+takes_so c read ready d setup piece once told udp was keeps room settles s stands can =
     by_state c (λ (x : machine.Conn). can_read x ≡ true → (t : machine.Conn) × IsConn d t × TookNext setup x piece t) go s stands can
   where
     go : (p : Past) → Is c p → can_read (state c p) ≡ true → (t : machine.Conn) × IsConn d t × TookNext setup (state c p) piece t
@@ -43,26 +45,36 @@ takes_so c mid d setup piece g h once told udp fronted keeps reads settles s sta
         let x = state c p in
         let idle = reads_on c p is can in
         let R : Option Front → Type 0 = λ o. IsRead o c.ending p.front p.streams (drop p.given p.out) in
-        let read = subst R fronted is.read in
-        let r = reads p.front p.streams (drop p.given p.out) read.1 in
-        let acts_are : mid.due ≡ r.acts = r.after_is ∙ ap (λ (ds : List Due). ds ++ r.acts) idle.due in
+        let had = subst R was.was is.read in
+        let r = was.reads p.front p.streams (drop p.given p.out) had.1 in
+        let acts_are : read.due ≡ r.acts = r.after_is ∙ ap (λ (ds : List Due). ds ++ r.acts) idle.due in
         let loose = took_loose setup x piece r.events r.text r.front r.acts r.others once told udp is.lawful can r.brings r.asks in
         let y : machine.Conn = record x { front = r.front; streams = r.others; due = r.acts; out = p.out ++ r.text } in
         let q : Past = record p { front = r.front; streams = r.others; out = p.out ++ r.text } in
-        let e : Conn = record c { front = Some h; due = mid.due } in
-        let O : List ℕ → Type 0 = λ owed. IsFront h r.front r.others owed in
-        let N : List Due → Type 0 = λ ds. NoOpens ds in
+        let e : Conn = record c { front = Some was.g; due = read.due; spare = ready.spare; tunnels = ready.tunnels } in
+        let same : ready ≡ e = keeps.is ∙ ap (λ (k : Conn). record k { spare = ready.spare; tunnels = ready.tunnels }) was.is in
+        let due_same : ready.due ≡ read.due = ap (λ (k : Conn). k.due) keeps.is in
+        let items : ready.tunnels.items ≡ c.tunnels.items = keeps.items ∙ ap (λ (k : Conn). k.tunnels.items) was.is in
+        let O : List ℕ → Type 0 = λ owed. IsFront was.g r.front r.others owed in
+        let N : List Due → Type 0 = λ ds. AllMayBeDue ds in
+        let H : List Due → Type 0 = λ ds. HasRoom ready.spare (vec_len ready.tunnels) (vec_capacity ready.tunnels) ds in
+        let F : Option First → Type 0 = λ f. HasRoom ready.spare (vec_len ready.tunnels) (vec_capacity ready.tunnels) (behind f read.due) in
+        let S : Conn → Type 0 = λ k. IsSpare k.spare in
         let stood : Stands e y = record {
           past = q;
-          is = ap (λ (ds : List Due). record y { due = ds }) (sym (ap (λ (f : Option First). behind f mid.due) idle.first ∙ acts_are));
-          read = (read.0, subst O (sym (drop_more p.given p.out r.text is.given)) r.stands);
+          is = ap (λ (ds : List Due). record y { due = ds }) (sym (ap (λ (f : Option First). behind f read.due) idle.first ∙ acts_are))
+              ∙ ap (λ (ts : List Tunnel). record y { due = behind c.first read.due; tunnels = tunnels_of ts }) (sym items);
+          read = (had.0, subst O (sym (drop_more p.given p.out r.text is.given)) r.stands);
           given = given_more p.given p.out r.text is.given;
-          room = is.room;
-          opens = subst N (sym acts_are) loose.1;
+          ready = record {
+            room = subst F (sym idle.first) (subst H due_same room);
+            spare_is = keeps.spare_is (subst S (sym was.is) is.ready.spare_is);
+            may = subst N (sym acts_are) r.may;
+          };
         } in
         let E : Conn → Type 0 = λ v. Stands v y in (
           settle y,
-          settles_so mid d y settles (subst E (sym keeps) stood) loose.0,
+          settles_so ready d y settles (subst E (sym same) stood) loose.0,
           record { events = r.events; text = r.text; front = r.front; acts = r.acts; streams = r.others; can = can; brings = r.brings; asks = r.asks; new_is = refl },
         )
 
@@ -143,8 +155,7 @@ ends_so c mid g f fronted finishes ends s stands can =
               is = finish_states c p p.front inside reason (sym e);
               read = subst S (sym fronted) (no_end p.front inside reason (sym e), read.1);
               given = is.given;
-              room = is.room;
-              opens = is.opens;
+              ready = is.ready;
             })
         by_finish (Closes reason) inside e keeps =
             let x = finish_by (record (state c p) { is_finished = true }) p.front inside in
@@ -155,6 +166,5 @@ ends_so c mid g f fronted finishes ends s stands can =
               is = close_states c p p.front inside reason (sym e) ∙ ap (λ (o : Option First). record (state c p) { is_finished = true; due = due.Do (act.OfStream 0 (stream.Close reason)) ∷ behind o c.due }) idle.first;
               read = is.read;
               given = is.given;
-              room = tt;
-              opens = is.opens;
+              ready = ready_first c.spare (vec_len c.tunnels) (vec_capacity c.tunnels) c.first (first.Close 0 reason) c.due idle.first refl is.ready;
             })

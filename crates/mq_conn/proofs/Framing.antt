@@ -1,14 +1,13 @@
 -- What comes to a tunnel, and what of it is framed.
-use Rattle.std.proofs.Common.{◌≡◌, ◌≢◌, ℕ, zero, suc, ◌≤◌, ◌<◌, ◌+◌, ◌-◌, ◌==◌, ◌||◌, ◌&&◌, cond, Bool, true, false, not, List, [], ◌∷◌, ◌++◌, length, take, drop, filter, nat_le, nat_lt, Option, Some, None, slice_get, slice_set, Result, Ok, Err, refl, sym, ap, ◌∙◌, subst, arith}
+use Rattle.std.proofs.Common.{◌≡◌, ℕ, zero, suc, ◌≤◌, ◌<◌, ◌+◌, ◌-◌, ◌||◌, cond, Bool, true, false, not, List, [], ◌∷◌, ◌++◌, length, take, drop, filter, nat_le, nat_lt, Option, Some, None, slice_get, slice_set, Result, Ok, Err, refl, sym, ap, ◌∙◌, subst, arith, ◌⊎◌, inl, inr}
 use Rattle.std.specs.Prelude.{find, min, sum_by, vec_len, vec_capacity, option_map, option_and_then, MatchOption}
 use Rattle.std.specs.Option.{is_some}
 use Rattle.std.proofs.Math.Bool.{beq}
-use Rattle.std.proofs.lemmas.Bool.{and_parts}
 use Rattle.std.proofs.lemmas.Bool.Decides.{nat_tests}
-use Rattle.std.proofs.lemmas.List.{length-append, length-drop, drop-drop}
+use Rattle.std.proofs.lemmas.List.{length-append}
 use Rattle.mq_capsule.specs.Writing.{capsule_text, datagram}
 use Rattle.mq_front.specs.declared.front.Front.{Front}
-use Rattle.mq_front.specs.Fronts.{IsFront, Framed, Frames, HasPut}
+use Rattle.mq_front.specs.Fronts.{IsFront, Framed, Frames}
 use Rattle.mq_wire.specs.declared.NoMemory.{NoMemory}
 use Rattle.mq_talk.specs.declared.note.End.{End}
 use Rattle.mq_talk.specs.declared.note.End.TheVariants as end
@@ -19,24 +18,28 @@ use Rattle.mq_talk.specs.declared.note.Why.TheVariants as why
 use Rattle.mq_talk.specs.declared.place.Cause.TheVariants as cause
 use Rattle.mq_machine.specs.declared.act.Act.TheVariants as act
 use Rattle.mq_machine.specs.declared.act.StreamAct.TheVariants as stream
-use Rattle.mq_machine.specs.declared.act.Due.{Due}
 use Rattle.mq_machine.specs.declared.act.Due.TheVariants as due
 use Rattle.mq_machine.specs.Done.{waits as waits_last}
-use Rattle.mq_machine.specs.Lawful.{IsLoose, IsLawful, Alone}
-use Rattle.mq_machine.specs.Putting.{Putting, first_of, putting}
+use Rattle.mq_machine.specs.Lawful.{IsLoose}
+use Rattle.mq_machine.specs.Putting.{first_of, putting}
 use Rattle.mq_machine.specs.Settle.{settle, is_given_up}
 use Rattle.mq_machine.specs.State as machine
-use Rattle.mq_machine.specs.State.{Waiting, Head, OverHttp1, OverHttp2, Stream, is_packet, tunnel_of, waiting_bytes, packets}
-use Rattle.mq_machine.specs.Steps.{can_frame, can_go_on, frame_size, framed, framed_by, framed_front, framing, is_ending, most_owed, next_framed, port_failed, queued, set_waiting, settled_note, tunnels_from, whole_note}
+use Rattle.mq_machine.specs.State.{Waiting, Head, OverHttp1, OverHttp2, Stream, is_packet, kind_of, tunnel_of}
+use Rattle.mq_machine.specs.Steps.{can_frame, can_go_on, frame_size, framed, framed_by, framed_front, framing, next_framed, port_failed, queued, set_waiting, settled_note, tunnels_from, whole_note}
 use Rattle.mq_machine.specs.Want.{want_of, may_wait}
-use Rattle.mq_machine.proofs.Lawful.Steps.{settle_lawful, waiting_loose, framed_by_loose}
+use Rattle.mq_machine.proofs.Lawful.Steps.{waiting_loose, framed_by_loose}
 use Rattle.mq_machine.proofs.Lawful.Idle.{port_failed_lawful}
 use Rattle.mq_conn.specs.declared.conn.Conn.{Conn}
 use Rattle.mq_conn.specs.declared.conn.First.{First}
 use Rattle.mq_conn.specs.declared.conn.First.TheVariants as first
 use Rattle.mq_conn.specs.declared.conn.Tunnel.{Tunnel}
-use Rattle.mq_conn.specs.Conns.{IsConn, Stands, IsRead, Keeps, HasRoom, Refuses, Past, state, behind, act_of, tunnel_is, tunnels_of}
-use Rattle.mq_conn.specs.Frames.{Comes, Delivers, IsFirst, IsNext, IsPlaceOf, HasNone, PutFirst, PutsFirst, Takes, TookFirst, on_side, took_note, took_waiting}
+use Rattle.mq_machine.specs.Words.{onward}
+use Rattle.mq_addr.specs.declared.kind.Kind.{Kind}
+use Rattle.mq_addr.specs.declared.kind.Kind.TheVariants as kind
+use Rattle.mq_talk.specs.declared.note.From.TheVariants as source
+use Rattle.mq_conn.proofs.Ready.{ready_first, ready_idle, ready_same}
+use Rattle.mq_conn.specs.Conns.{IsConn, Stands, IsRead, Leaves, Refuses, Past, state, behind, act_of, tunnel_is, tunnels_of}
+use Rattle.mq_conn.specs.Frames.{ComesFrom, ComesInAt, Delivers, GoesOnAt, QueuesAt, comes_in, delivered, passed_on, IsFirst, IsNext, IsPlaceOf, HasNone, PutFirst, PutsFirst, Takes, TookFirst, on_side, took_note, took_waiting}
 use Rattle.mq_conn.specs.declared.queue.Queued.{Queued}
 use Rattle.mq_conn.specs.Queues.{a_packet, size_of, behind as behind_part}
 use Rattle.mq_conn.proofs.Places.{found, missing, waits_at, set_at, bytes_in, one_within, side, side_is, first_at, none_at, either_side, other_side}
@@ -78,8 +81,7 @@ shuts c id place u at s stands t is waiting =
             is = ap (λ (f : Option First). record (state c p) { due = due.Do (act.OfStream u.stream (stream.Close why.Port)) ∷ behind f c.due }) none;
             read = h.read;
             given = h.given;
-            room = tt;
-            opens = h.opens;
+            ready = ready_first c.spare (vec_len c.tunnels) (vec_capacity c.tunnels) c.first (first.Close u.stream why.Port) c.due none refl h.ready;
           };
           lawful = port_failed_lawful (state c p) id (tunnel_is u) h.lawful (found c.tunnels.items id place u at) w;
         })
@@ -99,8 +101,12 @@ queued_is c p t from n packet b is =
     ap (λ (k : ℕ). came (nat_le 64 (length (filter is_packet t.waiting)) || nat_lt 1048576 (k + length (capsule_text (datagram packet)))) (state c p) t.id from n packet) (bytes_in c.tunnels.items)
     ∙ ap (λ (v : Bool). came v (state c p) t.id from n packet) is
 
+abbrev pub QueuesTo : Conn → Conn → Tunnel → From → ℕ → List ℕ → Note → Type 0
+QueuesTo c d t from n packet said = (s : machine.Conn) → IsConn c s
+    → (said ≡ (settled_note (queued s (tunnel_is t) from n packet)).0) × IsConn d (settled_note (queued s (tunnel_is t) from n packet)).1
+
 comes_to : (d : Conn) (x : machine.Conn) (u : machine.Tunnel) (from : From) (n : ℕ) (packet : List ℕ) (said : Note) (q : Note × machine.Conn) → queued x u from n packet ≡ q
-    → said ≡ q.0 → IsConn d (settle q.1) → Comes d x (Some u) from n packet said
+    → said ≡ q.0 → IsConn d (settle q.1) → (said ≡ (settled_note (queued x u from n packet)).0) × IsConn d (settled_note (queued x u from n packet)).1
 comes_to d x u from n packet said q is told stands =
     let P : Note × machine.Conn → Type 0 = λ r. (said ≡ (settled_note r).0) × IsConn d (settled_note r).1 in
     subst P (sym is) (told, stands)
@@ -108,26 +114,70 @@ comes_to d x u from n packet said q is told stands =
 stands_same : (c : Conn) (p : Past) → Is c p → Stands c (state c p)
 stands_same c p h = (is_conn c p h).stands
 
-pub drops : (c d : Conn) (id place : ℕ) (t : Tunnel) (from : From) (n : ℕ) (packet : List ℕ) → IsPlaceOf c.tunnels.items id place t → full c.tunnels.items t packet ≡ true → Settles c d
-    → Delivers c d from n id packet (note.Dropped from n cause.QueueFull)
-drops c d id place t from n packet at is settles s stands =
-    by_state c (λ (x : machine.Conn). Comes d x (tunnel_of x id) from n packet (note.Dropped from n cause.QueueFull)) go s stands
-  where
-    go : (p : Past) → Is c p → Comes d (state c p) (tunnel_of (state c p) id) from n packet (note.Dropped from n cause.QueueFull)
-    go p h =
-        let T : Option machine.Tunnel → Type 0 = λ o. Comes d (state c p) o from n packet (note.Dropped from n cause.QueueFull) in
-        subst T (sym (found c.tunnels.items id place t at))
-        (comes_to d (state c p) (tunnel_is t) from n packet (note.Dropped from n cause.QueueFull) (came true (state c p) t.id from n packet) (queued_is c p t from n packet true is) refl
-        (settles_so c d (state c p) settles (stands_same c p h) h.lawful.loose))
+pub drops : (c d : Conn) (t : Tunnel) (from : From) (n : ℕ) (packet : List ℕ) → full c.tunnels.items t packet ≡ true → Settles c d → QueuesTo c d t from n packet (note.Dropped from n cause.QueueFull)
+drops c d t from n packet is settles s stands = by_state c (λ (x : machine.Conn).
+    (note.Dropped from n cause.QueueFull ≡ (settled_note (queued x (tunnel_is t) from n packet)).0) × IsConn d (settled_note (queued x (tunnel_is t) from n packet)).1)
+    (λ p h. comes_to d (state c p) (tunnel_is t) from n packet (note.Dropped from n cause.QueueFull) (came true (state c p) t.id from n packet) (queued_is c p t from n packet true is) refl
+    (settles_so c d (state c p) settles (stands_same c p h) h.lawful.loose)) s stands
+
+-- ---- to which tunnel it comes
+
+pub found_at : (c : Conn) (id place : ℕ) (t : Tunnel) → IsPlaceOf c.tunnels.items id place t → (s : machine.Conn) → IsConn c s → tunnel_of s id ≡ Some (tunnel_is t)
+found_at c id place t at s stands = by_state c (λ (x : machine.Conn). tunnel_of x id ≡ Some (tunnel_is t)) (λ p h. found c.tunnels.items id place t at) s stands
 
 pub gone : (c : Conn) (id : ℕ) (from : From) (n : ℕ) (packet : List ℕ) → HasNone c.tunnels.items id → Delivers c c from n id packet (note.Dropped from n cause.Gone)
 gone c id from n packet none s stands =
-    by_state c (λ (x : machine.Conn). Comes c x (tunnel_of x id) from n packet (note.Dropped from n cause.Gone)) go s stands
-  where
-    go : (p : Past) → Is c p → Comes c (state c p) (tunnel_of (state c p) id) from n packet (note.Dropped from n cause.Gone)
-    go p h =
-        let T : Option machine.Tunnel → Type 0 = λ o. Comes c (state c p) o from n packet (note.Dropped from n cause.Gone) in
-        subst T (sym (missing c.tunnels.items id none)) (refl, is_conn c p h)
+    let is : tunnel_of s id ≡ None = by_state c (λ (x : machine.Conn). tunnel_of x id ≡ None) (λ p h. missing c.tunnels.items id none) s stands in
+    let P : Option machine.Tunnel → Type 0 = λ o. (note.Dropped from n cause.Gone ≡ (delivered s o from n packet).0) × IsConn c (delivered s o from n packet).1 in
+    subst P (sym is) (refl, stands)
+
+-- whether it is live
+pub live_is : (c : Conn) (id : ℕ) (r : Option ℕ) (b : Bool) → MatchOption r (HasNone c.tunnels.items id) (λ place. (t : Tunnel) × IsPlaceOf c.tunnels.items id place t) → b ≡ is_some r → (s : machine.Conn) → IsConn c s → b ≡ is_some (tunnel_of s id)
+live_is c id None b h is s stands =
+    is ∙ ap (λ (o : Option machine.Tunnel). is_some o) (sym (by_state c (λ (x : machine.Conn). tunnel_of x id ≡ None) (λ p k. missing c.tunnels.items id h) s stands))
+live_is c id (Some place) b h is s stands = is ∙ ap (λ (o : Option machine.Tunnel). is_some o) (sym (found_at c id place h.0 h.1 s stands))
+
+-- a datagram of its port
+pub delivers_port : (c d : Conn) (id place port n : ℕ) (t : Tunnel) (packet : List ℕ) (said : Note) → IsPlaceOf c.tunnels.items id place t → QueuesAt c d place id (source.Port port) n packet said → Delivers c d (source.Port port) n id packet said
+delivers_port c d id place port n t packet said at queues s stands =
+    let P : Option machine.Tunnel → Type 0 = λ o. (said ≡ (delivered s o (source.Port port) n packet).0) × IsConn d (delivered s o (source.Port port) n packet).1 in
+    subst P (sym (found_at c id place t at s stands)) (queues t at s stands)
+
+-- a packet of an inbox
+pub comes_from : (from : From) → ((origin : ℕ) × (from ≡ source.Tunnel origin)) ⊎ (from ≡ source.Net) → ComesFrom from
+comes_from from (inl h) = let P : From → Type 0 = λ f. ComesFrom f in subst P (sym h.1) tt
+comes_from from (inr h) = let P : From → Type 0 = λ f. ComesFrom f in subst P (sym h) tt
+
+pub delivers_in : (c d : Conn) (id place n : ℕ) (t : Tunnel) (from : From) (packet : List ℕ) (said : Note) → IsPlaceOf c.tunnels.items id place t → ComesFrom from → ComesInAt c d place id from n packet said → Delivers c d from n id packet said
+delivers_in c d id place n t (source.Port port) packet said at inner comes s stands = absurd inner
+delivers_in c d id place n t (source.Tunnel origin) packet said at inner comes s stands =
+    let P : Option machine.Tunnel → Type 0 = λ o. (said ≡ (delivered s o (source.Tunnel origin) n packet).0) × IsConn d (delivered s o (source.Tunnel origin) n packet).1 in
+    subst P (sym (found_at c id place t at s stands)) (comes t at s stands)
+delivers_in c d id place n t source.Net packet said at inner comes s stands =
+    let P : Option machine.Tunnel → Type 0 = λ o. (said ≡ (delivered s o source.Net n packet).0) × IsConn d (delivered s o source.Net n packet).1 in
+    subst P (sym (found_at c id place t at s stands)) (comes t at s stands)
+
+-- by the kind of its tunnel
+pub comes_gone : (c : Conn) (id place n : ℕ) (from : From) (packet : List ℕ) → ((t : Tunnel) → IsPlaceOf c.tunnels.items id place t → kind_of t.goal ≡ kind.Udp) → ComesInAt c c place id from n packet (note.Dropped from n cause.Gone)
+comes_gone c id place n from packet udp t at s stands =
+    let P : Kind → Type 0 = λ k. (note.Dropped from n cause.Gone ≡ (comes_in s k (tunnel_is t) from n packet).0) × IsConn c (comes_in s k (tunnel_is t) from n packet).1 in
+    subst P (sym (udp t at)) (refl, stands)
+
+pub comes_on : (c d : Conn) (id place n : ℕ) (from : From) (packet : List ℕ) (said : Note) → ((t : Tunnel) → IsPlaceOf c.tunnels.items id place t → kind_of t.goal ≡ kind.Ip) → GoesOnAt c d place id from n packet said → ComesInAt c d place id from n packet said
+comes_on c d id place n from packet said ip goes t at s stands =
+    let P : Kind → Type 0 = λ k. (said ≡ (comes_in s k (tunnel_is t) from n packet).0) × IsConn d (comes_in s k (tunnel_is t) from n packet).1 in
+    subst P (sym (ip t at)) (goes t at s stands)
+
+-- by its hop limit
+pub on_none : (c : Conn) (id place n : ℕ) (from : From) (packet : List ℕ) → onward packet ≡ None → GoesOnAt c c place id from n packet (note.Dropped from n cause.HopLimit)
+on_none c id place n from packet is t at s stands =
+    let P : Option (List ℕ) → Type 0 = λ o. (note.Dropped from n cause.HopLimit ≡ (passed_on s (tunnel_is t) from n o).0) × IsConn c (passed_on s (tunnel_is t) from n o).1 in
+    subst P (sym is) (refl, stands)
+
+pub on_some : (c d : Conn) (id place n : ℕ) (from : From) (packet lower : List ℕ) (said : Note) → onward packet ≡ Some lower → QueuesAt c d place id from n lower said → GoesOnAt c d place id from n packet said
+on_some c d id place n from packet lower said is queues t at s stands =
+    let P : Option (List ℕ) → Type 0 = λ o. (said ≡ (passed_on s (tunnel_is t) from n o).0) × IsConn d (passed_on s (tunnel_is t) from n o).1 in
+    subst P (sym is) (queues t at s stands)
 
 -- the tunnels are others, of as many and with as much room
 pub record Sets (c e : Conn) (place : ℕ) (t : Tunnel) : Type 0 where
@@ -137,34 +187,29 @@ pub record Sets (c e : Conn) (place : ℕ) (t : Tunnel) : Type 0 where
   pub capacity : vec_capacity e.tunnels ≡ vec_capacity c.tunnels
 
 pub queues : (c e d : Conn) (id place : ℕ) (t : Tunnel) (from : From) (n : ℕ) (packet : List ℕ) → IsPlaceOf c.tunnels.items id place t → full c.tunnels.items t packet ≡ false
-    → Sets c e place (record t { waiting = t.waiting ++ a_packet from n packet ∷ [] }) → Settles e d → Delivers c d from n id packet (note.Queued from n id)
-queues c e d id place t from n packet at is sets settles s stands =
-    by_state c (λ (x : machine.Conn). Comes d x (tunnel_of x id) from n packet (note.Queued from n id)) go s stands
+    → Sets c e place (record t { waiting = t.waiting ++ a_packet from n packet ∷ [] }) → Settles e d → QueuesTo c d t from n packet (note.Queued from n id)
+queues c e d id place t from n packet at is sets settles s stands = by_state c (λ (x : machine.Conn).
+    (note.Queued from n id ≡ (settled_note (queued x (tunnel_is t) from n packet)).0) × IsConn d (settled_note (queued x (tunnel_is t) from n packet)).1) go s stands
   where
     w : Waiting
     w = a_packet from n packet
 
-    go : (p : Past) → Is c p → Comes d (state c p) (tunnel_of (state c p) id) from n packet (note.Queued from n id)
+    go : (p : Past) → Is c p → (note.Queued from n id ≡ (settled_note (queued (state c p) (tunnel_is t) from n packet)).0) × IsConn d (settled_note (queued (state c p) (tunnel_is t) from n packet)).1
     go p h =
-        let T : Option machine.Tunnel → Type 0 = λ o. Comes d (state c p) o from n packet (note.Queued from n id) in
         let y : machine.Conn = record (state c p) { tunnels = waits_last t.id w (tunnels_of c.tunnels.items) } in
         let placed : waits_last t.id w (tunnels_of c.tunnels.items) ≡ tunnels_of e.tunnels.items =
         ap (λ (k : ℕ). waits_last k w (tunnels_of c.tunnels.items)) at.id_is ∙ waits_at c.tunnels.items id place t w at ∙ ap tunnels_of (sym sets.items) in
-        let R : ℕ → Type 0 = λ len. HasRoom c.first len (vec_capacity e.tunnels) in
-        let S : ℕ → Type 0 = λ capacity. HasRoom c.first (vec_len c.tunnels) capacity in
         let kept : Stands (record c { tunnels = e.tunnels }) y = record {
           past = p;
           is = ap (λ (ts : List machine.Tunnel). record (state c p) { tunnels = ts }) placed;
           read = h.read;
           given = h.given;
-          room = subst R (sym sets.len) (subst S (sym sets.capacity) h.room);
-          opens = h.opens;
+          ready = ready_same c.spare (vec_len c.tunnels) (vec_capacity c.tunnels) (vec_len e.tunnels) (vec_capacity e.tunnels) c.first c.due sets.len sets.capacity h.ready;
         } in
         let E : Conn → Type 0 = λ v. Stands v y in
         let loose : IsLoose y = waiting_loose t.id w (state c p) h.lawful.loose in
-        subst T (sym (found c.tunnels.items id place t at))
-        (comes_to d (state c p) (tunnel_is t) from n packet (note.Queued from n id) (came false (state c p) t.id from n packet) (queued_is c p t from n packet false is)
-        (ap (λ (k : ℕ). note.Queued from n k) (sym at.id_is)) (settles_so e d y settles (subst E (sym sets.keeps) kept) loose))
+        comes_to d (state c p) (tunnel_is t) from n packet (note.Queued from n id) (came false (state c p) t.id from n packet) (queued_is c p t from n packet false is)
+        (ap (λ (k : ℕ). note.Queued from n k) (sym at.id_is)) (settles_so e d y settles (subst E (sym sets.keeps) kept) loose)
 
 -- ---- whose turn it is
 
@@ -311,8 +356,7 @@ puts_so old new place count t w rest g h at waits fronted keeps frames = record 
             is = ap (λ (e : Option End). record (state old p) { front = puts.front; out = p.out ++ puts.text; ending = e }) (ap (λ (e : Option End). first_of old.ending e) (framing_goes p.front t.stream (take count bytes)) ∙ goes_first old.ending);
             read = (r.0, subst O (sym (drop_more p.given p.out puts.text k.given)) f.put);
             given = given_more p.given p.out puts.text k.given;
-            room = k.room;
-            opens = k.opens;
+            ready = k.ready;
           }),
         )
 
@@ -369,14 +413,13 @@ frames_so old mid new d place count said turns goes put takes settles s stands =
         set_at old.tunnels.items place u (took_waiting b put.w put.rest count) h.lawful.loose.alone put.at
         ∙ ap (λ (ts : List Tunnel). tunnels_of (slice_set ts place (record u { waiting = took_waiting b put.w put.rest count }))) (sym items) ∙ ap tunnels_of (sym takes.items) in
         let e : Conn = record mid { tunnels = new.tunnels; next_tunnel = u.id + 1 } in
-        let R : Option First → Type 0 = λ o. HasRoom o (vec_len new.tunnels) (vec_capacity new.tunnels) in
+        let due_is : mid.due ≡ [] = ap (λ (c : Conn). c.due) put.keeps ∙ idle.due in
         let stood : Stands e z = record {
           past = q;
           is = ap (λ (ts : List machine.Tunnel). record y { tunnels = ts; next_tunnel = u.id + 1 }) placed ∙ ap (λ (v : machine.Conn). record v { tunnels = tunnels_of new.tunnels.items; next_tunnel = u.id + 1 }) k.is;
           read = k.read;
           given = k.given;
-          room = subst R (sym first_is) tt;
-          opens = k.opens;
+          ready = ready_idle mid.spare (vec_len new.tunnels) (vec_capacity new.tunnels) mid.first mid.due first_is due_is k.ready.spare_is;
         } in
         let E : Conn → Type 0 = λ c. Stands c z in (
           settle z,
@@ -413,8 +456,8 @@ pub puts_first : (old new : Conn) (place : ℕ) (r : Result ℕ NoMemory) (t : T
     → ((f : machine.Front) (streams : List Stream) (owed : List ℕ) → IsFront g f streams owed → Frames h r f t.stream (drop w.framed w.capsule) streams owed) → PutsFirst old new place r
 puts_first old new place (Ok count) t w rest g h at waits fronted keeps frames = puts_so old new place count t w rest g h at waits fronted keeps frames
 puts_first old new place (Err fault) t w rest g h at waits fronted keeps frames =
-    let P : Conn → Type 0 = λ x. x ≡ record old { front = x.front; first = x.first; due = x.due; ending = x.ending } in
-    subst P (sym keeps) refl
+    let P : Conn → Type 0 = λ x. Leaves old x in
+    subst P (sym keeps) (record { is = refl; items = refl; spare_is = λ h. h })
 
 framed_goes : (x : machine.Conn) (t : machine.Tunnel) → next_framed x ≡ Some t → can_go_on x ≡ true
 framed_goes x t h = go (can_go_on x) h

@@ -4,8 +4,11 @@ pub mod QueueLists
 pub mod Wanting
 pub mod Framing
 pub mod Feeding
-pub mod Parcels
 mod Standing
 mod Answering
 mod Hearing
 mod Passing
+mod Ready
+mod Valuing
+mod Opening
+mod Parcels

@@ -1,178 +1,152 @@
--- A connection whose tunnels are for UDP wants no verdict on a packet, and no push.
-use Rattle.std.proofs.Common.{◌≡◌, ℕ, cond, Bool, true, false, List, [], ◌∷◌, Option, Some, None, Err, refl, sym, ap, ◌∙◌, subst}
-use Rattle.std.specs.Prelude.{option_map}
+-- Packets are judged and pushed.
+use Rattle.std.proofs.Common.{◌≡◌, ℕ, ◌==◌, nat_le, Bool, true, false, cond, List, [], ◌∷◌, Option, Some, None, Ok, refl, sym, ap, ◌∙◌, subst}
+use Rattle.std.specs.Prelude.{find, option_map, vec_len, vec_capacity}
 use Rattle.std.specs.Option.{is_some}
-use Rattle.mq_talk.specs.declared.book.Reply.{Reply}
-use Rattle.mq_talk.specs.declared.book.Reply.TheVariants as reply
+use Rattle.mq_addr.specs.declared.kind.Kind.{Kind}
+use Rattle.mq_addr.specs.declared.range.Flow.{Flow}
+use Rattle.mq_front.specs.Limits.{AllMayBeDue}
 use Rattle.mq_talk.specs.declared.note.End.{End}
 use Rattle.mq_talk.specs.declared.note.Note.{Note}
+use Rattle.mq_talk.specs.declared.place.Judged.{Judged as Verdict}
+use Rattle.mq_talk.specs.declared.place.Origin.TheVariants as origin
 use Rattle.mq_talk.specs.declared.place.Parcel.{Parcel}
+use Rattle.mq_talk.specs.declared.place.Place.{Place}
 use Rattle.mq_machine.specs.declared.act.Act.{Act}
 use Rattle.mq_machine.specs.declared.act.Act.TheVariants as act
 use Rattle.mq_machine.specs.declared.act.StreamAct.{StreamAct}
 use Rattle.mq_machine.specs.declared.act.StreamAct.TheVariants as stream
 use Rattle.mq_machine.specs.declared.act.Due.{Due}
 use Rattle.mq_machine.specs.declared.act.Due.TheVariants as due
-use Rattle.mq_machine.specs.Done.{Done, done, done_by, due_done, tunnel_done, act_done, ending_done}
-use Rattle.mq_machine.specs.Lawful.{Follows, IsAsked, IsServed, kind_on, IsLawful}
-use Rattle.mq_machine.proofs.Lawful.Idle.{served_asked}
-use Rattle.mq_addr.specs.declared.kind.Kind.TheVariants as kind
-use Rattle.std.specs.List.{AllByRecursion}
-use Rattle.mq_machine.specs.Settle.{settle, gives_up}
+use Rattle.mq_machine.specs.Done.{Done, before, done, done_by, due_done, judged, stream_done, tunnel_done}
+use Rattle.mq_machine.specs.Lawful.{AreSeated, Fits, IsAskedOf, IsFresh, IsLawful, IsLoose, IsOver, IsUsed, Loose, kind_on}
+use Rattle.mq_machine.specs.Settle.{gives_up, settle}
 use Rattle.mq_machine.specs.State as machine
-use Rattle.mq_machine.specs.State.{tunnel_on}
-use Rattle.mq_machine.specs.Want.{Want, Nothing, Say, Bind, Ask, Judge, Push, Send, Over, Answer, Said, Bound, Replied, Judged, Pushed, Put, act_want, due_want, ending_want, want_by, want_of, tunnel_want, over_want}
+use Rattle.mq_machine.specs.State.{Head, OverHttp1, OverHttp2, Stream, owed, tunnel_on, values}
+use Rattle.mq_machine.specs.Want.{Answer, Ask, Bind, Judge, Judged, Nothing, Over, Push, Pushed, Say, Send, Want, most_values, due_want, ending_want, over_want, tunnel_want, want_by, want_of}
+use Rattle.mq_conn.specs.Acts.{DoesAct}
 use Rattle.mq_conn.specs.declared.conn.Conn.{Conn}
-use Rattle.mq_wire.specs.declared.NoMemory.{NoMemory}
-use Rattle.mq_conn.specs.Conns.{IsConn, Does, GivesParcel, Hears}
+use Rattle.mq_conn.specs.declared.conn.First.{First}
+use Rattle.mq_conn.specs.declared.conn.First.TheVariants as first
+use Rattle.mq_conn.specs.declared.packets.Judging.{Judging}
+use Rattle.mq_conn.specs.declared.packets.Pushing.{Pushing}
+use Rattle.mq_talk.specs.declared.book.Call.{Call}
+use Rattle.mq_talk.specs.declared.book.Call.TheVariants as call
+use Rattle.mq_conn.specs.Conns.{Does, GivesParcel, IsConn, IsReady, Stands, behind, emptied, emptied_dues, find_on, state}
+use Rattle.mq_conn.specs.Packets.{HasNoPush, HasPush, JudgesNote, pushed_note}
+use Rattle.mq_conn.proofs.Answering.{does_due, leads, not_over, some_done}
+use Rattle.mq_conn.proofs.Ready.{ready_first}
+use Rattle.mq_conn.proofs.Standing.{due_is, fronted, tunnels_are}
 
--- a reply that tells addresses, or of routes
-abbrev IsOfValues : Reply → Type 0
-IsOfValues (reply.Opened tunnel routes) = ⊥
-IsOfValues (reply.HistoryFull entries live) = ⊥
-IsOfValues (reply.Assigned list at) = Unit {0}
-IsOfValues (reply.Accepted accepts at) = Unit {0}
-IsOfValues reply.Closed = ⊥
+-- ---- a verdict
 
--- an answer to a packet, or to a control value
-abbrev pub IsPackets : Answer → Type 0
-IsPackets Said = ⊥
-IsPackets (Bound ok) = ⊥
-IsPackets (Replied said) = IsOfValues said
-IsPackets (Judged verdict at) = Unit {0}
-IsPackets (Pushed ok) = Unit {0}
-IsPackets (Put put limit) = ⊥
+-- a push stands in front
+pub pushes : (c : Conn) (s : machine.Conn) (id n : ℕ) (to : Place) (packet : List ℕ) → c.first ≡ None → Stands c s
+    → Stands (record c { first = Some (first.Push id n to packet) }) (before (act.OfStream id (stream.Push n to packet)) s)
+pushes c s id n to packet none st =
+    let p = st.past in
+    let P : machine.Conn → Type 0 = λ x. Stands (record c { first = Some (first.Push id n to packet) }) (before (act.OfStream id (stream.Push n to packet)) x) in
+    subst P (sym st.is) (record {
+      past = p;
+      is = ap (λ (f : Option First). record (state c p) { due = due.Do (act.OfStream id (stream.Push n to packet)) ∷ behind f c.due }) none;
+      read = st.read;
+      given = st.given;
+      ready = ready_first c.spare (vec_len c.tunnels) (vec_capacity c.tunnels) c.first (first.Push id n to packet) c.due none refl st.ready;
+    })
 
--- what is asked of a tunnel for UDP
-abbrev AsksUdp : Act → Type 0
-AsksUdp (act.Bind id goal) = Unit {0}
-AsksUdp (act.Open id goal) = Unit {0}
-AsksUdp (act.Refuse id status rule) = Unit {0}
-AsksUdp (act.Reset id code) = Unit {0}
-AsksUdp (act.OfStream id a) = IsAsked kind.Udp a
+pub judges_pass : (c : Conn) (s : machine.Conn) (t : machine.Tunnel) (id number n : ℕ) (to : Place) (packet : List ℕ) → c.first ≡ None → t.stream ≡ id → Stands c s
+    → Stands (record c { first = Some (first.Push id n to packet) }) (before (act.OfStream t.stream (stream.Push n to packet)) s)
+judges_pass c s t id number n to packet none on st =
+    let P : ℕ → Type 0 = λ k. Stands (record c { first = Some (first.Push id n to packet) }) (before (act.OfStream k (stream.Push n to packet)) s) in
+    subst P (sym on) (pushes c s id n to packet none st)
 
-abbrev AreServed : List machine.Tunnel → Type 0
-AreServed ts = AllByRecursion (λ (t : machine.Tunnel). IsServed t.goal) ts
+-- it was judged
+pub judges : (mid acted : Conn) (id number : ℕ) (p : Judging) (flow : Flow) (j : Verdict) (said : Note) (t : machine.Tunnel) → find_on mid p.stream ≡ Some t → t.id ≡ number → t.stream ≡ p.stream
+    → mid.first ≡ None → JudgesNote mid acted number p j said → DoesAct mid acted (act.OfStream p.stream (stream.Packet p.n p.packet flow)) (Judged j.verdict j.at) (Ok said)
+judges mid acted id number p flow j said t live same on none note s st over =
+    let here : tunnel_on s p.stream ≡ Some t = ap (λ (ts : List machine.Tunnel). find (λ (u : machine.Tunnel). u.stream == p.stream) ts) (tunnels_are mid s st) ∙ live in
+    let r = note s t st none same on in
+    let x = (judged s t p.n p.packet j.verdict j.at).1 in (
+      x,
+      ap (λ (o : Option machine.Tunnel). tunnel_done s o (stream.Packet p.n p.packet flow) (Judged j.verdict j.at)) here ∙ ap (λ (n : Note). Some (n, x)) (sym r.0),
+      r.1,
+    )
 
-due_asks : (live : List machine.Tunnel) (a : Act) (rest : List Due) → AreServed live → Follows (kind_on live) (due.Do a ∷ rest) → AsksUdp a
-due_asks live (act.Bind id goal) rest all h = tt
-due_asks live (act.Open id goal) rest all h = tt
-due_asks live (act.Refuse id status rule) rest all h = tt
-due_asks live (act.Reset id code) rest all h = tt
-due_asks live (act.OfStream id a) rest all h = served_asked live id a all h.0
+-- ---- the act in front, once it was taken
 
--- ---- it wants no such answer
+pub acts_first : (old mid acted e : Conn) (a : Act) (answer : Answer) (said : Note) → mid ≡ record old { first = None } → behind old.first old.due ≡ due.Do a ∷ old.due
+    → ((ts : List machine.Tunnel) → IsFresh ts answer) → DoesAct mid acted a answer (Ok said)
+    → ((x : machine.Conn) → Stands acted x → IsLoose x → Stands e (settle x)) → Does old e answer said
+acts_first old mid acted e a answer said keeps is fresh does ends s conn some =
+    let due_so = due_is old s conn.stands ∙ is in
+    let over = not_over s (due.Do a) old.due conn.lawful due_so in
+    let x = record s { due = old.due } in
+    let P : Conn → Type 0 = λ k. Stands k x in
+    let r = does x (subst P (sym keeps) (fronted old s (due.Do a) old.due is conn.stands)) over in
+    leads e s answer said conn.lawful (fresh s.tunnels) (record {
+      x = r.0;
+      does = does_due s a old.due answer over due_so ∙ r.1;
+      stands = λ loose. ends r.0 r.2 loose;
+    })
 
-stream_none : (x : machine.Conn) (o : Option machine.Tunnel) (a : StreamAct) (answer : Answer) → IsAsked kind.Udp a → IsPackets answer → tunnel_done x o a answer ≡ None
-stream_none x o a Said h k = absurd k
-stream_none x o a (Bound ok) h k = absurd k
-stream_none x o a (Replied (reply.Opened tunnel routes)) h k = absurd k
-stream_none x o a (Replied (reply.HistoryFull entries live)) h k = absurd k
-stream_none x o a (Replied reply.Closed) h k = absurd k
-stream_none x None a (Replied (reply.Assigned list at)) h k = refl
-stream_none x None a (Replied (reply.Accepted accepts at)) h k = refl
-stream_none x (Some t) (stream.Payload n payload) (Replied (reply.Assigned list at)) h k = refl
-stream_none x (Some t) (stream.Payload n payload) (Replied (reply.Accepted accepts at)) h k = refl
-stream_none x (Some t) (stream.Packet n packet flow) (Replied (reply.Assigned list at)) h k = absurd h
-stream_none x (Some t) (stream.Packet n packet flow) (Replied (reply.Accepted accepts at)) h k = absurd h
-stream_none x (Some t) (stream.Push n to packet) (Replied (reply.Assigned list at)) h k = absurd h
-stream_none x (Some t) (stream.Push n to packet) (Replied (reply.Accepted accepts at)) h k = absurd h
-stream_none x (Some t) (stream.Drop n cause) (Replied (reply.Assigned list at)) h k = refl
-stream_none x (Some t) (stream.Drop n cause) (Replied (reply.Accepted accepts at)) h k = refl
-stream_none x (Some t) (stream.Assign asked) (Replied (reply.Assigned list at)) h k = absurd h
-stream_none x (Some t) (stream.Assign asked) (Replied (reply.Accepted accepts at)) h k = absurd h
-stream_none x (Some t) (stream.Advertise ranges) (Replied (reply.Assigned list at)) h k = absurd h
-stream_none x (Some t) (stream.Advertise ranges) (Replied (reply.Accepted accepts at)) h k = absurd h
-stream_none x (Some t) (stream.Close why) (Replied (reply.Assigned list at)) h k = refl
-stream_none x (Some t) (stream.Close why) (Replied (reply.Accepted accepts at)) h k = refl
-stream_none x o a (Put put limit) h k = absurd k
-stream_none x None a (Judged verdict at) h k = refl
-stream_none x None a (Pushed ok) h k = refl
-stream_none x (Some t) (stream.Payload n payload) (Judged verdict at) h k = refl
-stream_none x (Some t) (stream.Payload n payload) (Pushed ok) h k = refl
-stream_none x (Some t) (stream.Packet n packet flow) (Judged verdict at) h k = absurd h
-stream_none x (Some t) (stream.Packet n packet flow) (Pushed ok) h k = absurd h
-stream_none x (Some t) (stream.Push n to packet) (Judged verdict at) h k = absurd h
-stream_none x (Some t) (stream.Push n to packet) (Pushed ok) h k = absurd h
-stream_none x (Some t) (stream.Drop n cause) (Judged verdict at) h k = refl
-stream_none x (Some t) (stream.Drop n cause) (Pushed ok) h k = refl
-stream_none x (Some t) (stream.Assign asked) (Judged verdict at) h k = absurd h
-stream_none x (Some t) (stream.Assign asked) (Pushed ok) h k = absurd h
-stream_none x (Some t) (stream.Advertise ranges) (Judged verdict at) h k = absurd h
-stream_none x (Some t) (stream.Advertise ranges) (Pushed ok) h k = absurd h
-stream_none x (Some t) (stream.Close why) (Judged verdict at) h k = refl
-stream_none x (Some t) (stream.Close why) (Pushed ok) h k = refl
+push_done : (x : machine.Conn) (t : machine.Tunnel) (n : ℕ) (to : Place) (packet : List ℕ) (taken : Bool) → stream_done x t (stream.Push n to packet) (Pushed taken) ≡ Some (pushed_note t.id n to taken, x)
+push_done x t n to packet true = refl
+push_done x t n to packet false = refl
 
-act_none : (x : machine.Conn) (a : Act) (answer : Answer) → AsksUdp a → IsPackets answer → act_done x a answer ≡ None
-act_none x a Said h k = absurd k
-act_none x a (Bound ok) h k = absurd k
-act_none x a (Replied (reply.Opened tunnel routes)) h k = absurd k
-act_none x a (Replied (reply.HistoryFull entries live)) h k = absurd k
-act_none x a (Replied reply.Closed) h k = absurd k
-act_none x (act.Bind id goal) (Replied (reply.Assigned list at)) h k = refl
-act_none x (act.Open id goal) (Replied (reply.Assigned list at)) h k = refl
-act_none x (act.Refuse id status rule) (Replied (reply.Assigned list at)) h k = refl
-act_none x (act.Reset id code) (Replied (reply.Assigned list at)) h k = refl
-act_none x (act.OfStream id a) (Replied (reply.Assigned list at)) h k = stream_none x (tunnel_on x id) a (Replied (reply.Assigned list at)) h k
-act_none x (act.Bind id goal) (Replied (reply.Accepted accepts at)) h k = refl
-act_none x (act.Open id goal) (Replied (reply.Accepted accepts at)) h k = refl
-act_none x (act.Refuse id status rule) (Replied (reply.Accepted accepts at)) h k = refl
-act_none x (act.Reset id code) (Replied (reply.Accepted accepts at)) h k = refl
-act_none x (act.OfStream id a) (Replied (reply.Accepted accepts at)) h k = stream_none x (tunnel_on x id) a (Replied (reply.Accepted accepts at)) h k
-act_none x a (Put put limit) h k = absurd k
-act_none x (act.Bind id goal) (Judged verdict at) h k = refl
-act_none x (act.Bind id goal) (Pushed ok) h k = refl
-act_none x (act.Open id goal) (Judged verdict at) h k = refl
-act_none x (act.Open id goal) (Pushed ok) h k = refl
-act_none x (act.Refuse id status rule) (Judged verdict at) h k = refl
-act_none x (act.Refuse id status rule) (Pushed ok) h k = refl
-act_none x (act.Reset id code) (Judged verdict at) h k = refl
-act_none x (act.Reset id code) (Pushed ok) h k = refl
-act_none x (act.OfStream id a) (Judged verdict at) h k = stream_none x (tunnel_on x id) a (Judged verdict at) h k
-act_none x (act.OfStream id a) (Pushed ok) h k = stream_none x (tunnel_on x id) a (Pushed ok) h k
+pub tells_push : (c : Conn) (id number n : ℕ) (to : Place) (packet : List ℕ) (taken : Bool) (t : machine.Tunnel) → find_on c id ≡ Some t → t.id ≡ number
+    → DoesAct c c (act.OfStream id (stream.Push n to packet)) (Pushed taken) (Ok (pushed_note number n to taken))
+tells_push c id number n to packet taken t live same s st over =
+    let here : tunnel_on s id ≡ Some t = ap (λ (ts : List machine.Tunnel). find (λ (u : machine.Tunnel). u.stream == id) ts) (tunnels_are c s st) ∙ live in
+    (s, ap (λ (o : Option machine.Tunnel). tunnel_done s o (stream.Push n to packet) (Pushed taken)) here ∙ push_done s t n to packet taken ∙ ap (λ (k : ℕ). Some (pushed_note k n to taken, s)) same, st)
 
-ending_none : (x : machine.Conn) (ts : List machine.Tunnel) (answer : Answer) → IsPackets answer → ending_done x ts answer ≡ None
-ending_none x ts Said k = absurd k
-ending_none x ts (Bound ok) k = absurd k
-ending_none x ts (Replied (reply.Opened tunnel routes)) k = absurd k
-ending_none x ts (Replied (reply.HistoryFull entries live)) k = absurd k
-ending_none x ts (Replied reply.Closed) k = absurd k
-ending_none x [] (Replied (reply.Assigned list at)) k = refl
-ending_none x (t ∷ ts) (Replied (reply.Assigned list at)) k = refl
-ending_none x [] (Replied (reply.Accepted accepts at)) k = refl
-ending_none x (t ∷ ts) (Replied (reply.Accepted accepts at)) k = refl
-ending_none x ts (Put put limit) k = absurd k
-ending_none x [] (Judged verdict at) k = refl
-ending_none x [] (Pushed ok) k = refl
-ending_none x (t ∷ ts) (Judged verdict at) k = refl
-ending_none x (t ∷ ts) (Pushed ok) k = refl
+pub first_push : (c : Conn) (p : Pushing) (packet : List ℕ) → HasPush c p packet → behind c.first c.due ≡ due.Do (act.OfStream p.stream (stream.Push p.n p.to packet)) ∷ c.due
+first_push c p packet is = ap (λ (f : Option First). behind f c.due) is
 
-due_none : (x : machine.Conn) (live : List machine.Tunnel) (dues : List Due) (answer : Answer) → AreServed live → Follows (kind_on live) dues → IsPackets answer → due_done x dues answer ≡ None
-due_none x live [] answer all h k = refl
-due_none x live (due.Do a ∷ rest) answer all h k = act_none (record x { due = rest }) a answer (due_asks live a rest all h) k
-due_none x live (due.Spend id size ∷ rest) answer all h k = refl
-due_none x live (due.Fault code ∷ rest) answer all h k = refl
+-- ---- no push is due
 
-by_none : (x : machine.Conn) (e : Option End) (live : List machine.Tunnel) (answer : Answer) → AreServed live → Follows (kind_on live) x.due → IsPackets answer → done_by x e answer ≡ None
-by_none x None live answer all h k = due_none x live x.due answer all h k
-by_none x (Some reason) live answer all h k = ending_none x x.tunnels answer k
+abbrev pub IsNoPush : List Due → Type 0
+IsNoPush [] = Unit {0}
+IsNoPush (due.Do (act.Bind id goal) ∷ rest) = Unit {0}
+IsNoPush (due.Do (act.Open id goal) ∷ rest) = Unit {0}
+IsNoPush (due.Do (act.Refuse id status rule) ∷ rest) = Unit {0}
+IsNoPush (due.Do (act.Reset id code) ∷ rest) = Unit {0}
+IsNoPush (due.Do (act.OfStream id (stream.Payload n payload)) ∷ rest) = Unit {0}
+IsNoPush (due.Do (act.OfStream id (stream.Packet n packet flow)) ∷ rest) = Unit {0}
+IsNoPush (due.Do (act.OfStream id (stream.Push n to packet)) ∷ rest) = ⊥
+IsNoPush (due.Do (act.OfStream id (stream.Drop n cause)) ∷ rest) = Unit {0}
+IsNoPush (due.Do (act.OfStream id (stream.Assign asked)) ∷ rest) = Unit {0}
+IsNoPush (due.Do (act.OfStream id (stream.Advertise ranges)) ∷ rest) = Unit {0}
+IsNoPush (due.Do (act.OfStream id (stream.Close reason)) ∷ rest) = Unit {0}
+IsNoPush (due.Spend id size ∷ rest) = Unit {0}
+IsNoPush (due.Fault code ∷ rest) = Unit {0}
 
-pub none_done : (s : machine.Conn) (answer : Answer) → IsLawful s → IsPackets answer → done s answer ≡ None
-none_done s answer h k = ap (λ (o : Done). option_map (λ (d : Note × machine.Conn). (d.0, settle d.1)) o) (by_none s s.ending s.tunnels answer h.loose.served h.loose.follows k)
+due_no_push : (dues : List Due) → AllMayBeDue dues → IsNoPush dues
+due_no_push [] h = tt
+due_no_push (due.Do (act.Bind id goal) ∷ rest) h = tt
+due_no_push (due.Do (act.Open id goal) ∷ rest) h = tt
+due_no_push (due.Do (act.Refuse id status rule) ∷ rest) h = tt
+due_no_push (due.Do (act.Reset id code) ∷ rest) h = tt
+due_no_push (due.Do (act.OfStream id (stream.Payload n payload)) ∷ rest) h = tt
+due_no_push (due.Do (act.OfStream id (stream.Packet n packet flow)) ∷ rest) h = tt
+due_no_push (due.Do (act.OfStream id (stream.Push n to packet)) ∷ rest) h = absurd h.0
+due_no_push (due.Do (act.OfStream id (stream.Drop n cause)) ∷ rest) h = tt
+due_no_push (due.Do (act.OfStream id (stream.Assign asked)) ∷ rest) h = tt
+due_no_push (due.Do (act.OfStream id (stream.Advertise ranges)) ∷ rest) h = tt
+due_no_push (due.Do (act.OfStream id (stream.Close reason)) ∷ rest) h = tt
+due_no_push (due.Spend id size ∷ rest) h = tt
+due_no_push (due.Fault code ∷ rest) h = tt
 
-pub no_packets : (c d : Conn) (answer : Answer) (said : Note) → IsPackets answer → Does c d answer said
-no_packets c d answer said k s stands some =
-    let e : true ≡ false = sym some ∙ ap (λ (o : Done). is_some o) (none_done s answer stands.lawful k) in
-    absurd cc
+front_no_push : (c : Conn) (f : Option First) → c.first ≡ f → HasNoPush c → AllMayBeDue c.due → IsNoPush (behind f c.due)
+front_no_push c None is none may = due_no_push c.due may
+front_no_push c (Some (first.Open id goal)) is none may = tt
+front_no_push c (Some (first.Close id reason)) is none may = tt
+front_no_push c (Some (first.Push id n to packet)) is none may = absurd (none (record { stream = id; n = n; to = to }) packet is)
 
--- nor such a reply
-pub no_reply : (c d : Conn) (said : Reply) (fault : NoMemory) → IsPackets (Replied said) → Hears c d said (Err fault)
-no_reply c d said fault k after gives s stands some =
-    let e : true ≡ false = sym some ∙ ap (λ (o : Done). is_some o) (none_done s (Replied said) stands.lawful k) in
-    absurd cc
+no_push : (c : Conn) (s : machine.Conn) → HasNoPush c → Stands c s → IsNoPush s.due
+no_push c s none st =
+    let P : List Due → Type 0 = λ ds. IsNoPush ds in
+    subst P (sym (due_is c s st)) (front_no_push c c.first refl none st.ready.may)
 
--- ---- it wants no push
-
+-- what isn't wanted then
 abbrev is_push : Want → Bool
 is_push Nothing = false
 is_push Say = false
@@ -181,47 +155,237 @@ is_push (Ask call) = false
 is_push (Judge tunnel n flow) = false
 is_push (Push parcel) = true
 is_push (Send tunnel n payload) = false
-is_push (Over why) = false
+is_push (Over reason) = false
 
-over_no_push : (why : End) (owed : List ℕ) → is_push (over_want why owed) ≡ false
-over_no_push why [] = refl
-over_no_push why (b ∷ owed) = go (gives_up why)
+over_isnt : (reason : End) (bytes : List ℕ) → is_push (over_want reason bytes) ≡ false
+over_isnt reason [] = refl
+over_isnt reason (b ∷ bytes) = either (gives_up reason)
   where
-    go : (gives : Bool) → is_push (cond gives (Over why) Nothing) ≡ false
-    go true = refl
-    go false = refl
+    either : (gives : Bool) → is_push (cond gives (Over reason) Nothing) ≡ false
+    either true = refl
+    either false = refl
 
-stream_no_push : (o : Option machine.Tunnel) (a : StreamAct) → IsAsked kind.Udp a → is_push (tunnel_want o a) ≡ false
-stream_no_push None a h = refl
-stream_no_push (Some u) (stream.Payload m bytes) h = refl
-stream_no_push (Some u) (stream.Packet m packet flow) h = absurd h
-stream_no_push (Some u) (stream.Push m to packet) h = absurd h
-stream_no_push (Some u) (stream.Drop m cause) h = refl
-stream_no_push (Some u) (stream.Assign asked) h = absurd h
-stream_no_push (Some u) (stream.Advertise ranges) h = absurd h
-stream_no_push (Some u) (stream.Close why) h = refl
+ending_isnt : (x : machine.Conn) (reason : End) (ts : List machine.Tunnel) → is_push (ending_want x reason ts) ≡ false
+ending_isnt x reason [] = over_isnt reason (owed x)
+ending_isnt x reason (t ∷ ts) = refl
 
-act_no_push : (x : machine.Conn) (a : Act) → AsksUdp a → is_push (act_want x a) ≡ false
-act_no_push x (act.Bind id goal) h = refl
-act_no_push x (act.Open id goal) h = refl
-act_no_push x (act.Refuse id status rule) h = refl
-act_no_push x (act.Reset id code) h = refl
-act_no_push x (act.OfStream id a) h = stream_no_push (tunnel_on x id) a h
+ask_either : (b : Bool) (one other : Call) → is_push (cond b (Ask one) (Ask other)) ≡ false
+ask_either true one other = refl
+ask_either false one other = refl
 
-due_no_push : (x : machine.Conn) (live : List machine.Tunnel) (dues : List Due) → AreServed live → Follows (kind_on live) dues → is_push (due_want x dues) ≡ false
-due_no_push x live [] all h = refl
-due_no_push x live (due.Do a ∷ rest) all h = act_no_push x a (due_asks live a rest all h)
-due_no_push x live (due.Spend id size ∷ rest) all h = refl
-due_no_push x live (due.Fault code ∷ rest) all h = refl
+stream_isnt : (o : Option machine.Tunnel) (id : ℕ) (a : StreamAct) (rest : List Due) → IsNoPush (due.Do (act.OfStream id a) ∷ rest) → is_push (tunnel_want o a) ≡ false
+stream_isnt None id a rest h = refl
+stream_isnt (Some t) id (stream.Payload n payload) rest h = refl
+stream_isnt (Some t) id (stream.Packet n packet flow) rest h = refl
+stream_isnt (Some t) id (stream.Push n to packet) rest h = absurd h
+stream_isnt (Some t) id (stream.Drop n cause) rest h = refl
+stream_isnt (Some t) id (stream.Assign asked) rest h = ask_either (nat_le most_values (values t)) (call.Close t.id) (call.Assign t.id asked)
+stream_isnt (Some t) id (stream.Advertise ranges) rest h = refl
+stream_isnt (Some t) id (stream.Close reason) rest h = refl
 
-by_no_push : (x : machine.Conn) (e : Option End) (live : List machine.Tunnel) (ts : List machine.Tunnel) → AreServed live → Follows (kind_on live) x.due → is_push (want_by (record x { tunnels = ts }) e) ≡ false
-by_no_push x None live ts all h = due_no_push (record x { tunnels = ts }) live x.due all h
-by_no_push x (Some reason) live [] all h = over_no_push reason (machine.owed x)
-by_no_push x (Some reason) live (t ∷ ts) all h = refl
+due_isnt : (x : machine.Conn) (dues : List Due) → IsNoPush dues → is_push (due_want x dues) ≡ false
+due_isnt x [] h = refl
+due_isnt x (due.Do (act.Bind id goal) ∷ rest) h = refl
+due_isnt x (due.Do (act.Open id goal) ∷ rest) h = refl
+due_isnt x (due.Do (act.Refuse id status rule) ∷ rest) h = refl
+due_isnt x (due.Do (act.Reset id code) ∷ rest) h = refl
+due_isnt x (due.Do (act.OfStream id a) ∷ rest) h = stream_isnt (tunnel_on x id) id a rest h
+due_isnt x (due.Spend id size ∷ rest) h = refl
+due_isnt x (due.Fault code ∷ rest) h = refl
 
-pub no_parcel : (c : Conn) (parcel : Parcel) → GivesParcel c c parcel
-no_parcel c parcel s stands =
-    let isnt : is_push (want_of s) ≡ false = by_no_push s s.ending s.tunnels s.tunnels stands.lawful.loose.served stands.lawful.loose.follows in (
-      stands,
-      λ wanted is. (let e : true ≡ false = sym (ap is_push is) ∙ isnt in absurd cc),
-    )
+by_isnt : (s : machine.Conn) (e : Option End) → IsNoPush s.due → is_push (want_by s e) ≡ false
+by_isnt s None h = due_isnt s s.due h
+by_isnt s (Some reason) h = ending_isnt s reason s.tunnels
+
+pub wants_no_push : (s : machine.Conn) (wanted : Parcel) → IsNoPush s.due → want_of s ≡ Push wanted → ⊥
+wants_no_push s wanted h is = let e : true ≡ false = sym (ap is_push is) ∙ by_isnt s s.ending h in cc
+
+-- nor done
+stream_undone : (x : machine.Conn) (o : Option machine.Tunnel) (id : ℕ) (a : StreamAct) (rest : List Due) (taken : Bool) → IsNoPush (due.Do (act.OfStream id a) ∷ rest) → tunnel_done x o a (Pushed taken) ≡ None
+stream_undone x None id a rest taken h = refl
+stream_undone x (Some t) id (stream.Payload n payload) rest taken h = refl
+stream_undone x (Some t) id (stream.Packet n packet flow) rest taken h = refl
+stream_undone x (Some t) id (stream.Push n to packet) rest taken h = absurd h
+stream_undone x (Some t) id (stream.Drop n cause) rest taken h = refl
+stream_undone x (Some t) id (stream.Assign asked) rest taken h = refl
+stream_undone x (Some t) id (stream.Advertise ranges) rest taken h = refl
+stream_undone x (Some t) id (stream.Close reason) rest taken h = refl
+
+due_undone : (x : machine.Conn) (dues : List Due) (taken : Bool) → IsNoPush dues → due_done x dues (Pushed taken) ≡ None
+due_undone x [] taken h = refl
+due_undone x (due.Do (act.Bind id goal) ∷ rest) taken h = refl
+due_undone x (due.Do (act.Open id goal) ∷ rest) taken h = refl
+due_undone x (due.Do (act.Refuse id status rule) ∷ rest) taken h = refl
+due_undone x (due.Do (act.Reset id code) ∷ rest) taken h = refl
+due_undone x (due.Do (act.OfStream id a) ∷ rest) taken h = stream_undone (record x { due = rest }) (tunnel_on x id) id a rest taken h
+due_undone x (due.Spend id size ∷ rest) taken h = refl
+due_undone x (due.Fault code ∷ rest) taken h = refl
+
+by_undone : (s : machine.Conn) (e : Option End) (ts : List machine.Tunnel) (taken : Bool) → IsNoPush s.due → done_by (record s { tunnels = ts }) e (Pushed taken) ≡ None
+by_undone s None ts taken h = due_undone (record s { tunnels = ts }) s.due taken h
+by_undone s (Some reason) [] taken h = refl
+by_undone s (Some reason) (t ∷ ts) taken h = refl
+
+pub pushes_none : (old e : Conn) (taken : Bool) (said : Note) → HasNoPush old → Does old e (Pushed taken) said
+pushes_none old e taken said none s conn some =
+    let f : true ≡ false = sym (some_done s (Pushed taken) some) ∙ ap (λ (o : Done). is_some o) (by_undone s s.ending s.tunnels taken (no_push old s none conn.stands)) in
+    absurd cc
+
+-- ---- the parcel
+
+emptied_none : (dues : List Due) → IsNoPush dues → emptied_dues dues ≡ dues
+emptied_none [] h = refl
+emptied_none (due.Do (act.Bind id goal) ∷ rest) h = refl
+emptied_none (due.Do (act.Open id goal) ∷ rest) h = refl
+emptied_none (due.Do (act.Refuse id status rule) ∷ rest) h = refl
+emptied_none (due.Do (act.Reset id code) ∷ rest) h = refl
+emptied_none (due.Do (act.OfStream id (stream.Payload n payload)) ∷ rest) h = refl
+emptied_none (due.Do (act.OfStream id (stream.Packet n packet flow)) ∷ rest) h = refl
+emptied_none (due.Do (act.OfStream id (stream.Push n to packet)) ∷ rest) h = absurd h
+emptied_none (due.Do (act.OfStream id (stream.Drop n cause)) ∷ rest) h = refl
+emptied_none (due.Do (act.OfStream id (stream.Assign asked)) ∷ rest) h = refl
+emptied_none (due.Do (act.OfStream id (stream.Advertise ranges)) ∷ rest) h = refl
+emptied_none (due.Do (act.OfStream id (stream.Close reason)) ∷ rest) h = refl
+emptied_none (due.Spend id size ∷ rest) h = refl
+emptied_none (due.Fault code ∷ rest) h = refl
+
+-- where none is wanted, nothing is moved out
+pub gives_none : (old new : Conn) (parcel : Parcel) → HasNoPush old → new ≡ old → GivesParcel old new parcel
+gives_none old new parcel none is = record {
+  parcel_is = λ s conn wanted wants. absurd (wants_no_push s wanted (no_push old s none conn.stands) wants);
+  stands = λ s conn.
+      (let same : emptied s ≡ s = ap (λ (ds : List Due). record s { due = ds }) (emptied_none s.due (no_push old s none conn.stands)) in
+      let P : machine.Conn → Type 0 = λ x. IsConn new x in
+      let Q : Conn → Type 0 = λ k. IsConn k s in
+      subst P (sym same) (subst Q (sym is) conn));
+  same = λ s taken conn. ap (λ (ds : List Due). done (record s { due = ds }) (Pushed taken)) (emptied_none s.due (no_push old s none conn.stands));
+}
+
+-- a push without its bytes stands in front
+abbrev emptied_push : Pushing → Due
+emptied_push p = due.Do (act.OfStream p.stream (stream.Push p.n p.to []))
+
+asked_same : (kind : Option Kind) (n : ℕ) (to : Place) (packet : List ℕ) → IsAskedOf kind (stream.Push n to packet) → IsAskedOf kind (stream.Push n to [])
+asked_same None n to packet h = absurd h
+asked_same (Some kind) n to packet h = h
+
+seated_same : (e : Option End) (ts : List machine.Tunnel) (id n : ℕ) (to : Place) (packet : List ℕ) (rest : List Due) (ss : List Stream)
+    → AreSeated e ts (due.Do (act.OfStream id (stream.Push n to packet)) ∷ rest) ss → AreSeated e ts (due.Do (act.OfStream id (stream.Push n to [])) ∷ rest) ss
+seated_same None ts id n to packet rest ss h = h
+seated_same (Some reason) ts id n to packet rest ss h = tt
+
+over_same : (e : Option End) (d k : Due) (rest : List Due) → IsOver e (d ∷ rest) → IsOver e (k ∷ rest)
+over_same None d k rest h = tt
+over_same (Some reason) d k rest h = absurd cc
+
+used_same : (e : Option End) (d k : Due) (rest : List Due) (ts : List machine.Tunnel) → IsUsed e (d ∷ rest) ts → IsUsed e (k ∷ rest) ts
+used_same None d k rest ts h = tt
+used_same (Some reason) d k rest ts h = tt
+
+fits_same : (f : machine.Front) (e : Option End) (id n : ℕ) (to : Place) (packet : List ℕ) (rest : List Due) (ts : List machine.Tunnel) (ss : List Stream)
+    → Fits f e (due.Do (act.OfStream id (stream.Push n to packet)) ∷ rest) ts ss → Fits f e (due.Do (act.OfStream id (stream.Push n to [])) ∷ rest) ts ss
+fits_same (Head bytes) e id n to packet rest ts ss h = (let k = h.0 in absurd cc)
+fits_same OverHttp1 e id n to packet rest ts ss h = record {
+  due = h.due;
+  used = used_same e (due.Do (act.OfStream id (stream.Push n to packet))) (due.Do (act.OfStream id (stream.Push n to []))) rest ts h.used;
+  tunnels = h.tunnels;
+  streams = h.streams;
+}
+fits_same (OverHttp2 x) e id n to packet rest ts ss h = record { tunnels = h.tunnels; dues = h.dues; spends = h.spends }
+
+loose_same : (e : Option End) (id n : ℕ) (to : Place) (packet : List ℕ) (rest : List Due) (ts : List machine.Tunnel) (ss : List Stream) (f : machine.Front)
+    → Loose e (due.Do (act.OfStream id (stream.Push n to packet)) ∷ rest) ts ss f → Loose e (due.Do (act.OfStream id (stream.Push n to [])) ∷ rest) ts ss f
+loose_same e id n to packet rest ts ss f h = record {
+  over = over_same e (due.Do (act.OfStream id (stream.Push n to packet))) (due.Do (act.OfStream id (stream.Push n to []))) rest h.over;
+  follows = (asked_same (kind_on ts id) n to packet h.follows.0, h.follows.1);
+  opens = h.opens;
+  seated = seated_same e ts id n to packet rest ss h.seated;
+  alone = h.alone;
+  numbered = h.numbered;
+  served = h.served;
+  asked = h.asked;
+  front = fits_same f e id n to packet rest ts ss h.front;
+}
+
+-- it is lawful all the same
+emptied_lawful : (s : machine.Conn) (id n : ℕ) (to : Place) (packet : List ℕ) (rest : List Due) → s.due ≡ due.Do (act.OfStream id (stream.Push n to packet)) ∷ rest → IsLawful s → IsLawful (emptied s)
+emptied_lawful s id n to packet rest is h =
+    let L : List Due → Type 0 = λ ds. Loose s.ending ds s.tunnels s.streams s.front in
+    let P : List Due → Type 0 = λ ds. IsLawful (record s { due = ds }) in
+    let e : due.Do (act.OfStream id (stream.Push n to [])) ∷ rest ≡ emptied_dues s.due = ap emptied_dues (sym is) in
+    subst P e (record { loose = loose_same s.ending id n to packet rest s.tunnels s.streams s.front (subst L is h.loose); settled = tt })
+
+lent_stands : (c : Conn) (s : machine.Conn) (p : Pushing) (packet : List ℕ) → HasPush c p packet → Stands c s → Stands (record c { first = Some (first.Push p.stream p.n p.to []) }) (emptied s)
+lent_stands c s p packet has st =
+    let q = st.past in
+    let e : Conn = record c { first = Some (first.Push p.stream p.n p.to []) } in
+    let P : machine.Conn → Type 0 = λ x. Stands e (emptied x) in
+    let R : Option First → Type 0 = λ f. IsReady c.spare (vec_len c.tunnels) (vec_capacity c.tunnels) f c.due in
+    let r = subst R has st.ready in
+    subst P (sym st.is) (record {
+      past = q;
+      is = ap (λ (f : Option First). record (state c q) { due = emptied_dues (behind f c.due) }) has;
+      read = st.read;
+      given = st.given;
+      ready = record { room = r.room; spare_is = r.spare_is; may = r.may };
+    })
+
+push_same : (x : machine.Conn) (o : Option machine.Tunnel) (n : ℕ) (to : Place) (packet : List ℕ) (taken : Bool) → tunnel_done x o (stream.Push n to []) (Pushed taken) ≡ tunnel_done x o (stream.Push n to packet) (Pushed taken)
+push_same x None n to packet taken = refl
+push_same x (Some t) n to packet true = refl
+push_same x (Some t) n to packet false = refl
+
+empties_done : (s : machine.Conn) (id n : ℕ) (to : Place) (packet : List ℕ) (rest : List Due) (taken : Bool) → s.ending ≡ None → s.due ≡ due.Do (act.OfStream id (stream.Push n to packet)) ∷ rest
+    → done (emptied s) (Pushed taken) ≡ done s (Pushed taken)
+empties_done s id n to packet rest taken over is =
+    let a = act.OfStream id (stream.Push n to packet) in
+    let b = act.OfStream id (stream.Push n to []) in
+    let x : machine.Conn = record s { due = due.Do b ∷ rest } in
+    ap (λ (ds : List Due). done (record s { due = emptied_dues ds }) (Pushed taken)) is
+    ∙ ap (λ (o : Done). option_map (λ (d : Note × machine.Conn). (d.0, settle d.1)) o)
+    (does_due x b rest (Pushed taken) over refl ∙ push_same (record s { due = rest }) (tunnel_on s id) n to packet taken ∙ sym (does_due s a rest (Pushed taken) over is))
+
+-- the push that is wanted
+wants_push : (c : Conn) (s : machine.Conn) (p : Pushing) (packet : List ℕ) → HasPush c p packet → Stands c s → s.ending ≡ None → want_of s ≡ tunnel_want (find_on c p.stream) (stream.Push p.n p.to packet)
+wants_push c s p packet has st over =
+    ap (λ (e : Option End). want_by s e) over ∙ ap (λ (ds : List Due). due_want s ds) (due_is c s st ∙ first_push c p packet has)
+    ∙ ap (λ (ts : List machine.Tunnel). tunnel_want (find (λ (t : machine.Tunnel). t.stream == p.stream) ts) (stream.Push p.n p.to packet)) (tunnels_are c s st)
+
+abbrev parcel_of : ℕ → Pushing → List ℕ → Parcel
+parcel_of id p packet = record { from = origin.Tunnel id; n = p.n; to = p.to; packet = packet }
+
+is_wanted : (o : Option machine.Tunnel) (id : ℕ) (p : Pushing) (packet : List ℕ) (t : machine.Tunnel) (wanted : Parcel) → o ≡ Some t → t.id ≡ id → tunnel_want o (stream.Push p.n p.to packet) ≡ Push wanted → parcel_of id p packet ≡ wanted
+is_wanted o id p packet t wanted on same is =
+    let e : Push (parcel_of id p packet) ≡ Push wanted =
+    ap (λ (n : ℕ). Push (parcel_of n p packet)) (sym same) ∙ ap (λ (x : Option machine.Tunnel). tunnel_want x (stream.Push p.n p.to packet)) (sym on) ∙ is in
+    cc
+
+not_wanted : (o : Option machine.Tunnel) (p : Pushing) (packet : List ℕ) (wanted : Parcel) → o ≡ None → tunnel_want o (stream.Push p.n p.to packet) ≡ Push wanted → ⊥
+not_wanted o p packet wanted none is =
+    let e : Nothing ≡ Push wanted = ap (λ (x : Option machine.Tunnel). tunnel_want x (stream.Push p.n p.to packet)) (sym none) ∙ is in cc
+
+-- it is moved out of the push in front
+pub gives_some : (old new : Conn) (p : Pushing) (packet : List ℕ) (parcel : Parcel) → HasPush old p packet → new ≡ record old { first = Some (first.Push p.stream p.n p.to []) }
+    → ((wanted : Parcel) → tunnel_want (find_on old p.stream) (stream.Push p.n p.to packet) ≡ Push wanted → parcel ≡ wanted) → GivesParcel old new parcel
+gives_some old new p packet parcel has is gives = record {
+  parcel_is = λ s conn wanted wants. gives wanted (sym (wants_push old s p packet has conn.stands (is_alive s conn)) ∙ wants);
+  stands = λ s conn.
+      (let P : Conn → Type 0 = λ k. Stands k (emptied s) in record {
+        stands = subst P (sym is) (lent_stands old s p packet has conn.stands);
+        lawful = emptied_lawful s p.stream p.n p.to packet old.due (due_so s conn) conn.lawful;
+      });
+  same = λ s taken conn. empties_done s p.stream p.n p.to packet old.due taken (is_alive s conn) (due_so s conn);
+}
+  where
+    due_so : (s : machine.Conn) → IsConn old s → s.due ≡ due.Do (act.OfStream p.stream (stream.Push p.n p.to packet)) ∷ old.due
+    due_so s conn = due_is old s conn.stands ∙ first_push old p packet has
+
+    is_alive : (s : machine.Conn) → IsConn old s → s.ending ≡ None
+    is_alive s conn = not_over s (due.Do (act.OfStream p.stream (stream.Push p.n p.to packet))) old.due conn.lawful (due_is old s conn.stands ∙ first_push old p packet has)
+
+pub gives_live : (old : Conn) (id : ℕ) (p : Pushing) (packet : List ℕ) (t : machine.Tunnel) → find_on old p.stream ≡ Some t → t.id ≡ id
+    → (wanted : Parcel) → tunnel_want (find_on old p.stream) (stream.Push p.n p.to packet) ≡ Push wanted → parcel_of id p packet ≡ wanted
+gives_live old id p packet t on same wanted is = is_wanted (find_on old p.stream) id p packet t wanted on same is
+
+pub gives_dead : (old : Conn) (p : Pushing) (packet : List ℕ) (parcel : Parcel) → find_on old p.stream ≡ None → (wanted : Parcel) → tunnel_want (find_on old p.stream) (stream.Push p.n p.to packet) ≡ Push wanted → parcel ≡ wanted
+gives_dead old p packet parcel none wanted is = absurd (not_wanted (find_on old p.stream) p packet wanted none is)

@@ -1,6 +1,6 @@
 -- Marks are passed.
 use Rattle.std.proofs.Common.{◌≡◌, ℕ, ◌+◌, ◌≤◌, ◌==◌, Bool, true, cond, List, [], ◌∷◌, drop, Option, Some, None, refl, sym, ap, ◌∙◌, subst, arith}
-use Rattle.std.specs.Prelude.{MatchOption}
+use Rattle.std.specs.Prelude.{MatchOption, vec_len, vec_capacity}
 use Rattle.mq_front.specs.declared.front.Front.{Front}
 use Rattle.mq_front.specs.Fronts.{CanSpend, IsFront}
 use Rattle.mq_streams.specs.History.{total, arrived_on, consumed_on}
@@ -17,8 +17,9 @@ use Rattle.mq_machine.proofs.Lawful.Lists.{itself}
 use Rattle.mq_machine.proofs.Lawful.Steps.{nothing_spent}
 use Rattle.mq_conn.specs.declared.conn.Conn.{Conn}
 use Rattle.mq_conn.specs.declared.conn.First.{First}
-use Rattle.mq_conn.specs.Conns.{IsRead, PutsNothing, Stands, behind, state}
+use Rattle.mq_conn.specs.Conns.{IsRead, IsReady, PutsNothing, Stands, behind, state}
 use Rattle.mq_conn.specs.Marks.{Spends}
+use Rattle.mq_conn.proofs.Ready.{ready_idle}
 use Rattle.mq_conn.proofs.Answering.{over_due}
 use Rattle.mq_conn.proofs.Standing.{due_is, ending_is, fronted, goes_on}
 
@@ -97,8 +98,7 @@ faults c s code none over st =
       is = ap (λ (f : Option First). record (state c p) { due = behind f []; ending = Some (end.Protocol code) }) (sym none);
       read = fault_read c.front c.ending code p.front p.streams (drop p.given p.out) (sym (ending_is c s st) ∙ over) st.read;
       given = st.given;
-      room = st.room;
-      opens = refl;
+      ready = ready_idle c.spare (vec_len c.tunnels) (vec_capacity c.tunnels) c.first [] none refl st.ready.spare_is;
     })
 
 pub faults_one : (c e : Conn) (last : machine.Conn) (code : ℕ) (rest : List Due) → Passing c last → c.first ≡ None → c.due ≡ due.Fault code ∷ rest → e ≡ record c { due = []; ending = Some (end.Protocol code) } → Passing e last
@@ -129,8 +129,7 @@ spent_front c s f g id size rest none is front_is has st =
       is = ap (λ (x : Option First). record (state c p) { front = spending p.front id size; due = behind x rest }) (sym none);
       read = (goes_on c s f front_is st, has);
       given = st.given;
-      room = st.room;
-      opens = mid.opens;
+      ready = (let Q : Option First → Type 0 = λ f. IsReady c.spare (vec_len c.tunnels) (vec_capacity c.tunnels) f rest in subst Q (sym none) mid.ready);
     }) has
 
 -- of a connection that was given up, too
@@ -154,8 +153,7 @@ spent_given c s id size rest none is front_is st =
       is = ap (λ (x : Option First). record (state c p) { front = spending p.front id size; due = behind x rest }) (sym none);
       read = subst W (sym front_is) (r.0, spent_nothing p.front id size r.1, r.2, r.3);
       given = st.given;
-      room = st.room;
-      opens = mid.opens;
+      ready = (let Q : Option First → Type 0 = λ f. IsReady c.spare (vec_len c.tunnels) (vec_capacity c.tunnels) f rest in subst Q (sym none) mid.ready);
     })
 
 pub popped_rest : (r : Option Due) (old new : List Due) (d : Due) (rest : List Due) → MatchOption r ((old ≡ []) × (new ≡ [])) (λ x. old ≡ x ∷ new) → old ≡ d ∷ rest → new ≡ rest

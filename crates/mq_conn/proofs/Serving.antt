@@ -1,49 +1,50 @@
 -- What a core stands for, laid open, and what is left of it when it is given up.
-use Rattle.std.proofs.Common.{◌≡◌, ◌≢◌, ℕ, zero, suc, ◌≤◌, ◌+◌, ◌==◌, ◌&&◌, ◌||◌, Bool, true, false, not, List, [], ◌∷◌, ◌++◌, length, take, drop, nat_le, Option, Some, None, refl, sym, ap, ◌∙◌, subst, arith}
+use Rattle.std.proofs.Common.{◌≡◌, ℕ, zero, suc, ◌≤◌, ◌&&◌, Bool, true, false, not, List, [], ◌∷◌, length, take, drop, nat_le, Option, Some, None, refl, sym, ap, ◌∙◌, subst, arith}
 use Rattle.std.specs.Prelude.{vec_len, vec_capacity}
-use Rattle.std.specs.Option.{is_some}
 use Rattle.std.proofs.lemmas.Bool.{and_parts}
-use Rattle.std.proofs.lemmas.List.{length-append, length-drop, drop-drop}
 use Rattle.mq_h2.specs.State as h2
 use Rattle.mq_front.specs.declared.front.Front.{Front}
 use Rattle.mq_front.specs.declared.front.Front.TheVariants as front
 use Rattle.mq_front.specs.Fronts.{IsFront}
 use Rattle.mq_talk.specs.declared.note.End.{End}
 use Rattle.mq_talk.specs.declared.note.End.TheVariants as end
-use Rattle.mq_machine.specs.declared.act.Act.TheVariants as act
-use Rattle.mq_machine.specs.declared.act.StreamAct.{StreamAct}
-use Rattle.mq_machine.specs.declared.act.StreamAct.TheVariants as stream
 use Rattle.mq_machine.specs.declared.act.Due.{Due}
-use Rattle.mq_machine.specs.declared.act.Due.TheVariants as due
-use Rattle.mq_machine.specs.Lawful.{IsLawful, IsLoose, IsOver, NoOpens}
+use Rattle.mq_machine.specs.Lawful.{IsLawful, IsLoose, IsOver}
 use Rattle.mq_machine.specs.Settle.{gives_up, is_given_up, settle}
 use Rattle.mq_machine.specs.State as machine
 use Rattle.mq_machine.specs.State.{Head, OverHttp1, OverHttp2, Stream, owed}
-use Rattle.mq_machine.specs.Steps.{given_up, starved, can_go_on, can_read, is_nothing, is_ending, most_owed}
-use Rattle.mq_machine.specs.Want.{want_of, want_by, may_wait}
+use Rattle.mq_machine.specs.Steps.{given_up, can_go_on, can_read, is_nothing, is_ending, most_owed}
+use Rattle.mq_machine.specs.Want.{want_of}
 use Rattle.mq_machine.proofs.Lawful.Steps.{given_up_lawful, settle_lawful}
 use Rattle.mq_machine.proofs.Lawful.Idle.{idle_due}
+use Rattle.mq_conn.proofs.Ready.{ready_none}
 use Rattle.mq_conn.specs.declared.conn.Conn.{Conn}
 use Rattle.mq_conn.specs.declared.conn.First.{First}
-use Rattle.mq_conn.specs.declared.conn.First.TheVariants as first
-use Rattle.mq_conn.specs.Conns.{IsConn, Stands, IsRead, HasRoom, PutsNothing, GivesUp, Keeps, Refuses, Starves, Past, state, behind}
+use Rattle.mq_conn.specs.Conns.{IsConn, Stands, IsRead, IsReady, PutsNothing, GivesUp, Refuses, Past, state, behind}
 
 -- ---- a state, laid open
 
 pub record Is (c : Conn) (p : Past) : Type 0 where
   pub read : IsRead c.front c.ending p.front p.streams (drop p.given p.out)
   pub given : p.given ≤ length p.out
-  pub room : HasRoom c.first (vec_len c.tunnels) (vec_capacity c.tunnels)
-  pub opens : NoOpens c.due
+  pub ready : IsReady c.spare (vec_len c.tunnels) (vec_capacity c.tunnels) c.first c.due
   pub lawful : IsLawful (state c p)
 
 pub by_state : (c : Conn) (P : machine.Conn → Type 0) → ((p : Past) → Is c p → P (state c p)) → (s : machine.Conn) → IsConn c s → P s
 by_state c P h s stands =
     let k = stands.stands in
-    subst P (sym k.is) (h k.past (record { read = k.read; given = k.given; room = k.room; opens = k.opens; lawful = subst IsLawful k.is stands.lawful }))
+    subst P (sym k.is) (h k.past (record { read = k.read; given = k.given; ready = k.ready; lawful = subst IsLawful k.is stands.lawful }))
 
 pub is_conn : (c : Conn) (p : Past) → Is c p → IsConn c (state c p)
-is_conn c p h = record { stands = record { past = p; is = refl; read = h.read; given = h.given; room = h.room; opens = h.opens }; lawful = h.lawful }
+is_conn c p h = record { stands = record { past = p; is = refl; read = h.read; given = h.given; ready = h.ready }; lawful = h.lawful }
+
+-- which pump it serves says nothing of the state
+pub pumped : (c : Conn) (pump : ℕ) (s : machine.Conn) → IsConn c s → IsConn (record c { pump = pump }) s
+pumped c pump s conn =
+    let st = conn.stands in record {
+      stands = record { past = st.past; is = st.is; read = st.read; given = st.given; ready = st.ready };
+      lawful = conn.lawful;
+    }
 
 -- ---- it is given up
 
@@ -83,17 +84,10 @@ given_up_so c d reason gives is s stands = by_state c (λ x. IsConn d (given_up 
             is = refl;
             read = (gives, read_nothing c.front c.ending p.front p.streams (drop p.given p.out) h.read, refl, drop_taken p.given p.out);
             given = take_whole p.given p.out h.given;
-            room = tt;
-            opens = refl;
+            ready = ready_none c.spare (vec_len c.tunnels) (vec_capacity c.tunnels) h.ready.spare_is;
           };
           lawful = given_up_lawful reason (state c p) h.lawful;
         })
-
--- refused memory behind a try that kept what is left
-pub starves_so : (old mid new : Conn) → Keeps old mid → GivesUp mid end.NoMemory new → Starves old new
-starves_so old mid new keeps is s stands =
-    let both : GivesUp old end.NoMemory new = is ∙ ap (λ (x : Conn). record x { front = None; first = None; due = []; ending = Some end.NoMemory }) keeps in
-    given_up_so old new end.NoMemory refl both s stands
 
 -- ---- how it stands
 

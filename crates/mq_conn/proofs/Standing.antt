@@ -1,8 +1,7 @@
 -- What the core stands for behind each small change.
-use Rattle.std.proofs.Common.{◌≡◌, ◌≢◌, ℕ, zero, suc, ◌≤◌, ◌<◌, ◌==◌, Bool, true, false, not, cond, List, [], ◌∷◌, ◌++◌, length, take, drop, filter, Option, Some, None, refl, sym, ap, ◌∙◌, subst, arith, eqb-true}
+use Rattle.std.proofs.Common.{◌≡◌, ◌≢◌, ℕ, zero, suc, ◌≤◌, ◌==◌, Bool, true, false, not, cond, List, [], ◌∷◌, ◌++◌, length, take, drop, filter, Option, Some, None, refl, sym, ap, ◌∙◌, subst, arith, eqb-true}
 use Rattle.std.specs.Prelude.{find, vec_len, vec_capacity}
 use Rattle.std.specs.Global.{Vec}
-use Rattle.std.specs.List.{list_any}
 use Rattle.std.specs.Option.{is_some}
 use Rattle.std.proofs.lemmas.List.{length-append, map-append}
 use Rattle.mq_front.specs.declared.front.Front.{Front}
@@ -10,29 +9,28 @@ use Rattle.mq_front.specs.declared.front.Front.TheVariants as front
 use Rattle.mq_front.specs.Fronts.{IsFront, HasPut}
 use Rattle.mq_h2.specs.State as h2
 use Rattle.mq_streams.specs.Answers.{next_update}
-use Rattle.mq_addr.specs.declared.range.Range.{Range}
 use Rattle.mq_talk.specs.declared.goal.Goal.{Goal}
-use Rattle.mq_talk.specs.declared.goal.Goal.TheVariants as goal
 use Rattle.mq_talk.specs.declared.note.End.{End}
 use Rattle.mq_talk.specs.declared.note.Why.{Why}
 use Rattle.mq_talk.specs.declared.note.Why.TheVariants as why
 use Rattle.mq_machine.specs.declared.act.Act.TheVariants as act
 use Rattle.mq_machine.specs.declared.act.Due.{Due}
 use Rattle.mq_machine.specs.declared.act.Due.TheVariants as due
-use Rattle.mq_machine.specs.Done.{before, closing, first_waiting, http1_end, is_on, refusal, success, without, without_tunnel}
-use Rattle.mq_machine.specs.Lawful.{IsUdp, NoOpens, is_open}
+use Rattle.mq_machine.specs.Done.{before, closing, http1_end, is_on, refusal, success, without, without_tunnel}
 use Rattle.mq_machine.specs.Putting.{Putting, first_of, nothing_put, putting}
 use Rattle.mq_machine.specs.Settle.{gives_up, is_given_up, settled, update_put, updates, updating}
 use Rattle.mq_machine.specs.State as machine
 use Rattle.mq_machine.specs.State.{Stream, Head, OverHttp1, OverHttp2, owed}
 use Rattle.mq_machine.specs.Steps.{given_up}
 use Rattle.mq_machine.proofs.Settling.{puts_nothing}
-use Rattle.mq_machine.proofs.Lawful.Lists.{any_filter, found_in, or_false}
+use Rattle.mq_machine.proofs.Lawful.Lists.{found_in}
 use Rattle.mq_conn.specs.declared.conn.Conn.{Conn}
 use Rattle.mq_conn.specs.declared.conn.First.{First}
 use Rattle.mq_conn.specs.declared.conn.First.TheVariants as first
 use Rattle.mq_conn.specs.declared.conn.Tunnel.{Tunnel}
-use Rattle.mq_conn.specs.Conns.{HasRoom, IsRead, Leaves, PutsNothing, Stands, behind, state, tunnel_is, tunnels_of}
+use Rattle.mq_conn.specs.Conns.{IsRead, IsReady, IsSpare, Leaves, PutsNothing, Stands, behind, state, tunnel_is, tunnels_of}
+use Rattle.mq_conn.specs.Rooms.{HasMade, KeepsTunnels}
+use Rattle.mq_conn.proofs.Ready.{ready_kept, ready_less, ready_none, ready_open, ready_rest, ready_same}
 
 -- ---- fields
 
@@ -99,8 +97,7 @@ puts c s g put ends has st =
       is = refl;
       read = (ends, (let Q : List ℕ → Type 0 = λ xs. IsFront g put.front p.streams xs in subst Q (sym (drop_more p.given p.out put.text st.given)) has));
       given = (let e = length-append p.out put.text in let h = st.given in omega (arith, e, h));
-      room = st.room;
-      opens = st.opens;
+      ready = st.ready;
     }) has
 
 pub first_none : (e : Option End) → first_of None e ≡ e
@@ -123,15 +120,6 @@ success_ends (OverHttp2 h) t goal = refl
 
 -- ---- what is due
 
-tail_closed : (d : Due) (rest : List Due) → NoOpens (d ∷ rest) → NoOpens rest
-tail_closed d rest h = (or_false (is_open d) (list_any is_open rest) h).1
-
-front_due : (f : Option First) (dues : List Due) (d : Due) (rest : List Due) → behind f dues ≡ d ∷ rest → NoOpens dues → NoOpens rest
-front_due None dues d rest is h = let P : List Due → Type 0 = λ ds. NoOpens ds in tail_closed d rest (subst P is h)
-front_due (Some f) dues d rest is h =
-    let tail : List Due → List Due = λ ds. drop 1 ds in
-    let P : List Due → Type 0 = λ ds. NoOpens ds in subst P (ap tail is) h
-
 -- what stands first is taken
 pub fronted : (c : Conn) (s : machine.Conn) (d : Due) (rest : List Due) → behind c.first c.due ≡ d ∷ rest → Stands c s → Stands (record c { first = None; due = rest }) (record s { due = rest })
 fronted c s d rest is st =
@@ -141,8 +129,7 @@ fronted c s d rest is st =
       is = refl;
       read = st.read;
       given = st.given;
-      room = tt;
-      opens = front_due c.first c.due d rest is st.opens;
+      ready = ready_rest c.spare (vec_len c.tunnels) (vec_capacity c.tunnels) c.first c.due d rest is st.ready;
     })
 
 pub popped : (c e : Conn) (s : machine.Conn) (d : Due) → e ≡ record c { due = e.due } → c.first ≡ None → c.due ≡ d ∷ e.due → Stands c s → (s.due ≡ d ∷ e.due) × Stands e (record s { due = e.due })
@@ -171,8 +158,7 @@ forgot c s id f g none is has st =
       is = ap D none ∙ ap E (sym none);
       read = (goes_on c s f is st, has);
       given = st.given;
-      room = st.room;
-      opens = any_filter is_open (λ (d : Due). not (is_on id d)) c.due st.opens;
+      ready = ready_kept c.spare (vec_len c.tunnels) (vec_capacity c.tunnels) c.first (λ (d : Due). not (is_on id d)) c.due st.ready;
     }) has
 
 pub forgot_given : (c : Conn) (s : machine.Conn) (id : ℕ) → c.first ≡ None → c.front ≡ None → Stands c s → Stands (record c { due = kept id c.due }) (without id s)
@@ -189,8 +175,7 @@ forgot_given c s id none is st =
       is = ap D none ∙ ap E (sym none);
       read = subst W (sym is) (r.0, r.1, ap (λ (ss : List Stream). others id ss) r.2, r.3);
       given = st.given;
-      room = st.room;
-      opens = any_filter is_open (λ (d : Due). not (is_on id d)) c.due st.opens;
+      ready = ready_kept c.spare (vec_len c.tunnels) (vec_capacity c.tunnels) c.first (λ (d : Due). not (is_on id d)) c.due st.ready;
     })
 
 -- ---- tunnels
@@ -208,42 +193,36 @@ fewer id (t ∷ ts) = by_first (not (t.id == id)) (fewer id ts)
     by_first true h = ap (λ (us : List machine.Tunnel). tunnel_is t ∷ us) h
     by_first false h = h
 
-room_less : (f : Option First) (len capacity less : ℕ) → less ≤ len → HasRoom f len capacity → HasRoom f less capacity
-room_less None len capacity less h room = tt
-room_less (Some (first.Open id goal waiting)) len capacity less h room = (room.0, (let r = room.1 in omega (arith, r)))
-room_less (Some (first.Close id reason)) len capacity less h room = tt
-
 -- the tunnels are those of another vector now
 pub dropped : (c : Conn) (s : machine.Conn) (id : ℕ) (ts : Vec Tunnel) → ts.items ≡ filter (λ (t : Tunnel). not (t.id == id)) c.tunnels.items → vec_len ts ≤ vec_len c.tunnels → vec_capacity ts ≡ vec_capacity c.tunnels → Stands c s
     → Stands (record c { tunnels = ts }) (without_tunnel id s)
 dropped c s id ts is len capacity st =
     let p = st.past in
     let P : machine.Conn → Type 0 = λ x. Stands (record c { tunnels = ts }) (without_tunnel id x) in
-    let R : ℕ → Type 0 = λ n. HasRoom c.first (vec_len ts) n in
     subst P (sym st.is) (record {
       past = p;
       is = ap (λ (us : List machine.Tunnel). record (state c p) { tunnels = us }) (sym (fewer id c.tunnels.items) ∙ ap tunnels_of (sym is));
       read = st.read;
       given = st.given;
-      room = subst R (sym capacity) (room_less c.first (vec_len c.tunnels) (vec_capacity c.tunnels) (vec_len ts) len st.room);
-      opens = st.opens;
+      ready = ready_same c.spare (vec_len ts) (vec_capacity c.tunnels) (vec_len ts) (vec_capacity ts) c.first c.due refl capacity (ready_less c.spare (vec_len c.tunnels) (vec_capacity c.tunnels) (vec_len ts) c.first c.due len st.ready);
     })
 
--- a tunnel is to open
-pub opening : (c : Conn) (s : machine.Conn) (id : ℕ) (goal : Goal) (waiting : List machine.Waiting) (ts : Vec Tunnel) → c.first ≡ None → waiting ≡ [] → ts.items ≡ c.tunnels.items → vec_len ts < vec_capacity ts → Stands c s
-    → Stands (record c { first = Some (first.Open id goal waiting); tunnels = ts }) (before (act.Open id goal) s)
-opening c s id goal waiting ts none empty is room st =
+-- a tunnel is to open, for which there is room
+pub opening : (c d : Conn) (s : machine.Conn) (id : ℕ) (goal : Goal) → c.first ≡ None → KeepsTunnels c d → HasMade d → Stands c s → Stands (record d { first = Some (first.Open id goal) }) (before (act.Open id goal) s)
+opening c d s id goal none keeps made st =
     let p = st.past in
-    let P : machine.Conn → Type 0 = λ x. Stands (record c { first = Some (first.Open id goal waiting); tunnels = ts }) (before (act.Open id goal) x) in
-    subst P (sym st.is) (record {
+    let F : Conn → Conn = λ x. record x { first = Some (first.Open id goal) } in
+    let e : Conn = record c { first = Some (first.Open id goal); spare = d.spare; tunnels = d.tunnels } in
+    let P : machine.Conn → Type 0 = λ x. Stands e (before (act.Open id goal) x) in
+    let Q : Conn → Type 0 = λ x. Stands x (before (act.Open id goal) s) in
+    subst Q (sym (ap F keeps.is)) (subst P (sym st.is) (record {
       past = p;
       is = ap (λ (f : Option First). record (state c p) { due = due.Do (act.Open id goal) ∷ behind f c.due }) none
-          ∙ ap (λ (us : List machine.Tunnel). record (state c p) { due = due.Do (act.Open id goal) ∷ c.due; tunnels = us }) (ap tunnels_of (sym is));
+          ∙ ap (λ (us : List machine.Tunnel). record (state c p) { due = due.Do (act.Open id goal) ∷ c.due; tunnels = us }) (ap tunnels_of (sym keeps.items));
       read = st.read;
       given = st.given;
-      room = (empty, room);
-      opens = st.opens;
-    })
+      ready = ready_open d.spare (vec_len d.tunnels) (vec_capacity d.tunnels) id goal c.due made.spare made.place (keeps.spare_is st.ready.spare_is) st.ready.may;
+    }))
 
 -- ---- all is given up
 
@@ -262,33 +241,32 @@ gone_front (Some (front.Http2 many)) e (Head bytes) ss owed h = tt
 gone_front (Some (front.Http2 many)) e OverHttp1 ss owed h = tt
 gone_front (Some (front.Http2 many)) e (OverHttp2 s) ss owed h = ap (λ (x : h2.State). x.out) h.1.is
 
-pub gone : (c : Conn) (s : machine.Conn) (reason : End) (ts : Vec Tunnel) → gives_up reason ≡ true → Stands c s
-    → Stands (record c { front = None; first = None; due = []; ending = Some reason; tunnels = ts }) (record (given_up reason s) { tunnels = tunnels_of ts.items })
-gone c s reason ts gives st =
+pub gone_more : (c : Conn) (s : machine.Conn) (reason : End) (spare : Option (List machine.Waiting)) (pump : ℕ) (ts : Vec Tunnel) → gives_up reason ≡ true → IsSpare spare → Stands c s
+    → Stands (record c { front = None; first = None; due = []; ending = Some reason; spare = spare; pump = pump; tunnels = ts }) (record (given_up reason s) { tunnels = tunnels_of ts.items })
+gone_more c s reason spare pump ts gives empty st =
     let p = st.past in
-    let P : machine.Conn → Type 0 = λ x. Stands (record c { front = None; first = None; due = []; ending = Some reason; tunnels = ts }) (record (given_up reason x) { tunnels = tunnels_of ts.items }) in
+    let P : machine.Conn → Type 0 = λ x. Stands (record c { front = None; first = None; due = []; ending = Some reason; spare = spare; pump = pump; tunnels = ts }) (record (given_up reason x) { tunnels = tunnels_of ts.items }) in
     subst P (sym st.is) (record {
       past = record p { streams = []; out = take p.given p.out };
       is = refl;
       read = (gives, gone_front c.front c.ending p.front p.streams (drop p.given p.out) st.read, refl, drop_taken p.given p.out);
       given = given_taken p.given p.out st.given;
-      room = tt;
-      opens = refl;
+      ready = ready_none spare (vec_len ts) (vec_capacity ts) empty;
     })
 
 pub gone_all : (c : Conn) (s : machine.Conn) (reason : End) → gives_up reason ≡ true → Stands c s
     → Stands (record c { front = None; first = None; due = []; ending = Some reason }) (given_up reason s)
 gone_all c s reason gives st =
     let P : List machine.Tunnel → Type 0 = λ us. Stands (record c { front = None; first = None; due = []; ending = Some reason }) (record (given_up reason s) { tunnels = us }) in
-    subst P (sym (tunnels_are c s st)) (gone c s reason c.tunnels gives st)
+    subst P (sym (tunnels_are c s st)) (gone_more c s reason c.spare c.pump c.tunnels gives st.ready.spare_is st)
 
 -- behind a try that left its tunnels
 pub gone_left : (c d e : Conn) (s : machine.Conn) (reason : End) → gives_up reason ≡ true → Leaves c d → e ≡ record d { front = None; first = None; due = []; ending = Some reason } → Stands c s → Stands e (given_up reason s)
 gone_left c d e s reason gives left is st =
     let G : Conn → Conn = λ x. record x { front = None; first = None; due = []; ending = Some reason } in
     let P : Conn → Type 0 = λ x. Stands x (given_up reason s) in
-    let Q : List machine.Tunnel → Type 0 = λ us. Stands (record c { front = None; first = None; due = []; ending = Some reason; tunnels = d.tunnels }) (record (given_up reason s) { tunnels = us }) in
-    subst P (sym (is ∙ ap G left.is)) (subst Q (ap tunnels_of left.items ∙ sym (tunnels_are c s st)) (gone c s reason d.tunnels gives st))
+    let Q : List machine.Tunnel → Type 0 = λ us. Stands (record c { front = None; first = None; due = []; ending = Some reason; spare = d.spare; pump = d.pump; tunnels = d.tunnels }) (record (given_up reason s) { tunnels = us }) in
+    subst P (sym (is ∙ ap G left.is)) (subst Q (ap tunnels_of left.items ∙ sym (tunnels_are c s st)) (gone_more c s reason d.spare d.pump d.tunnels gives (left.spare_is st.ready.spare_is) st))
 
 -- ---- the end of an act
 
@@ -386,32 +364,26 @@ refuses_put c s id status f g ends over is has st =
     subst P e (puts c s g put (ap is_given_up (e ∙ is) ∙ refusal_stays s.front id status) has st)
 
 -- a tunnel opened
-pub opens_put : (c : Conn) (s : machine.Conn) (t : Tunnel) (f g : Front) (ts : Vec Tunnel) → c.first ≡ None → c.front ≡ Some f → ts.items ≡ c.tunnels.items ++ t ∷ []
-    → HasPut g (success s.front t.stream (machine.kind_of t.goal)) s.streams (owed s) → Stands c s
-    → Stands (record c { front = Some g; tunnels = ts }) (putting (record s { tunnels = s.tunnels ++ tunnel_is t ∷ [] }) (success s.front t.stream (machine.kind_of t.goal)))
-opens_put c s t f g ts none is items has st =
+pub opens_put : (c : Conn) (s : machine.Conn) (t : Tunnel) (f g : Front) (spare : Option (List machine.Waiting)) (ts : Vec Tunnel) → c.front ≡ Some f → ts.items ≡ c.tunnels.items ++ t ∷ []
+    → HasPut g (success s.front t.stream (machine.kind_of t.goal)) s.streams (owed s) → IsReady spare (vec_len ts) (vec_capacity ts) c.first c.due → Stands c s
+    → Stands (record c { front = Some g; spare = spare; tunnels = ts }) (putting (record s { tunnels = s.tunnels ++ tunnel_is t ∷ [] }) (success s.front t.stream (machine.kind_of t.goal)))
+opens_put c s t f g spare ts is items has ready st =
     let p = st.past in
     let u : List machine.Tunnel → List machine.Tunnel = λ us. us ++ tunnel_is t ∷ [] in
     let more : u (tunnels_of c.tunnels.items) ≡ tunnels_of ts.items = sym (map-append tunnel_is c.tunnels.items (t ∷ [])) ∙ ap tunnels_of (sym items) in
-    let P : machine.Conn → Type 0 = λ x. Stands (record c { tunnels = ts }) (record x { tunnels = u x.tunnels }) in
-    let R : Option First → Type 0 = λ x. HasRoom x (vec_len ts) (vec_capacity ts) in
-    let mid : Stands (record c { tunnels = ts }) (record s { tunnels = u s.tunnels }) = subst P (sym st.is) (record {
+    let d : Conn = record c { spare = spare; tunnels = ts } in
+    let P : machine.Conn → Type 0 = λ x. Stands d (record x { tunnels = u x.tunnels }) in
+    let mid : Stands d (record s { tunnels = u s.tunnels }) = subst P (sym st.is) (record {
       past = p;
       is = ap (λ (us : List machine.Tunnel). record (state c p) { tunnels = us }) more;
       read = st.read;
       given = st.given;
-      room = subst R (sym none) tt;
-      opens = st.opens;
+      ready = ready;
     }) in
     let put = success s.front t.stream (machine.kind_of t.goal) in
     let e : first_of c.ending put.ending ≡ c.ending = ap (λ (x : Option End). first_of c.ending x) (success_ends s.front t.stream t.goal) ∙ first_only c.ending in
-    let Q : Option End → Type 0 = λ x. Stands (record c { front = Some g; ending = x; tunnels = ts }) (putting (record s { tunnels = u s.tunnels }) put) in
-    subst Q e (puts (record c { tunnels = ts }) (record s { tunnels = u s.tunnels }) g put (ap is_given_up e ∙ goes_on c s f is st) has mid)
-
--- what waits in a tunnel for UDP as it opens
-pub udp_first : (goal : Goal) (routes : List Range) → IsUdp goal → first_waiting (machine.kind_of goal) routes ≡ []
-udp_first (goal.Udp addr port) routes h = refl
-udp_first (goal.Ip area protocol) routes h = absurd h
+    let Q : Option End → Type 0 = λ x. Stands (record d { front = Some g; ending = x }) (putting (record s { tunnels = u s.tunnels }) put) in
+    subst Q e (puts d (record s { tunnels = u s.tunnels }) g put (ap is_given_up e ∙ goes_on c s f is st) has mid)
 
 -- ---- the first reason to end
 

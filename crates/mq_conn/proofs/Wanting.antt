@@ -1,6 +1,5 @@
 -- What a connection wants.
-use Rattle.std.proofs.Common.{◌≡◌, ℕ, zero, suc, ◌+◌, ◌≤◌, ◌==◌, cond, Bool, true, false, not, ◌||◌, ◌&&◌, ◌⊎◌, inl, inr, nat_le, List, [], ◌∷◌, length, drop, slice_get, Option, Some, None, refl, sym, ap, ◌∙◌, subst, arith, ne_eqb, eqb-true}
-use Rattle.std.specs.Prelude.{find}
+use Rattle.std.proofs.Common.{◌≡◌, ℕ, zero, suc, ◌+◌, ◌≤◌, ◌==◌, cond, Bool, true, false, not, ◌&&◌, ◌⊎◌, inl, inr, nat_le, List, [], ◌∷◌, length, drop, slice_get, Option, Some, None, Result, Ok, refl, sym, ap, ◌∙◌, subst, arith, ne_eqb, eqb-true}
 use Rattle.std.specs.Option.{is_some}
 use Rattle.std.proofs.lemmas.List.{length-drop, drop-drop}
 use Rattle.mq_front.specs.declared.front.Front.{Front}
@@ -15,16 +14,17 @@ use Rattle.mq_machine.specs.declared.act.StreamAct.{StreamAct}
 use Rattle.mq_machine.specs.declared.act.StreamAct.TheVariants as stream
 use Rattle.mq_machine.specs.declared.act.Due.{Due}
 use Rattle.mq_machine.specs.declared.act.Due.TheVariants as due
-use Rattle.mq_machine.specs.Lawful.{Follows, IsAsked, IsUdp, kind_on}
-use Rattle.mq_addr.specs.declared.kind.Kind.TheVariants as kind
-use Rattle.mq_machine.proofs.Lawful.Idle.{served_asked}
+use Rattle.mq_machine.specs.Lawful.{Follows, IsUdp, kind_on}
+use Rattle.mq_talk.specs.declared.place.Place.{Place}
+use Rattle.mq_wire.specs.declared.NoMemory.{NoMemory}
+use Rattle.mq_iptun.specs.Acts.{MayAct}
+use Rattle.mq_front.specs.Limits.{AllMayBeDue}
 use Rattle.mq_machine.proofs.Lawful.Lists.{kind_there, some_asked}
 use Rattle.mq_machine.specs.Settle.{gives_up}
 use Rattle.mq_machine.specs.State as machine
 use Rattle.mq_machine.specs.State.{Stream, owed}
 use Rattle.mq_machine.specs.Steps.{can_go_on, can_read, is_ending, is_nothing, wrote}
-use Rattle.mq_machine.proofs.Lawful.Steps.{settle_lawful}
-use Rattle.mq_machine.specs.Want.{Want, Nothing, Over, Ask, Bind, Say, act_want, due_want, ending_want, over_want, stream_want, tunnel_want, want_by, want_of, may_wait}
+use Rattle.mq_machine.specs.Want.{Want, Nothing, Over, Ask, Bind, Say, act_want, due_want, ending_want, over_want, tunnel_want, want_by, want_of, may_wait}
 use Rattle.mq_conn.specs.declared.conn.Conn.{Conn}
 use Rattle.mq_conn.specs.declared.conn.First.{First}
 use Rattle.mq_conn.specs.declared.conn.First.TheVariants as first
@@ -32,7 +32,7 @@ use Rattle.mq_conn.specs.declared.conn.Tunnel.{Tunnel}
 use Rattle.mq_conn.specs.declared.want.Want.{Want as CoreWant}
 use Rattle.mq_conn.specs.declared.want.Want.TheVariants as core_want
 use Rattle.mq_conn.specs.Frames.{Gives}
-use Rattle.mq_conn.specs.Wants.{IsWant}
+use Rattle.mq_conn.specs.Wants.{IsWant, WantIs, Wants, WantsOf}
 use Rattle.mq_conn.specs.Conns.{IsConn, IsRead, Stands, Past, state, behind, act_of, find_on, tunnels_of}
 use Rattle.mq_conn.proofs.Serving.{Is, Settles, by_state, settles_so, wants_none}
 
@@ -66,7 +66,12 @@ follows_first c p a rest h is = subst (λ (ds : List Due). Follows (kind_on (sta
 
 -- no act in front lets it wait for its client, but a payload
 pub first_waits : (c : Conn) (p : Past) (f : First) (rest : List Due) → Follows (kind_on (state c p).tunnels) (due.Do (act_of f) ∷ rest) → may_wait (act_want (state c p) (act_of f)) ≡ true → ⊥
-first_waits c p (first.Open id goal waiting) rest h k = absurd cc
+first_waits c p (first.Open id goal) rest h k = absurd cc
+first_waits c p (first.Push id n to packet) rest h k =
+    let live = live_on (find_on c id) (sym (kind_there (state c p).tunnels id) ∙ some_asked (kind_on (state c p).tunnels id) (stream.Push n to packet) h.0) in
+    let e : may_wait (tunnel_want (find_on c id) (stream.Push n to packet)) ≡ false = ap (λ (o : Option machine.Tunnel). may_wait (tunnel_want o (stream.Push n to packet))) live.1 in
+    let f : true ≡ false = sym k ∙ e in
+    absurd cc
 first_waits c p (first.Close id reason) rest h k =
     let live = live_on (find_on c id) (sym (kind_there (state c p).tunnels id) ∙ some_asked (kind_on (state c p).tunnels id) (stream.Close reason) h.0) in
     let e : may_wait (tunnel_want (find_on c id) (stream.Close reason)) ≡ false = ap (λ (o : Option machine.Tunnel). may_wait (tunnel_want o (stream.Close reason))) live.1 in
@@ -116,8 +121,7 @@ gives_so c d g h count fronted keeps gives s stands fits = by_state c (λ (x : m
           is = refl;
           read = (r.0, subst O (drop-drop count p.given p.out) (gives p.front p.streams (drop p.given p.out) r.1 fits));
           given = omega (arith, whole, cut, fits);
-          room = is.room;
-          opens = is.opens;
+          ready = is.ready;
         })
 
 pub gives_none : (c : Conn) (count : ℕ) → c.front ≡ None → Gives c c count
@@ -136,8 +140,7 @@ gives_none c count none s stands fits = by_state c (λ (x : machine.Conn). count
           is = refl;
           read = subst S (sym none) (r.0, r.1, r.2, left);
           given = omega (arith, whole, cut, fits);
-          room = is.room;
-          opens = is.opens;
+          ready = is.ready;
         }
 
 pub wrote_so : (c mid d : Conn) (count : ℕ) → Gives c mid count → Settles mid d → (s : machine.Conn) → IsConn c s → count ≤ length (owed s) → IsConn d (wrote s count).1
@@ -174,12 +177,12 @@ ending_by c reason ts bytes is items s stands owes =
 
 -- ---- what is due first, in the core's word
 
-pub wants_by : (c : Conn) (dues : List Due) (w : CoreWant) → c.ending ≡ None → behind c.first c.due ≡ dues → ((p : Past) → Is c p → IsWant w (due_want (state c p) dues)) → (s : machine.Conn) → IsConn c s → IsWant w (want_of s)
-wants_by c dues w none is wants s stands = by_state c (λ (x : machine.Conn). IsWant w (want_of x)) go s stands
+pub wants_by : (c : Conn) (dues : List Due) (r : Result CoreWant NoMemory) → c.ending ≡ None → behind c.first c.due ≡ dues → ((p : Past) → Is c p → WantsOf c.pump (due_want (state c p) dues) r) → Wants c r
+wants_by c dues r none is wants s stands = by_state c (λ (x : machine.Conn). WantsOf c.pump (want_of x) r) go s stands
   where
-    go : (p : Past) → Is c p → IsWant w (want_of (state c p))
+    go : (p : Past) → Is c p → WantsOf c.pump (want_of (state c p)) r
     go p h =
-        let P : Want → Type 0 = λ v. IsWant w v in
+        let P : Want → Type 0 = λ v. WantsOf c.pump v r in
         subst P (sym (want_due c p dues none is)) (wants p h)
 
 pub due_front : (c : Conn) (dues : List Due) → c.first ≡ None → c.due ≡ dues → behind c.first c.due ≡ dues
@@ -188,27 +191,32 @@ due_front c dues front is = ap (λ (f : Option First). behind f c.due) front ∙
 pub first_front : (c : Conn) (f : First) → c.first ≡ Some f → behind c.first c.due ≡ due.Do (act_of f) ∷ c.due
 first_front c f is = ap (λ (o : Option First). behind o c.due) is
 
-pub bind_want : (c : Conn) (id : ℕ) (goal : Goal) (rest : List Due) (w : CoreWant) → c.ending ≡ None → c.first ≡ None → c.due ≡ due.Do (act.Bind id goal) ∷ rest → (IsUdp goal → (id : ℕ) → IsWant w (Bind id goal))
-    → (s : machine.Conn) → IsConn c s → IsWant w (want_of s)
+pub bind_want : (c : Conn) (id : ℕ) (goal : Goal) (rest : List Due) (w : CoreWant) → c.ending ≡ None → c.first ≡ None → c.due ≡ due.Do (act.Bind id goal) ∷ rest → (IsUdp goal → (pump id : ℕ) → WantIs pump w (Bind id goal))
+    → Wants c (Ok w)
 bind_want c id goal rest w none front is wants =
     let dues = due_front c (due.Do (act.Bind id goal) ∷ rest) front is in
-    wants_by c (due.Do (act.Bind id goal) ∷ rest) w none dues (λ p h. wants (follows_first c p (act.Bind id goal) rest h dues).1 id)
+    wants_by c (due.Do (act.Bind id goal) ∷ rest) (Ok w) none dues (λ p h. wants (follows_first c p (act.Bind id goal) rest h dues).1 c.pump id)
 
-pub asked_want : (c : Conn) (id : ℕ) (a : StreamAct) (rest : List Due) (w : CoreWant) → c.ending ≡ None → c.first ≡ None → c.due ≡ due.Do (act.OfStream id a) ∷ rest → (IsAsked kind.Udp a → IsWant w (tunnel_want (find_on c id) a))
-    → (s : machine.Conn) → IsConn c s → IsWant w (want_of s)
-asked_want c id a rest w none front is wants =
+pub asked_want : (c : Conn) (id : ℕ) (a : StreamAct) (rest : List Due) (r : Result CoreWant NoMemory) → c.ending ≡ None → c.first ≡ None → c.due ≡ due.Do (act.OfStream id a) ∷ rest
+    → (MayAct a → WantsOf c.pump (tunnel_want (find_on c id) a) r) → Wants c r
+asked_want c id a rest r none front is wants =
     let dues = due_front c (due.Do (act.OfStream id a) ∷ rest) front is in
-    wants_by c (due.Do (act.OfStream id a) ∷ rest) w none dues (λ p h. wants (served_asked (state c p).tunnels id a h.lawful.loose.served (follows_first c p (act.OfStream id a) rest h dues).0))
+    let M : List Due → Type 0 = λ ds. AllMayBeDue ds in
+    wants_by c (due.Do (act.OfStream id a) ∷ rest) r none dues (λ p h. wants (subst M is h.ready.may).0)
 
 pub open_want : (c : Conn) (id : ℕ) (goal : Goal) (rest : List Due) (w : CoreWant) → c.ending ≡ None → behind c.first c.due ≡ due.Do (act.Open id goal) ∷ rest → w ≡ core_want.Ask (call.Open c.number id c.actor goal)
-    → (s : machine.Conn) → IsConn c s → IsWant w (want_of s)
+    → Wants c (Ok w)
 open_want c id goal rest w none is same =
-    let P : CoreWant → Type 0 = λ v. IsWant v (Ask (call.Open c.number id c.actor goal)) in
-    wants_by c (due.Do (act.Open id goal) ∷ rest) w none is (λ p h. subst P (sym same) refl)
+    let P : CoreWant → Type 0 = λ v. WantIs c.pump v (Ask (call.Open c.number id c.actor goal)) in
+    wants_by c (due.Do (act.Open id goal) ∷ rest) (Ok w) none is (λ p h. subst P (sym same) (record { is = refl; pushes = tt; may = tt }))
 
 pub close_want : (c : Conn) (id : ℕ) (reason : Why) (rest : List Due) (w : CoreWant) → c.ending ≡ None → behind c.first c.due ≡ due.Do (act.OfStream id (stream.Close reason)) ∷ rest
-    → ((why : Why) → IsWant w (tunnel_want (find_on c id) (stream.Close why))) → (s : machine.Conn) → IsConn c s → IsWant w (want_of s)
-close_want c id reason rest w none is wants = wants_by c (due.Do (act.OfStream id (stream.Close reason)) ∷ rest) w none is (λ p h. wants reason)
+    → ((why : Why) → WantIs c.pump w (tunnel_want (find_on c id) (stream.Close why))) → Wants c (Ok w)
+close_want c id reason rest w none is wants = wants_by c (due.Do (act.OfStream id (stream.Close reason)) ∷ rest) (Ok w) none is (λ p h. wants reason)
+
+pub push_want : (c : Conn) (id n : ℕ) (to : Place) (packet : List ℕ) (w : CoreWant) → c.ending ≡ None → behind c.first c.due ≡ due.Do (act.OfStream id (stream.Push n to packet)) ∷ c.due
+    → WantIs c.pump w (tunnel_want (find_on c id) (stream.Push n to packet)) → Wants c (Ok w)
+push_want c id n to packet w none is wants = wants_by c (due.Do (act.OfStream id (stream.Push n to packet)) ∷ c.due) (Ok w) none is (λ p h. wants)
 
 -- ---- in parts
 
@@ -289,11 +297,11 @@ reads_so c s stands goes = by_state c (λ (x : machine.Conn). true ≡ can_go_on
 pub reads_not : (s : machine.Conn) → false ≡ can_go_on s → false ≡ can_read s
 reads_not s goes = ap (λ (b : Bool). b && not s.is_finished) goes
 
-pub no_want_so : (c : Conn) → c.ending ≡ None → c.first ≡ None → c.due ≡ [] → (s : machine.Conn) → IsConn c s → want_of s ≡ Nothing
-no_want_so c none front is s stands = by_state c (λ (x : machine.Conn). want_of x ≡ Nothing) (λ p h. no_want c p none front is) s stands
+pub no_want_so : (c : Conn) → c.ending ≡ None → c.first ≡ None → c.due ≡ [] → Wants c (Ok core_want.Nothing)
+no_want_so c none front is = wants_by c [] (Ok core_want.Nothing) none (due_front c [] front is) (λ p h. record { is = refl; pushes = tt; may = tt })
 
-pub mark_want : (c : Conn) (d : Due) (rest : List Due) → c.ending ≡ None → c.first ≡ None → c.due ≡ d ∷ rest → ((a : Act) → d ≡ due.Do a → ⊥) → (s : machine.Conn) → IsConn c s → want_of s ≡ Nothing
-mark_want c d rest none front is isnt s stands = by_state c (λ (x : machine.Conn). want_of x ≡ Nothing) (λ p h. want_due c p (d ∷ rest) none (due_front c (d ∷ rest) front is) ∙ by p d isnt) s stands
+pub mark_want : (c : Conn) (d : Due) (rest : List Due) → c.ending ≡ None → c.first ≡ None → c.due ≡ d ∷ rest → ((a : Act) → d ≡ due.Do a → ⊥) → Wants c (Ok core_want.Nothing)
+mark_want c d rest none front is isnt = wants_by c (d ∷ rest) (Ok core_want.Nothing) none (due_front c (d ∷ rest) front is) (λ p h. record { is = by p d isnt; pushes = tt; may = tt })
   where
     by : (p : Past) (d : Due) → ((a : Act) → d ≡ due.Do a → ⊥) → due_want (state c p) (d ∷ rest) ≡ Nothing
     by p (due.Do a) k = absurd (k a refl)
@@ -301,8 +309,8 @@ mark_want c d rest none front is isnt s stands = by_state c (λ (x : machine.Con
     by p (due.Fault code) k = refl
 
 -- a note that needs nothing of the outside
-pub say_want : (c : Conn) (a : Act) (rest : List Due) → c.ending ≡ None → c.first ≡ None → c.due ≡ due.Do a ∷ rest → ((x : machine.Conn) → act_want x a ≡ Say) → (s : machine.Conn) → IsConn c s → want_of s ≡ Say
-say_want c a rest none front is says s stands = by_state c (λ (x : machine.Conn). want_of x ≡ Say) (λ p h. want_due c p (due.Do a ∷ rest) none (due_front c (due.Do a ∷ rest) front is) ∙ says (state c p)) s stands
+pub say_want : (c : Conn) (a : Act) (rest : List Due) → c.ending ≡ None → c.first ≡ None → c.due ≡ due.Do a ∷ rest → ((x : machine.Conn) → act_want x a ≡ Say) → Wants c (Ok core_want.Say)
+say_want c a rest none front is says = wants_by c (due.Do a ∷ rest) (Ok core_want.Say) none (due_front c (due.Do a ∷ rest) front is) (λ p h. record { is = says (state c p); pushes = tt; may = tt })
 
 pub nothing_at : (ts : List Tunnel) → slice_get ts 0 ≡ None → ts ≡ []
 nothing_at [] h = refl

@@ -1,7 +1,7 @@
 -- Which act closes a tunnel.
-use Rattle.std.specs.Prelude.{◌≡◌, ◌≢◌, ℕ, ◌<◌, Bool, true, false, List, [], ◌∷◌, ◌++◌, Option, Some, None, Result, Ok, Err, vec_len, vec_capacity}
+use Rattle.std.specs.Option.{is_some}
+use Rattle.std.specs.Prelude.{◌≡◌, ◌≢◌, ℕ, ◌<◌, Bool, true, List, [], ◌∷◌, ◌++◌, Option, Some, None, Result, Ok, Err, vec_len, vec_capacity}
 use Rattle.mq_addr.specs.declared.range.Range.{Range}
-use Rattle.mq_talk.specs.declared.goal.Goal.{Goal}
 use Rattle.mq_talk.specs.declared.note.Note.{Note}
 use Rattle.mq_talk.specs.declared.note.Why.{Why}
 use Rattle.mq_talk.specs.declared.note.Why.TheVariants as why
@@ -13,20 +13,22 @@ use Rattle.mq_machine.specs.declared.act.StreamAct.TheVariants as stream
 use Rattle.mq_machine.specs.declared.act.Due.{Due}
 use Rattle.mq_machine.specs.declared.act.Due.TheVariants as due
 use Rattle.mq_machine.specs.Done.{closed, closing as puts_closing, is_begun, opened}
-use Rattle.mq_machine.specs.Lawful.{IsLoose, IsUdp}
+use Rattle.mq_machine.specs.Lawful.{IsLoose}
 use Rattle.mq_machine.specs.Putting.{putting}
 use Rattle.mq_machine.specs.Settle.{settle}
 use Rattle.mq_machine.specs.State as machine
 use Rattle.mq_machine.specs.State.{Waiting, tunnel_on}
 use Rattle.mq_conn.specs.declared.answer.Closing.{Closing}
+use Rattle.mq_conn.specs.declared.open.Opening.{Opening}
 use Rattle.mq_conn.specs.declared.conn.Conn.{Conn}
 use Rattle.mq_conn.specs.declared.conn.First.{First}
 use Rattle.mq_conn.specs.declared.conn.First.TheVariants as first
-use Rattle.mq_conn.specs.Conns.{Stands, tunnels_of}
+use Rattle.mq_conn.specs.Conns.{IsSpare, Stands, behind, tunnels_of}
 
 abbrev pub closes_first : First → Option Closing
-closes_first (first.Open id goal waiting) = None
+closes_first (first.Open id goal) = None
 closes_first (first.Close id reason) = Some (record { stream = id; why = reason })
+closes_first (first.Push id n to packet) = None
 
 abbrev pub closes_stream : ℕ → StreamAct → Option Closing
 closes_stream id (stream.Close reason) = Some (record { stream = id; why = reason })
@@ -81,12 +83,41 @@ ClosesSo old new id reason note =
     (s : machine.Conn) (t : machine.Tunnel) → Stands old s → old.first ≡ None → (s.ending ≢ None → reason ≡ why.Conn) → tunnel_on s id ≡ Some t
     → (note ≡ (closed s t reason).0) × (IsLoose (closed s t reason).1 → Stands new (settle (closed s t reason).1))
 
--- A tunnel opened, or memory was refused for what it gets; then it is live all the same, where there was room for it.
-abbrev pub OpensOn : Conn → Conn → ℕ → ℕ → Goal → List Waiting → Result Note NoMemory → Type 0
-OpensOn old new id stream goal waiting (Ok note) =
-    (s : machine.Conn) (routes : List Range) → Stands old s → old.first ≡ None → s.ending ≡ None → waiting ≡ [] → IsUdp goal
-    → (note ≡ (opened s id stream goal routes).0) × Stands new (opened s id stream goal routes).1
-OpensOn old new id stream goal waiting (Err fault) =
-    vec_len old.tunnels < vec_capacity old.tunnels
-    → (new ≡ record old { front = new.front; tunnels = new.tunnels })
-    × (tunnels_of new.tunnels.items ≡ tunnels_of old.tunnels.items ++ record { id = id; stream = stream; goal = goal; waiting = waiting } ∷ [])
+-- ---- which tunnel opens
+
+abbrev pub opens_act : Act → Option Opening
+opens_act (act.Open id goal) = Some (record { stream = id; goal = goal })
+opens_act (act.Bind id goal) = None
+opens_act (act.Refuse id status rule) = None
+opens_act (act.Reset id code) = None
+opens_act (act.OfStream id a) = None
+
+abbrev pub opens_due : Due → Option Opening
+opens_due (due.Do a) = opens_act a
+opens_due (due.Spend id size) = None
+opens_due (due.Fault code) = None
+
+-- which tunnel is to open now, as the first act says
+abbrev pub opening : List Due → Option Opening
+opening [] = None
+opening (d ∷ dues) = opens_due d
+
+-- that was taken, where one is
+abbrev pub TakesOpen : Conn → Conn → Option Opening → Type 0
+TakesOpen old new None = opening (behind old.first old.due) ≡ None
+TakesOpen old new (Some o) = (behind old.first old.due ≡ due.Do (act.Open o.stream o.goal) ∷ new.due) × (new ≡ record old { first = None; due = new.due })
+
+-- its number, and what waits in it
+abbrev pub opened_tunnel : ℕ → Opening → List Waiting → machine.Tunnel
+opened_tunnel id o waiting = record { id = id; stream = o.stream; goal = o.goal; waiting = waiting }
+
+-- A tunnel opened, with its routes, or memory was refused for what it gets; then it is live all the same, where there was room for
+-- it, and nothing waits in it.
+abbrev pub OpensOn : Conn → Conn → ℕ → Opening → List Range → Result Note NoMemory → Type 0
+OpensOn old new id o routes (Ok note) =
+    (s : machine.Conn) → Stands old s → old.first ≡ None → s.ending ≡ None → is_some old.spare ≡ true → vec_len old.tunnels < vec_capacity old.tunnels
+    → (note ≡ (opened s id o.stream o.goal routes).0) × Stands new (opened s id o.stream o.goal routes).1
+OpensOn old new id o routes (Err fault) =
+    IsSpare old.spare → is_some old.spare ≡ true → vec_len old.tunnels < vec_capacity old.tunnels
+    → (new ≡ record old { front = new.front; first = new.first; due = new.due; ending = new.ending; spare = new.spare; pump = new.pump; tunnels = new.tunnels }) × IsSpare new.spare
+    × (tunnels_of new.tunnels.items ≡ tunnels_of old.tunnels.items ++ opened_tunnel id o [] ∷ [])

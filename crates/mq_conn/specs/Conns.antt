@@ -1,22 +1,25 @@
 -- What the core of a connection stands for.
 use Rattle.std.specs.Prelude.{◌≡◌, ◌≢◌, ℕ, ◌==◌, ◌≤◌, ◌<◌, ◌⊎◌, nat_lt, Bool, true, false, List, [], ◌∷◌, length, drop, find, map, vec_len, vec_capacity, Option, Some, None, Result, Ok, Err}
+use Rattle.std.specs.List.{list_any}
 use Rattle.std.specs.Option.{is_some}
 use Rattle.mq_front.specs.declared.front.Front.{Front}
 use Rattle.mq_front.specs.Fronts.{IsFront}
+use Rattle.mq_front.specs.Limits.{AllMayBeDue}
 use Rattle.mq_machine.specs.declared.act.Act.{Act}
 use Rattle.mq_machine.specs.declared.act.Act.TheVariants as act
+use Rattle.mq_machine.specs.declared.act.StreamAct.{StreamAct}
 use Rattle.mq_machine.specs.declared.act.StreamAct.TheVariants as stream
 use Rattle.mq_machine.specs.declared.act.Due.{Due}
 use Rattle.mq_machine.specs.declared.act.Due.TheVariants as due
 use Rattle.mq_machine.specs.Cores.{Answered, MayAnswer}
 use Rattle.mq_machine.specs.Done.{done, stream_done}
-use Rattle.mq_machine.specs.Lawful.{IsFresh, IsLawful, NoOpens}
+use Rattle.mq_machine.specs.Lawful.{IsFresh, IsLawful, is_opening}
 use Rattle.mq_machine.specs.Settle.{is_given_up}
 use Rattle.mq_machine.specs.Silent.{tunnels_after}
 use Rattle.mq_machine.specs.State as machine
-use Rattle.mq_machine.specs.State.{Stream, Head, OverHttp1, OverHttp2}
+use Rattle.mq_machine.specs.State.{Stream, Waiting, Head, OverHttp1, OverHttp2}
 use Rattle.mq_machine.specs.Steps.{starved}
-use Rattle.mq_machine.specs.Want.{Answer, Push, Put, Replied, Send, want_of}
+use Rattle.mq_machine.specs.Want.{Answer, Push, Pushed, Put, Replied, Send, want_of}
 use Rattle.mq_outside.specs.declared.PortPut.{PortPut}
 use Rattle.mq_outside.specs.declared.PortPut.TheVariants as put
 use Rattle.mq_talk.specs.declared.book.Reply.{Reply}
@@ -35,8 +38,9 @@ use Rattle.mq_conn.specs.declared.conn.Tunnel.{Tunnel}
 
 -- the act that stands in front
 abbrev pub act_of : First → Act
-act_of (first.Open id goal waiting) = act.Open id goal
+act_of (first.Open id goal) = act.Open id goal
 act_of (first.Close id reason) = act.OfStream id (stream.Close reason)
+act_of (first.Push id n to packet) = act.OfStream id (stream.Push n to packet)
 
 abbrev pub behind : Option First → List Due → List Due
 behind None dues = dues
@@ -87,11 +91,20 @@ abbrev pub IsRead : Option Front → Option End → machine.Front → List Strea
 IsRead None ending f streams owed = (is_given_up ending ≡ true) × PutsNothing f × (streams ≡ []) × (owed ≡ [])
 IsRead (Some front) ending f streams owed = (is_given_up ending ≡ false) × IsFront front f streams owed
 
--- there is room for the tunnel that is to open, in which nothing waits
-abbrev pub HasRoom : Option First → ℕ → ℕ → Type 0
-HasRoom None len capacity = Unit {0}
-HasRoom (Some (first.Open id goal waiting)) len capacity = (waiting ≡ []) × (len < capacity)
-HasRoom (Some (first.Close id reason)) len capacity = Unit {0}
+-- what will wait in the next tunnel that opens: nothing yet
+abbrev pub IsSpare : Option (List Waiting) → Type 0
+IsSpare None = Unit {0}
+IsSpare (Some waiting) = waiting ≡ []
+
+-- where a tunnel is to open, there is room for it and for what will wait in it
+abbrev pub HasRoom : Option (List Waiting) → ℕ → ℕ → List Due → Type 0
+HasRoom spare len capacity dues = list_any is_opening dues ≡ true → (is_some spare ≡ true) × (len < capacity)
+
+-- What is due can be done: there is room for a tunnel that is to open, and the book is asked for nothing beyond its limits.
+pub record IsReady (spare : Option (List Waiting)) (len capacity : ℕ) (f : Option First) (dues : List Due) : Type 0 where
+  pub room : HasRoom spare len capacity (behind f dues)
+  pub spare_is : IsSpare spare
+  pub may : AllMayBeDue dues
 
 -- The core stands for this state, whatever is true of that.
 pub record Stands (c : Conn) (s : machine.Conn) : Type 0 where
@@ -99,8 +112,7 @@ pub record Stands (c : Conn) (s : machine.Conn) : Type 0 where
   pub is : s ≡ state c past
   pub read : IsRead c.front c.ending past.front past.streams (drop past.given past.out)
   pub given : past.given ≤ length past.out
-  pub room : HasRoom c.first (vec_len c.tunnels) (vec_capacity c.tunnels)
-  pub opens : NoOpens c.due
+  pub ready : IsReady c.spare (vec_len c.tunnels) (vec_capacity c.tunnels) c.first c.due
 
 -- The core stands for this lawful state.
 pub record IsConn (c : Conn) (s : machine.Conn) : Type 0 where
@@ -117,14 +129,11 @@ GivesUp old why new = new ≡ record old { front = None; first = None; due = [];
 abbrev pub Starves : Conn → Conn → Type 0
 Starves old new = (s : machine.Conn) → IsConn old s → IsConn new (starved s)
 
--- What a call leaves that was refused memory: all but what is read, owed and due.
-abbrev pub Keeps : Conn → Conn → Type 0
-Keeps old new = new ≡ record old { front = new.front; first = new.first; due = new.due; ending = new.ending }
-
--- that, and its tunnels, for which there may be more room
+-- What a call leaves that was refused memory: all but what is read, owed and due, and but for room for more tunnels.
 pub record Leaves (old new : Conn) : Type 0 where
-  pub is : new ≡ record old { front = new.front; first = new.first; due = new.due; ending = new.ending; tunnels = new.tunnels }
+  pub is : new ≡ record old { front = new.front; first = new.first; due = new.due; ending = new.ending; spare = new.spare; pump = new.pump; tunnels = new.tunnels }
   pub items : new.tunnels.items ≡ old.tunnels.items
+  pub spare_is : IsSpare old.spare → IsSpare new.spare
 
 abbrev pub Does : Conn → Conn → Answer → Note → Type 0
 Does old new answer note = Answered (IsConn old) (IsConn new) answer note
@@ -146,9 +155,28 @@ CanPut answer limit payload = (nat_lt limit (length payload) ≡ true) ⊎ (answ
 abbrev pub IsPayload : Conn → List ℕ → Type 0
 IsPayload c bytes = (s : machine.Conn) → IsConn c s → (tunnel n : ℕ) (payload : List ℕ) → want_of s ≡ Send tunnel n payload → bytes ≡ payload
 
--- the parcel that it wants to push; it wants that until it is told what became of it
-abbrev pub GivesParcel : Conn → Conn → Parcel → Type 0
-GivesParcel old new parcel = (s : machine.Conn) → IsConn old s → IsConn new s × ((wanted : Parcel) → want_of s ≡ Push wanted → parcel ≡ wanted)
+-- a push whose packet was moved out
+abbrev pub emptied_act : StreamAct → StreamAct
+emptied_act (stream.Push n to packet) = stream.Push n to []
+emptied_act a = a
+
+abbrev pub emptied_due : Due → Due
+emptied_due (due.Do (act.OfStream id a)) = due.Do (act.OfStream id (emptied_act a))
+emptied_due d = d
+
+abbrev pub emptied_dues : List Due → List Due
+emptied_dues [] = []
+emptied_dues (d ∷ dues) = emptied_due d ∷ dues
+
+abbrev pub emptied : machine.Conn → machine.Conn
+emptied s = record s { due = emptied_dues s.due }
+
+-- The parcel that it wants to push. Its packet is moved out, so that it wants to push one without bytes then, until it is told
+-- what became of it: that does what it would have done before.
+pub record GivesParcel (old new : Conn) (parcel : Parcel) : Type 0 where
+  pub parcel_is : (s : machine.Conn) → IsConn old s → (wanted : Parcel) → want_of s ≡ Push wanted → parcel ≡ wanted
+  pub stands : (s : machine.Conn) → IsConn old s → IsConn new (emptied s)
+  pub same : (s : machine.Conn) (taken : Bool) → IsConn old s → done (emptied s) (Pushed taken) ≡ done s (Pushed taken)
 
 -- the note of a payload that was given to the port
 abbrev pub PutsNote : ℕ → ℕ → List ℕ → PortPut → ℕ → Note → Type 0

@@ -1,6 +1,9 @@
 -- What calls promise on capsules that wait.
-use Rattle.std.specs.Prelude.{◌≡◌, ◌≢◌, ℕ, ◌+◌, ◌<◌, ◌≤◌, Bool, true, false, List, ◌∷◌, [], length, take, drop, filter, find, nat_le, nat_lt, slice_get, slice_set, Option, Some, None, Result, Ok, Err}
+use Rattle.std.specs.Prelude.{◌≡◌, ◌≢◌, ℕ, ◌+◌, ◌<◌, ◌≤◌, Bool, true, false, List, ◌∷◌, length, take, drop, filter, find, nat_le, nat_lt, slice_get, slice_set, Option, Some, None, Result, Ok, Err}
+use Rattle.mq_addr.specs.declared.kind.Kind.{Kind}
+use Rattle.mq_addr.specs.declared.kind.Kind.TheVariants as kind
 use Rattle.mq_talk.specs.declared.note.From.{From}
+use Rattle.mq_talk.specs.declared.note.From.TheVariants as source
 use Rattle.mq_talk.specs.declared.note.Note.{Note}
 use Rattle.mq_talk.specs.declared.note.Note.TheVariants as note
 use Rattle.mq_talk.specs.declared.place.Cause.TheVariants as cause
@@ -8,19 +11,37 @@ use Rattle.mq_wire.specs.declared.NoMemory.{NoMemory}
 use Rattle.mq_machine.specs.Putting.{putting}
 use Rattle.mq_machine.specs.State as machine
 use Rattle.mq_machine.specs.Reading.{EndsThere}
-use Rattle.mq_machine.specs.State.{Waiting, owed, tunnel_of}
+use Rattle.mq_machine.specs.State.{Waiting, kind_of, owed, tunnel_of}
+use Rattle.mq_machine.specs.Words.{onward}
 use Rattle.mq_machine.specs.Steps.{can_frame, can_read, finish_by, frame_size, framing, queued, settled_note, whole_note}
 use Rattle.mq_conn.specs.declared.conn.Conn.{Conn}
 use Rattle.mq_conn.specs.declared.conn.Tunnel.{Tunnel}
-use Rattle.mq_conn.specs.Conns.{IsConn, Keeps, Stands, tunnel_is, tunnels_of}
+use Rattle.mq_conn.specs.Conns.{IsConn, Leaves, Stands, tunnel_is, tunnels_of}
 
--- what comes to a tunnel: it is gone, or the packet waits there or is dropped
-abbrev pub Comes : Conn → machine.Conn → Option machine.Tunnel → From → ℕ → List ℕ → Note → Type 0
-Comes new s None from n packet said = (said ≡ note.Dropped from n cause.Gone) × IsConn new s
-Comes new s (Some t) from n packet said = (said ≡ (settled_note (queued s t from n packet)).0) × IsConn new (settled_note (queued s t from n packet)).1
+-- a packet goes on to a tunnel with its hop limit lowered, where that is above one
+abbrev pub passed_on : machine.Conn → machine.Tunnel → From → ℕ → Option (List ℕ) → Note × machine.Conn
+passed_on s t from n None = (note.Dropped from n cause.HopLimit, s)
+passed_on s t from n (Some packet) = settled_note (queued s t from n packet)
+
+-- One that came through an inbox goes to a tunnel for IP packets alone.
+abbrev pub comes_in : machine.Conn → Kind → machine.Tunnel → From → ℕ → List ℕ → Note × machine.Conn
+comes_in s kind.Udp t from n packet = (note.Dropped from n cause.Gone, s)
+comes_in s kind.Ip t from n packet = passed_on s t from n (onward packet)
+
+-- and a datagram that its port received, to the tunnel of that
+abbrev pub comes : machine.Conn → machine.Tunnel → From → ℕ → List ℕ → Note × machine.Conn
+comes s t (source.Port port) n packet = settled_note (queued s t (source.Port port) n packet)
+comes s t (source.Tunnel origin) n packet = comes_in s (kind_of t.goal) t (source.Tunnel origin) n packet
+comes s t source.Net n packet = comes_in s (kind_of t.goal) t source.Net n packet
+
+-- what comes to a tunnel, which may have closed on the way
+abbrev pub delivered : machine.Conn → Option machine.Tunnel → From → ℕ → List ℕ → Note × machine.Conn
+delivered s None from n packet = (note.Dropped from n cause.Gone, s)
+delivered s (Some t) from n packet = comes s t from n packet
 
 abbrev pub Delivers : Conn → Conn → From → ℕ → ℕ → List ℕ → Note → Type 0
-Delivers old new from n tunnel packet said = (s : machine.Conn) → IsConn old s → Comes new s (tunnel_of s tunnel) from n packet said
+Delivers old new from n tunnel packet said =
+    (s : machine.Conn) → IsConn old s → (said ≡ (delivered s (tunnel_of s tunnel) from n packet).0) × IsConn new (delivered s (tunnel_of s tunnel) from n packet).1
 
 -- ---- only the crate's own functions cite these words
 
@@ -32,6 +53,27 @@ pub record IsPlaceOf (tunnels : List Tunnel) (id place : ℕ) (t : Tunnel) : Typ
 
 abbrev pub HasNone : List Tunnel → ℕ → Type 0
 HasNone tunnels id = (place : ℕ) (t : Tunnel) → slice_get tunnels place ≡ Some t → t.id ≢ id
+
+-- a packet came to the tunnel at this place, which is the first of this number
+abbrev pub QueuesAt : Conn → Conn → ℕ → ℕ → From → ℕ → List ℕ → Note → Type 0
+QueuesAt old new place id from n packet said = (t : Tunnel) → IsPlaceOf old.tunnels.items id place t → (s : machine.Conn) → IsConn old s
+    → (said ≡ (settled_note (queued s (tunnel_is t) from n packet)).0) × IsConn new (settled_note (queued s (tunnel_is t) from n packet)).1
+
+-- it came through an inbox
+abbrev pub ComesFrom : From → Type 0
+ComesFrom (source.Tunnel origin) = Unit {0}
+ComesFrom source.Net = Unit {0}
+ComesFrom (source.Port port) = ⊥
+
+-- one that came through an inbox
+abbrev pub ComesInAt : Conn → Conn → ℕ → ℕ → From → ℕ → List ℕ → Note → Type 0
+ComesInAt old new place id from n packet said = (t : Tunnel) → IsPlaceOf old.tunnels.items id place t → (s : machine.Conn) → IsConn old s
+    → (said ≡ (comes_in s (kind_of t.goal) (tunnel_is t) from n packet).0) × IsConn new (comes_in s (kind_of t.goal) (tunnel_is t) from n packet).1
+
+-- and one that goes on there
+abbrev pub GoesOnAt : Conn → Conn → ℕ → ℕ → From → ℕ → List ℕ → Note → Type 0
+GoesOnAt old new place id from n packet said = (t : Tunnel) → IsPlaceOf old.tunnels.items id place t → (s : machine.Conn) → IsConn old s
+    → (said ≡ (passed_on s (tunnel_is t) from n (onward packet)).0) × IsConn new (passed_on s (tunnel_is t) from n (onward packet)).1
 
 -- of the tunnels from the next number on, or of those before it
 abbrev pub on_side : Bool → ℕ → List machine.Tunnel → List machine.Tunnel
@@ -60,7 +102,7 @@ pub record PutFirst (old new : Conn) (place count : ℕ) : Type 0 where
 
 abbrev pub PutsFirst : Conn → Conn → ℕ → Result ℕ NoMemory → Type 0
 PutsFirst old new place (Ok count) = PutFirst old new place count
-PutsFirst old new place (Err fault) = Keeps old new
+PutsFirst old new place (Err fault) = Leaves old new
 
 -- They are framed: all that was left, or a part of that.
 abbrev pub took_note : Bool → Tunnel → Waiting → ℕ → Note

@@ -4,4 +4,7 @@ pub mod Queues
 pub mod Closing
 pub mod Acts
 pub mod Wants
+pub mod Rooms
+pub mod Values
+pub mod Packets
 pub mod Frames

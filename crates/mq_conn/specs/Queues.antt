@@ -1,5 +1,5 @@
 -- What that which waits in a tunnel stands for.
-use Rattle.std.specs.Prelude.{ℕ, List, [], ◌∷◌, ◌++◌, length, sum_by}
+use Rattle.std.specs.Prelude.{ℕ, List, [], ◌∷◌, ◌++◌, length, sum_by, Option, Some, None}
 use Rattle.mq_capsule.specs.Writing.{capsule_text, datagram}
 use Rattle.mq_talk.specs.declared.note.From.{From}
 use Rattle.mq_machine.specs.State as machine
@@ -43,3 +43,8 @@ with_framed framed (w ∷ ws) = record w { framed = framed } ∷ ws
 -- the bytes of the capsules that wait
 abbrev pub size_of : List Waiting → ℕ
 size_of ws = sum_by (λ (w : Waiting). length w.capsule) ws
+
+-- a capsule that waits, where there is one
+abbrev pub values_of : Option (List ℕ) → List Waiting
+values_of None = []
+values_of (Some capsule) = a_value capsule ∷ []

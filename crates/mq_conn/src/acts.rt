@@ -10,7 +10,6 @@ ghost use Rattle.mq_conn.specs.Conns.{Does, IsPayload, MayDo, PutsNote, Refuses,
 ghost use Rattle.mq_conn.specs.Acts.{DoesAct, MayStep, saying_act};
 
 use crate::conn::{Conn, First};
-use crate::queue::Queue;
 use mq_machine::{Act, Due, StreamAct};
 use mq_outside::PortPut;
 use mq_talk::{Cause, From, Goal, Note};
@@ -268,13 +267,8 @@ impl Conn {
     fn ported(&mut self, stream: u32, goal: Goal) -> Result<Note, NoMemory>
         ensures { self.old.first ≡ None → MayStep self.old self.new (λ s. (Note.Ported s.number stream, before (asks.Open stream goal) s)) result }
     {
-        let waiting = Queue::new(self.alloc)?;
-        self.tunnels.reserve(1)?;
-        self.first = Some(First::Open {
-            stream,
-            goal,
-            waiting,
-        });
+        self.make_room()?;
+        self.first = Some(First::Open { stream, goal });
         Ok(Note::Ported {
             conn: self.number,
             stream,

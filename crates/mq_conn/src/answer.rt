@@ -1,18 +1,16 @@
-//! What a connection does as the book answers it: a tunnel opens, or closes.
-ghost use Rattle.std.specs.Prelude.{◌≡◌, ◌≢◌, ℕ, ◌∷◌, List, None, Some, is_ok, MatchOption};
-ghost use Rattle.mq_addr.specs.declared.range.Range.{Range};
+//! What a connection does as the book answers it.
+ghost use Rattle.std.specs.Prelude.{◌≡◌, ◌≢◌, ◌∷◌, List, None, Some, is_ok};
 ghost use Rattle.mq_machine.specs.Done.{without_tunnel};
 ghost use Rattle.mq_machine.specs.declared.act.Due.{Due};
 ghost use Rattle.mq_machine.specs.State as machine;
 ghost use Rattle.mq_machine.specs.Want.{Replied};
+ghost use Rattle.mq_iptun.specs.Answers.{CanTell};
 ghost use Rattle.mq_conn.specs.Conns.{Does, Hears, MayHear, Refuses, Stands, behind};
-ghost use Rattle.mq_conn.specs.Closing.{ClosesFront, ClosesOn, ClosesSo, OpensOn, closing, closes_first, closes_due, closes_act, closes_stream};
+ghost use Rattle.mq_conn.specs.Closing.{ClosesFront, ClosesOn, ClosesSo, closing, closes_first, closes_due, closes_act, closes_stream};
 
-use crate::conn::{Conn, First, Tunnel};
-use crate::queue::Queue;
-use mq_front::kind_of;
+use crate::conn::{Conn, First};
 use mq_machine::{Act, Due, StreamAct};
-use mq_talk::{Goal, Note, Reply, Why};
+use mq_talk::{Note, Reply, Why};
 use mq_wire::NoMemory;
 
 /// The stream whose tunnel is to close, and why.
@@ -27,11 +25,11 @@ fn closes_first(first: &First) -> Option<Closing>
     ensures { result ≡ closes_first first.now }
 {
     match first {
-        First::Open { .. } => None,
         First::Close { stream, why } => Some(Closing {
             stream: *stream,
             why: *why,
         }),
+        First::Open { .. } | First::Push { .. } => None,
     }
 }
 
@@ -67,14 +65,6 @@ fn closes_due(due: &Due) -> Option<Closing>
     }
 }
 
-/// A tunnel that is to open, in which this will wait.
-#[derive(Drop)]
-struct Opening {
-    stream: u32,
-    goal: Goal,
-    waiting: Queue,
-}
-
 impl Conn {
     /// Which tunnel is to close now, while the connection isn't ending, and why.
     fn closing(&self) -> Option<Closing>
@@ -90,7 +80,7 @@ impl Conn {
     }
 
     /// Takes the act that stands in front, or what is due first.
-    fn take_front(&mut self)
+    pub(crate) fn take_front(&mut self)
         ensures { (d : Due) (rest : List Due) → behind self.old.first self.old.due ≡ d ∷ rest → self.new ≡ record self.old { first = None; due = rest } }
     {
         if self.first.is_some() {
@@ -183,96 +173,24 @@ impl Conn {
         }
     }
 
-    /// Takes the tunnel that is to open.
-    fn take_open(&mut self) -> Option<Opening>
-        ensures took { MatchOption result ((stream : ℕ) (goal : Goal) (waiting : List machine.Waiting) → self.old.first ≢ Some (First.Open stream goal waiting)) (λ o. self.old.first ≡ Some (First.Open o.stream o.goal o.waiting)) }
-        ensures keeps { self.new ≡ record self.old { first = None } }
-    {
-        match self.first.take() {
-            Some(
-                First::Open {
-                    stream,
-                    goal,
-                    waiting,
-                },
-            ) => Some(Opening {
-                stream,
-                goal,
-                waiting,
-            }),
-            _ => None,
-        }
-    }
-
-    /// The tunnel is open, as tunnel `id`.
-    fn put_open(&mut self, id: u32, opening: Opening) -> Result<Note, NoMemory>
-        ensures { OpensOn self.old self.new id opening.stream opening.goal opening.waiting result }
-    {
-        let Opening {
-            stream,
-            goal,
-            waiting,
-        } = opening;
-        let kind = kind_of(goal);
-        self.tunnels.push(Tunnel {
-            id,
-            stream,
-            goal,
-            waiting,
-        })?;
-        let Some(front) = &mut self.front else {
-            return Err(NoMemory);
-        };
-        front.grant(self.alloc, stream, kind)?;
-        Ok(Note::Opened {
-            tunnel: id,
-            conn: self.number,
-            stream,
-            kind,
-        })
-    }
-
-    /// Its tunnel opens, as tunnel `id`.
-    fn open(&mut self, id: u32) -> Result<Note, NoMemory>
-        ensures hears { (routes : List Range) → Hears self.old self.new (Reply.Opened id routes) result }
-        ensures spent { Refuses self.old (is_ok result) }
-    {
-        let Some(opening) = self.take_open() else {
-            return Err(NoMemory);
-        };
-        let note = self.put_open(id, opening)?;
-        self.settle();
-        Ok(note)
-    }
-
-    /// The history has no place for its tunnel.
-    fn full(&mut self) -> Result<Note, NoMemory>
-        ensures hears { (entries live : ℕ) → Hears self.old self.new (Reply.HistoryFull entries live) result }
-        ensures spent { Refuses self.old (is_ok result) }
-    {
-        let Some(opening) = self.take_open() else {
-            return Err(NoMemory);
-        };
-        let note = self.refuse(opening.stream, 503, 0)?;
-        self.settle();
-        Ok(note)
-    }
-
     fn try_answer(&mut self, reply: Reply) -> Result<Note, NoMemory>
+        requires { CanTell reply }
         ensures hears { Hears self.old self.new reply result }
         ensures spent { reply ≢ Reply.Closed → Refuses self.old (is_ok result) }
     {
         match reply {
-            Reply::Opened { tunnel, .. } => self.open(tunnel),
+            Reply::Opened { tunnel, routes } => self.open(tunnel, routes),
             Reply::HistoryFull { .. } => self.full(),
             Reply::Closed => Ok(self.closed()),
-            Reply::Assigned { .. } => Err(NoMemory),
-            Reply::Accepted { .. } => Err(NoMemory),
+            Reply::Assigned { list, at } => self.assigned(list, at),
+            Reply::Accepted { yes, at } => self.accepted(yes, at),
         }
     }
 
-    /// The book replied. Where it was refused memory for the answer, the tunnel that opened is one of its own, to be closed.
+    /// The book replied. What it tells keeps to the limits of a control capsule. Where it was refused memory for the answer, the
+    /// tunnel that opened is one of its own, to be closed.
     pub fn answer(&mut self, reply: Reply) -> Result<Note, NoMemory>
+        requires { CanTell reply }
         ensures hears { MayHear self.old self.new reply result }
         ensures spent { reply ≢ Reply.Closed → Refuses self.old (is_ok result) }
     {

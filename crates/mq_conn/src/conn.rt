@@ -8,8 +8,8 @@ ghost use Rattle.mq_conn.specs.Conns.{IsConn, GivesUp, find_on, tunnel_is};
 
 use crate::queue::Queue;
 use mq_front::{Dues, Front};
-use mq_talk::{End, Goal, Why};
-use mq_wire::NoMemory;
+use mq_talk::{End, Goal, Place, Why};
+use mq_wire::{Bytes, NoMemory};
 use std::alloc::Global;
 
 /// A live tunnel, and what waits in it.
@@ -24,16 +24,22 @@ pub struct Tunnel {
 /// An act that comes before all that is due.
 #[derive(Drop)]
 pub enum First {
-    /// A tunnel is to open, in which this will wait.
+    /// A tunnel is to open.
     Open {
         stream: u32,
         goal: Goal,
-        waiting: Queue,
     },
     /// The tunnel of a stream is to close.
     Close {
         stream: u32,
         why: Why,
+    },
+    /// Packet `n` of the tunnel of a stream was judged, and is to be pushed. Its bytes are moved out for that.
+    Push {
+        stream: u32,
+        n: u64,
+        to: Place,
+        packet: Bytes,
     },
 }
 
@@ -52,6 +58,10 @@ pub struct Conn {
     pub(crate) ending: Option<End>,
     /// Its live tunnels, as they opened.
     pub(crate) tunnels: Vec<Tunnel>,
+    /// What will wait in the next tunnel that opens.
+    pub(crate) spare: Option<Queue>,
+    /// The number of the pump, by the setup of its reads.
+    pub(crate) pump: u32,
     /// The number from which the search for the next tunnel to frame begins.
     pub(crate) next_tunnel: u64,
 }
@@ -82,6 +92,8 @@ impl Conn {
             finished: false,
             ending: None,
             tunnels: Vec::new(alloc),
+            spare: None,
+            pump: 0,
             next_tunnel: 0,
         })
     }

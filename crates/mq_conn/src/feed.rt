@@ -6,8 +6,9 @@ ghost use Rattle.mq_machine.specs.Cores.{Feeds};
 ghost use Rattle.mq_machine.specs.State as machine;
 ghost use Rattle.mq_machine.specs.Reading.{EndsThere};
 ghost use Rattle.mq_machine.specs.Steps as steps;
-ghost use Rattle.mq_conn.specs.Conns.{IsConn, Keeps, Refuses, Starves, tunnels_of};
+ghost use Rattle.mq_conn.specs.Conns.{IsConn, Leaves, Refuses, Starves, tunnels_of};
 ghost use Rattle.mq_conn.specs.Frames.{LinkEnds};
+ghost use Rattle.mq_conn.specs.Rooms.{ReadsPiece};
 
 use crate::conn::{Conn, First, Tunnel};
 use mq_front::{Finish, Tunnels};
@@ -48,10 +49,14 @@ impl Conn {
     /// template for UDP tunnels is one of that kind. A connection that is refused memory is ending.
     pub fn feed(&mut self, setup: &Setup, piece: &[u8]) -> Result<(), NoMemory>
         ensures takes { setup.now.udp.kind ≡ kind.Udp → piece.now ≢ [] → Feeds (IsConn self.old) (IsConn self.new) (Starves self.old self.new) setup.now piece.now (is_ok result) }
+        ensures pump { OnOk result (self.new.pump ≡ setup.now.pump) }
         ensures spent { Refuses self.old (is_ok result) }
     {
         match self.try_feed(setup, piece) {
-            Ok(()) => Ok(()),
+            Ok(()) => {
+                self.pump = setup.pump;
+                Ok(())
+            }
             Err(refused) => {
                 self.starve();
                 Err(refused)
@@ -61,20 +66,29 @@ impl Conn {
 
     fn try_feed(&mut self, setup: &Setup, piece: &[u8]) -> Result<(), NoMemory>
         ensures takes { OnOk result (setup.now.udp.kind ≡ kind.Udp → Feeds (IsConn self.old) (IsConn self.new) ⊥ setup.now piece.now true) }
-        ensures keeps { OnErr result (Keeps self.old self.new) }
+        ensures keeps { OnErr result (Leaves self.old self.new) }
+        ensures spent { Refuses self.old (is_ok result) }
+    {
+        is_asked_once();
+        what_is_told_is_held();
+        self.read(setup, piece)?;
+        self.prepare()?;
+        self.settle();
+        Ok(())
+    }
+
+    /// The bytes of one read, before the end of the act.
+    fn read(&mut self, setup: &Setup, piece: &[u8]) -> Result<(), NoMemory>
+        ensures reads { ReadsPiece self.old self.new setup.now piece.now result }
         ensures spent { Refuses self.old (is_ok result) }
     {
         let Some(front) = &mut self.front else {
             return Err(NoMemory);
         };
-        is_asked_once();
-        what_is_told_is_held();
         let live = Live {
             tunnels: self.tunnels.as_slice(),
         };
-        front.read(self.alloc, setup, &live, piece, &mut self.due)?;
-        self.settle();
-        Ok(())
+        front.read(self.alloc, setup, &live, piece, &mut self.due)
     }
 
     /// The link has ended.

@@ -1,19 +1,23 @@
 //! What comes to a tunnel, and the capsules that it is framed in.
-ghost use Rattle.std.specs.Prelude.{◌≡◌, ℕ, ◌+◌, ◌≤◌, ◌||◌, min, not, nat_le, nat_lt, ◌^◌, ◌-◌, List, length, filter, sum_by, slice_get, Some, None, IfOk, OnErr, MatchOption, true, is_ok, is_some};
+ghost use Rattle.std.specs.Prelude.{◌≡◌, ℕ, ◌+◌, ◌<◌, ◌≤◌, ◌||◌, min, not, nat_le, nat_lt, ◌^◌, ◌-◌, List, length, filter, sum_by, slice_get, Some, None, IfOk, OnErr, MatchOption, true, is_ok, is_some};
 ghost use Rattle.mq_capsule.specs.Writing.{capsule_text, datagram};
 ghost use Rattle.mq_machine.specs.Cores.{Frames};
 ghost use Rattle.mq_machine.specs.State as machine;
 ghost use Rattle.mq_machine.specs.State.{is_packet};
 ghost use Rattle.mq_machine.specs.Steps as steps;
 ghost use Rattle.mq_machine.specs.Want.{want_of, may_wait};
-ghost use Rattle.mq_conn.specs.Conns.{IsConn, Keeps, Refuses, Starves, tunnel_is};
-ghost use Rattle.mq_conn.specs.Frames.{Delivers, IsNext, IsPlaceOf, HasNone, PutsFirst, TookFirst};
+ghost use Rattle.mq_conn.specs.Conns.{IsConn, Leaves, Refuses, Starves, tunnel_is};
+ghost use Rattle.mq_talk.specs.declared.place.Cause.TheVariants as cause;
+ghost use Rattle.mq_conn.specs.Frames.{ComesInAt, Delivers, GoesOnAt, QueuesAt, IsNext, IsPlaceOf, HasNone, PutsFirst, TookFirst};
 ghost use Rattle.mq_conn.specs.Queues.{size_of, what_of, behind as waits_behind};
 ghost use Rattle.mq_conn.specs.declared.conn.Tunnel.{Tunnel};
 
 use crate::capsule::{behind, capsule_size};
 use crate::conn::{Conn, First, Tunnel};
+use crate::hop::lowered;
 use crate::queue::{MOST_PACKETS, Queued};
+use mq_addr::Kind;
+use mq_front::kind_of;
 use mq_talk::{Cause, From, Note, Why};
 use mq_wire::{Bytes, NoMemory};
 
@@ -39,7 +43,7 @@ fn next_number(id: u32) -> u64
 }
 
 /// The place of the tunnel of this number.
-fn place_of(tunnels: &[Tunnel], id: u32) -> Option<usize>
+pub(crate) fn place_of(tunnels: &[Tunnel], id: u32) -> Option<usize>
     ensures { MatchOption result (HasNone tunnels.now id) (λ place. (t : Tunnel) × IsPlaceOf tunnels.now id place t) }
 {
     for place in 0..tunnels.len() {
@@ -73,6 +77,17 @@ fn whole(to: u32, last: Queued) -> Note
     }
 }
 
+/// The note of a packet whose tunnel is gone.
+fn gone(from: From, n: u64) -> Note
+    ensures { result ≡ Note.Dropped from n cause.Gone }
+{
+    Note::Dropped {
+        from,
+        n,
+        cause: Cause::Gone,
+    }
+}
+
 impl Conn {
     /// The port of its tunnel failed: the tunnel is to close, before all that is due. It waits for its client, or for a port.
     pub fn shut(&mut self, tunnel: u32)
@@ -92,6 +107,7 @@ impl Conn {
         ensures is { (t : Tunnel) → slice_get self.now.tunnels.items place ≡ Some t → (packet : List ℕ) → payload ≡ length packet
             → result ≡ not (nat_le 64 (length (filter is_packet t.waiting)) || nat_lt 1048576 (sum_by (λ (u : Tunnel). size_of u.waiting) self.now.tunnels.items + length (capsule_text (datagram packet)))) }
         ensures short { result ≡ true → payload ≤ 1048576 }
+        ensures there { result ≡ true → place < length self.now.tunnels.items }
     {
         match self.tunnels.get(place) {
             None => false,
@@ -111,17 +127,10 @@ impl Conn {
         }
     }
 
-    /// A packet came to tunnel `tunnel`: it waits there, unless too much does. The tunnel may have closed on the way.
-    pub fn deliver(&mut self, from: From, n: u64, tunnel: u32, packet: Bytes) -> Note
-        ensures { Delivers self.old self.new from n tunnel packet result }
+    /// A packet comes to the tunnel at this place, whose number is `tunnel`: it waits there, unless too much does.
+    fn queue(&mut self, place: usize, tunnel: u32, from: From, n: u64, packet: Bytes) -> Note
+        ensures { QueuesAt self.old self.new place tunnel from n packet result }
     {
-        let Some(place) = place_of(self.tunnels.as_slice(), tunnel) else {
-            return Note::Dropped {
-                from,
-                n,
-                cause: Cause::Gone,
-            };
-        };
         if !self.has_room(place, packet.as_slice().len()) {
             self.settle();
             return Note::Dropped {
@@ -136,6 +145,55 @@ impl Conn {
             from,
             n,
             to: tunnel,
+        }
+    }
+
+    /// A packet that may go on comes to the tunnel at this place, with its hop limit lowered.
+    fn go_on(&mut self, place: usize, tunnel: u32, from: From, n: u64, packet: Bytes) -> Note
+        ensures { GoesOnAt self.old self.new place tunnel from n packet result }
+    {
+        match lowered(packet) {
+            None => Note::Dropped {
+                from,
+                n,
+                cause: Cause::HopLimit,
+            },
+            Some(packet) => self.queue(place, tunnel, from, n, packet),
+        }
+    }
+
+    /// A packet of an inbox comes to the tunnel at this place: it goes on there, where that is one for IP packets.
+    fn come_in(&mut self, place: usize, tunnel: u32, from: From, n: u64, packet: Bytes) -> Note
+        ensures { ComesInAt self.old self.new place tunnel from n packet result }
+    {
+        let Some(at) = self.tunnels.get(place) else {
+            return gone(from, n);
+        };
+        match kind_of(at.goal) {
+            Kind::Udp => gone(from, n),
+            Kind::Ip => self.go_on(place, tunnel, from, n, packet),
+        }
+    }
+
+    /// Whether a tunnel of this number is live. Takes no memory.
+    pub fn is_live(&self, tunnel: u32) -> bool
+        ensures { (s : machine.Conn) → IsConn self.now s → result ≡ is_some (machine.tunnel_of s tunnel) }
+    {
+        place_of(self.tunnels.as_slice(), tunnel).is_some()
+    }
+
+    /// A packet came to tunnel `tunnel`, which may have closed on the way. A datagram of its port waits there. So does a packet
+    /// of at most 65,535 bytes that came through an inbox, with its hop limit lowered (RFC 9484, section 7), where the tunnel is
+    /// one for IP packets. Where too much waits, it is dropped.
+    pub fn deliver(&mut self, from: From, n: u64, tunnel: u32, packet: Bytes) -> Note
+        ensures { Delivers self.old self.new from n tunnel packet result }
+    {
+        let Some(place) = place_of(self.tunnels.as_slice(), tunnel) else {
+            return gone(from, n);
+        };
+        match from {
+            From::Port(_) => self.queue(place, tunnel, from, n, packet),
+            From::Tunnel(_) | From::Net => self.come_in(place, tunnel, from, n, packet),
         }
     }
 
@@ -242,7 +300,7 @@ impl Conn {
 
     fn try_frame(&mut self) -> Result<Note, NoMemory>
         ensures framed { IfOk result (λ note. (s : machine.Conn) → IsConn self.old s → (t : machine.Conn) × IsConn self.new t × (steps.framed s ≡ Some (note, t))) }
-        ensures keeps { OnErr result (Keeps self.old self.new) }
+        ensures keeps { OnErr result (Leaves self.old self.new) }
         ensures spent { Refuses self.old (is_ok result) }
     {
         let Some(place) = self.next_framed() else {

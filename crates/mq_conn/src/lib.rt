@@ -8,10 +8,14 @@ mod capsule;
 mod conn;
 mod feed;
 mod frame;
+mod hop;
 mod next;
+mod open;
 mod packets;
 mod queue;
+mod room;
 mod settle;
+mod values;
 mod want;
 
 pub use conn::Conn;

@@ -1,28 +1,33 @@
 //! What a connection wants, and what it can do beside that.
-ghost use Rattle.std.specs.Prelude.{◌≡◌, ◌≤◌, ◌∷◌, Some, None, not, true, ℕ, List, length, is_ok, IfOk};
+ghost use Rattle.std.specs.Prelude.{◌≡◌, ◌≤◌, ◌∷◌, Some, None, not, ℕ, List, length};
+ghost use Rattle.mq_iptun.specs.Acts.{MayAct, MayAssign, MayAdvertise};
 ghost use Rattle.mq_machine.specs.State as machine;
 ghost use Rattle.mq_machine.specs.Steps as steps;
 ghost use Rattle.mq_machine.specs.Steps.{is_nothing};
-ghost use Rattle.mq_addr.specs.declared.kind.Kind.TheVariants as kind;
-ghost use Rattle.mq_machine.specs.Lawful.{IsUdp, IsAsked};
+ghost use Rattle.mq_machine.specs.Lawful.{IsUdp};
 ghost use Rattle.mq_machine.specs.Want as machine_want;
 ghost use Rattle.mq_machine.specs.Want.{want_of, stream_want, tunnel_want};
-ghost use Rattle.mq_machine.specs.declared.act.StreamAct.TheVariants as asked;
+ghost use Rattle.mq_machine.specs.declared.act.StreamAct.TheVariants as asks;
 ghost use Rattle.mq_machine.specs.declared.act.Due.{Due};
 ghost use Rattle.mq_machine.specs.declared.act.Due.TheVariants.{Do};
 ghost use Rattle.mq_conn.specs.Conns.{IsConn, find_on, tunnel_is};
 ghost use Rattle.mq_conn.specs.Frames.{Gives};
-ghost use Rattle.mq_conn.specs.Wants.{IsWant};
+ghost use Rattle.mq_conn.specs.Wants.{GoesTo, WantIs, Wants, WantsOf};
 ghost use Rattle.mq_talk.specs.declared.note.Why.{Why};
 
 use crate::conn::{Conn, First, Tunnel, gives_up};
 use crate::want::Want;
+use mq_addr::{Asked, Range};
 use mq_machine::{Act, Due, StreamAct};
-use mq_talk::{Call, End, Goal};
-use mq_wire::NoMemory;
+use mq_talk::{Call, End, Goal, Place};
+use mq_wire::{NoMemory, Seq};
+use std::alloc::Global;
 
 /// Bytes owed above which nothing is read or framed.
 const MOST_OWED: usize = 65_535;
+
+/// The most control values that may wait in a tunnel.
+const MOST_VALUES: usize = 16;
 
 impl Conn {
     /// The bytes that are owed to the link.
@@ -84,20 +89,20 @@ impl Conn {
         self.can_go_on() && !self.finished
     }
 
-    /// What it wants next. With tunnels for UDP that takes no memory, so that it is never refused.
+    /// What it wants next. That takes memory where the book is asked for addresses or ways alone, since their list is handed
+    /// over.
     pub fn next(&self) -> Result<Want, NoMemory>
-        ensures wants { IfOk result (λ w. (s : machine.Conn) → IsConn self.now s → IsWant w (want_of s)) }
-        ensures granted { is_ok result ≡ true }
+        ensures { Wants self.now result }
     {
         match self.ending {
             Some(why) => Ok(self.want_ending(why)),
-            None => Ok(self.want_due()),
+            None => self.want_due(),
         }
     }
 
     /// An ending connection closes its tunnels, and is then over once nothing is owed.
     fn want_ending(&self, why: End) -> Want
-        ensures { (s : machine.Conn) → IsConn self.now s → self.now.ending ≡ Some why → IsWant result (want_of s) }
+        ensures { (s : machine.Conn) → IsConn self.now s → self.now.ending ≡ Some why → WantIs self.now.pump result (want_of s) }
     {
         match self.tunnels.first() {
             Some(tunnel) => Want::Ask(Call::Close { tunnel: tunnel.id }),
@@ -113,14 +118,14 @@ impl Conn {
         }
     }
 
-    fn want_due(&self) -> Want
-        ensures { (s : machine.Conn) → IsConn self.now s → self.now.ending ≡ None → IsWant result (want_of s) }
+    fn want_due(&self) -> Result<Want, NoMemory>
+        ensures { self.now.ending ≡ None → Wants self.now result }
     {
         if let Some(first) = &self.first {
-            return self.want_first(first);
+            return Ok(self.want_first(first));
         }
         match self.due.first() {
-            None => Want::Nothing,
+            None => Ok(Want::Nothing),
             Some(due) => self.want_of_due(due),
         }
     }
@@ -138,17 +143,18 @@ impl Conn {
     }
 
     fn want_first(&self, first: &First) -> Want
-        ensures { (s : machine.Conn) → IsConn self.now s → self.now.ending ≡ None → self.now.first ≡ Some first.now → IsWant result (want_of s) }
+        ensures { self.now.ending ≡ None → self.now.first ≡ Some first.now → (s : machine.Conn) → IsConn self.now s → WantIs self.now.pump result (want_of s) }
     {
         match first {
-            First::Open { stream, goal, .. } => self.want_open(*stream, *goal),
+            First::Open { stream, goal } => self.want_open(*stream, *goal),
             First::Close { stream, .. } => self.want_close(*stream),
+            First::Push { stream, to, .. } => self.want_push(*stream, *to),
         }
     }
 
     /// The close of a stream's live tunnel.
     fn want_close(&self, stream: u32) -> Want
-        ensures { (why : Why) → IsWant result (tunnel_want (find_on self.now stream) (asked.Close why)) }
+        ensures { (why : Why) → WantIs self.now.pump result (tunnel_want (find_on self.now stream) (asks.Close why)) }
     {
         match self.on(stream) {
             None => Want::Nothing,
@@ -156,55 +162,108 @@ impl Conn {
         }
     }
 
-    fn want_of_due(&self, due: &Due) -> Want
-        ensures { (s : machine.Conn) → IsConn self.now s → self.now.ending ≡ None → self.now.first ≡ None → (rest : List Due) → self.now.due ≡ due.now ∷ rest → IsWant result (want_of s) }
+    /// The inbox to which a packet for this place goes.
+    fn inbox_of(&self, to: Place) -> u32
+        ensures { GoesTo self.now.pump result to }
     {
-        match due {
-            Due::Do(act) => self.want_of_act(act),
-            _ => Want::Nothing,
+        match to {
+            Place::Tunnel { actor, .. } => actor,
+            Place::Net => self.pump,
         }
     }
 
-    fn want_of_act(&self, act: &Act) -> Want
-        ensures { (s : machine.Conn) → IsConn self.now s → self.now.ending ≡ None → self.now.first ≡ None → (rest : List Due) → self.now.due ≡ Do act.now ∷ rest → IsWant result (want_of s) }
+    /// The push of a packet of a stream's live tunnel.
+    fn want_push(&self, stream: u32, to: Place) -> Want
+        ensures { (n : ℕ) (packet : List ℕ) → WantIs self.now.pump result (tunnel_want (find_on self.now stream) (asks.Push n to packet)) }
+    {
+        match self.on(stream) {
+            None => Want::Nothing,
+            Some(_) => Want::Push {
+                to: self.inbox_of(to),
+            },
+        }
+    }
+
+    fn want_of_due(&self, due: &Due) -> Result<Want, NoMemory>
+        ensures { self.now.ending ≡ None → self.now.first ≡ None → (rest : List Due) → self.now.due ≡ due.now ∷ rest → Wants self.now result }
+    {
+        match due {
+            Due::Do(act) => self.want_of_act(act),
+            _ => Ok(Want::Nothing),
+        }
+    }
+
+    fn want_of_act(&self, act: &Act) -> Result<Want, NoMemory>
+        ensures { self.now.ending ≡ None → self.now.first ≡ None → (rest : List Due) → self.now.due ≡ Do act.now ∷ rest → Wants self.now result }
     {
         match act {
-            Act::Bind { goal, .. } => want_bind(*goal),
-            Act::Open { stream, goal } => self.want_open(*stream, *goal),
-            Act::Refuse { .. } | Act::Reset { .. } => Want::Say,
+            Act::Bind { goal, .. } => Ok(want_bind(*goal)),
+            Act::Open { stream, goal } => Ok(self.want_open(*stream, *goal)),
+            Act::Refuse { .. } | Act::Reset { .. } => Ok(Want::Say),
             Act::OfStream { stream, act } => self.want_of_stream(*stream, act),
         }
     }
 
     /// What is asked of a stream's live tunnel.
-    fn want_of_stream(&self, stream: u32, act: &StreamAct) -> Want
-        ensures { IsAsked kind.Udp act.now → IsWant result (tunnel_want (find_on self.now stream) act.now) }
+    fn want_of_stream(&self, stream: u32, act: &StreamAct) -> Result<Want, NoMemory>
+        ensures { MayAct act.now → WantsOf self.now.pump (tunnel_want (find_on self.now stream) act.now) result }
     {
         match self.on(stream) {
-            None => Want::Nothing,
-            Some(tunnel) => want_of(tunnel, act),
+            None => Ok(Want::Nothing),
+            Some(tunnel) => want_of(self.alloc, tunnel, act),
         }
     }
 }
 
-/// What is asked of this tunnel.
-fn want_of(tunnel: &Tunnel, act: &StreamAct) -> Want
-    ensures { IsAsked kind.Udp act.now → IsWant result (stream_want (tunnel_is tunnel.now) act.now) }
+/// What is asked of this tunnel: a push isn't, since it comes of a verdict alone and stands in front.
+fn want_of(alloc: Global, tunnel: &Tunnel, act: &StreamAct) -> Result<Want, NoMemory>
+    ensures { (pump : ℕ) → MayAct act.now → WantsOf pump (stream_want (tunnel_is tunnel.now) act.now) result }
 {
+    let id = tunnel.id;
     match act {
-        StreamAct::Payload { n, .. } => Want::SendUdp {
-            tunnel: tunnel.id,
+        StreamAct::Payload { n, .. } => Ok(Want::SendUdp { tunnel: id, n: *n }),
+        StreamAct::Packet { n, flow, .. } => Ok(Want::Judge {
+            tunnel: id,
             n: *n,
-        },
-        StreamAct::Drop { .. } => Want::Say,
-        StreamAct::Close { .. } => Want::Ask(Call::Close { tunnel: tunnel.id }),
-        _ => Want::Nothing,
+            flow: *flow,
+        }),
+        StreamAct::Push { .. } => Ok(Want::Nothing),
+        StreamAct::Drop { .. } => Ok(Want::Say),
+        StreamAct::Assign { asked } => want_assign(alloc, tunnel, asked.as_slice()),
+        StreamAct::Advertise { ranges } => want_advertise(alloc, id, ranges.as_slice()),
+        StreamAct::Close { .. } => Ok(Want::Ask(Call::Close { tunnel: id })),
     }
+}
+
+/// The book is asked for these addresses. Where too many control values wait, the tunnel is to close instead.
+fn want_assign(alloc: Global, tunnel: &Tunnel, asked: &[Asked]) -> Result<Want, NoMemory>
+    ensures { (pump : ℕ) → MayAssign asked.now → WantsOf pump (stream_want (tunnel_is tunnel.now) (asks.Assign asked.now)) result }
+{
+    let id = tunnel.id;
+    if tunnel.waiting.values() >= MOST_VALUES {
+        return Ok(Want::Ask(Call::Close { tunnel: id }));
+    }
+    let list = Vec::from_slice(alloc, asked)?;
+    Ok(Want::Ask(Call::Assign {
+        tunnel: id,
+        asked: Seq::from_vec(list),
+    }))
+}
+
+/// The book is asked whether a tunnel may lead to these ranges.
+fn want_advertise(alloc: Global, tunnel: u32, ranges: &[Range]) -> Result<Want, NoMemory>
+    ensures { (pump : ℕ) → MayAdvertise ranges.now → WantsOf pump (machine_want.Ask (Call.Advertise tunnel ranges.now)) result }
+{
+    let list = Vec::from_slice(alloc, ranges)?;
+    Ok(Want::Ask(Call::Advertise {
+        tunnel,
+        ranges: Seq::from_vec(list),
+    }))
 }
 
 /// A UDP port towards a goal.
 fn want_bind(goal: Goal) -> Want
-    ensures { IsUdp goal → (id : ℕ) → IsWant result (machine_want.Bind id goal) }
+    ensures { IsUdp goal → (pump id : ℕ) → WantIs pump result (machine_want.Bind id goal) }
 {
     match goal {
         Goal::Udp { addr, port } => Want::Bind { addr, port },

@@ -1,5 +1,7 @@
 //! A connection between a client and an outside that answers as it is told. What it does is written as the lines of a replay.
 
+ghost use Rattle.mq_iptun.specs.Answers.{CanTell};
+
 mod cuts;
 mod ends;
 mod limits;
@@ -125,7 +127,9 @@ pub fn line(alloc: Global, note: &Note) -> Result<String, Fail> {
 }
 
 /// The book opens a tunnel under number 0.
-fn opened(alloc: Global) -> Reply {
+fn opened(alloc: Global) -> Reply
+    ensures { CanTell result }
+{
     Reply::Opened {
         tunnel: 0,
         routes: Seq::from_vec(Vec::new(alloc)),
@@ -133,7 +137,9 @@ fn opened(alloc: Global) -> Reply {
 }
 
 /// What the book answers.
-fn reply(alloc: Global, outside: Outside, call: &Call) -> Reply {
+fn reply(alloc: Global, outside: Outside, call: &Call) -> Reply
+    ensures { CanTell result }
+{
     match call {
         Call::Open { .. } if outside.opens => opened(alloc),
         Call::Open { .. } => Reply::HistoryFull {

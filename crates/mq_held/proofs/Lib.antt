@@ -4,3 +4,4 @@ pub mod Sending
 pub mod Receiving
 pub mod Fronts
 pub mod Seating
+mod Telling

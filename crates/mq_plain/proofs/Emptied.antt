@@ -253,14 +253,17 @@ fine_replaced t number (Some g) (h ∷ hs) apart fine = here (h.conn.number == n
   here true rest = (fine g refl, conns_fine t hs apart.1)
   here false rest = (apart_fine t h.ports apart.0, rest)
 
--- the connection of a number is one of them
-pub apart_found : (t number : ℕ) (hs : List Held) (h : Held) → ConnsApart t hs → find (λ (g : Held). g.conn.number == number) hs ≡ Some h → PortsApart t h.ports
-apart_found t number [] h apart is = absurd cc
-apart_found t number (g ∷ hs) h apart is = here (g.conn.number == number) is (λ later. apart_found t number hs h apart.1 later) where
-  here : (b : Bool) → cond b (Some g) (find (λ (x : Held). x.conn.number == number) hs) ≡ Some h
-      → (find (λ (x : Held). x.conn.number == number) hs ≡ Some h → PortsApart t h.ports) → PortsApart t h.ports
+-- a connection that is found is one of them
+pub apart_any : (t : ℕ) (test : Held → Bool) (hs : List Held) (h : Held) → ConnsApart t hs → find test hs ≡ Some h → PortsApart t h.ports
+apart_any t test [] h apart is = absurd cc
+apart_any t test (g ∷ hs) h apart is = here (test g) is (λ later. apart_any t test hs h apart.1 later) where
+  here : (b : Bool) → cond b (Some g) (find test hs) ≡ Some h → (find test hs ≡ Some h → PortsApart t h.ports) → PortsApart t h.ports
   here true same later = let e : g ≡ h = cc in let P : Held → Type 0 = λ x. PortsApart t x.ports in subst P e apart.0
   here false same later = later same
+
+-- that of a number, too
+pub apart_found : (t number : ℕ) (hs : List Held) (h : Held) → ConnsApart t hs → find (λ (g : Held). g.conn.number == number) hs ≡ Some h → PortsApart t h.ports
+apart_found t number hs h apart is = apart_any t (λ (g : Held). g.conn.number == number) hs h apart is
 
 conns_clear : (t : ℕ) (hs : List Held) → ConnsFine t hs → map (with_ports t (holding empty_port)) hs ≡ hs
 conns_clear t [] fine = refl

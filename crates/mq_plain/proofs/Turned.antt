@@ -1,5 +1,5 @@
 -- Behind each turn of a worker the port of the next number holds nothing, once what it was prepared to hold is gone.
-use Rattle.std.proofs.Common.{◌≡◌, ◌≢◌, inl, inr, ℕ, zero, suc, Bool, true, false, List, [], ◌∷◌, ◌++◌, length, All, Contains, slice_get, Option, Some, None, refl, sym, ap, subst, ◌∙◌, arith}
+use Rattle.std.proofs.Common.{◌≡◌, ◌≢◌, inl, inr, ℕ, zero, suc, Bool, true, false, List, [], ◌∷◌, ◌++◌, length, Contains, slice_get, Option, Some, None, refl, sym, ap, subst, ◌∙◌, arith}
 use Rattle.std.specs.Prelude.{⊤}
 use Rattle.std.proofs.lemmas.List.{append-nil}
 use Rattle.std.proofs.lemmas.List.Elements.{All-contains_itself}
@@ -22,21 +22,20 @@ use Rattle.mq_machine.specs.State.{Tunnel, Port, Held, Offer, Worker, Shared}
 use Rattle.mq_machine.specs.Want.{Want, Nothing, Say, Bind, Ask, Judge, Push, Send, Over, Answer, Said, Bound, Replied, Judged, Pushed, Put, want_of}
 use Rattle.mq_machine.specs.Shared.{Answers, Asks, asked_by, port_of}
 use Rattle.mq_machine.specs.Silent.{Reached, WorkerStarves, SeatStarves}
-use Rattle.mq_machine.specs.Turn.{Try, Act, Frame, Write, Read, Receive, ActNext, TryNext, WriteNext, ReadNext, PortNext, ReceiveNext, Seat, Offers, Inbox, Of, SeatNext, WorkerTurn, accepted, popped}
+use Rattle.mq_machine.specs.Turn.{Try, Act, Frame, Write, Read, Receive, ActNext, TryNext, WriteNext, ReadNext, PortNext, ReceiveNext, Seat, Offers, Inbox, Of, SeatNext, WorkerTurn, accepted, came_to, has_tunnel, popped, replace, tunnel_in}
 use Rattle.mq_machine.specs.Acting.{Outside, Known, IsOpen, holding, with_prepared}
 use Rattle.mq_actor.specs.declared.ring.Ring.{Ring}
 use Rattle.mq_actor.specs.Holds.{IsWorker}
 use Rattle.mq_actor.specs.Steps.{sight}
 use Rattle.mq_actor.proofs.Between.{apart_of}
 use Rattle.mq_actor.proofs.Books.{open_within}
-use Rattle.mq_step.proofs.Cores.{udp_tunnels}
 use Rattle.mq_actor.proofs.Helds.{at_held}
-use Rattle.mq_actor.proofs.InRing.{at_all, all_at}
+use Rattle.mq_actor.proofs.InRing.{at_all}
 use Rattle.mq_actor.proofs.Lists.{found_at}
-use Rattle.mq_actor.proofs.Others.{AreForUdp, none_for_ip, popped_none}
+use Rattle.mq_actor.proofs.Parcels.{came_ports, found_with, popped_found, popped_none}
 use Rattle.mq_step.specs.Holds.{AreServed, tunnels_of, numbers_of}
 use Rattle.mq_play.specs.Events.{with_held_ports}
-use Rattle.mq_plain.proofs.Emptied.{PortsApart, PortsFine, ConnsApart, ConnsFine, AreOpened, conns_fine, fine_pushed, fine_replaced, apart_found, apart_fine, try_fine, worker_clear, prepared_emptied}
+use Rattle.mq_plain.proofs.Emptied.{PortsApart, PortsFine, ConnsApart, ConnsFine, AreOpened, conns_fine, fine_pushed, fine_replaced, apart_any, apart_found, apart_fine, try_fine, worker_clear, prepared_emptied}
 
 -- ---- a seat
 
@@ -50,18 +49,30 @@ offers_fine t old new (f ∷ fs) said apart is =
     let P : List Held → Type 0 = λ hs. ConnsFine t hs in
     subst P (ap conns_or is) (fine_pushed t old.conns _ apart tt)
 
-inbox_fine : (t : ℕ) (old new : Worker) (parcel : Parcel) (said : Note) → ConnsApart t old.conns → All AreForUdp old.conns → popped old parcel ≡ (said, new) → ConnsFine t new.conns
-inbox_fine t old new parcel said apart udp is =
-    let none = popped_none old parcel (none_for_ip old parcel.to udp) in
-    let P : List Held → Type 0 = λ hs. ConnsFine t hs in
-    let same : old.conns ≡ new.conns = ap (λ (d : Note × Worker). d.1.conns) (sym none ∙ is) in
-    subst P same (conns_fine t old.conns apart)
+-- a packet that came through the inbox leaves the ports of the connection that it came to
+inbox_fine : (t : ℕ) (old new : Worker) (parcel : Parcel) (said : Note) → ConnsApart t old.conns → popped old parcel ≡ (said, new) → ConnsFine t new.conns
+inbox_fine t old new parcel said apart is = by_found (tunnel_in old parcel.to) refl where
+  P : List Held → Type 0
+  P hs = ConnsFine t hs
 
-pub seat_fine : (t : ℕ) (old : Worker) (sh : Shared) (seat : Seat) (answer : Answer) (said : Note) (new : Worker) (after : Shared) → ConnsApart t old.conns → All AreForUdp old.conns
+  by_found : (found : Option (Held × Tunnel)) → tunnel_in old parcel.to ≡ found → P new.conns
+  by_found None none =
+      let same : old.conns ≡ new.conns = ap (λ (d : Note × Worker). d.1.conns) (sym (popped_none old parcel none) ∙ is) in
+      subst P same (conns_fine t old.conns apart)
+  by_found (Some (h, u)) found =
+      let g : Held = (came_to h u parcel).1 in
+      let there = found_with old parcel.to h u found in
+      let fine : PortsFine t h.ports = apart_fine t h.ports (apart_any t (has_tunnel there.0) old.conns h apart there.1) in
+      let same : replace h.conn.number (Some g) old.conns ≡ new.conns = ap (λ (d : Note × Worker). d.1.conns) (sym (popped_found old parcel h u found) ∙ is) in
+      let F : List Port → Type 0 = λ ports. PortsFine t ports in
+      let G : Held → Type 0 = λ x. PortsFine t x.ports in
+      subst P same (fine_replaced t h.conn.number (Some g) old.conns apart (λ x some. let e : g ≡ x = cc in subst G e (subst F (sym (came_ports h u parcel)) fine)))
+
+pub seat_fine : (t : ℕ) (old : Worker) (sh : Shared) (seat : Seat) (answer : Answer) (said : Note) (new : Worker) (after : Shared) → ConnsApart t old.conns
     → SeatNext old sh seat answer said new after → ConnsFine t new.conns
-seat_fine t old sh Offers answer said new after apart udp next = offers_fine t old new old.offered said apart next.1
-seat_fine t old sh Inbox answer said new after apart udp next = inbox_fine t old new next.1.parcel said apart udp next.1.is
-seat_fine t old sh (Of conn) answer said new after apart udp next =
+seat_fine t old sh Offers answer said new after apart next = offers_fine t old new old.offered said apart next.1
+seat_fine t old sh Inbox answer said new after apart next = inbox_fine t old new next.1.parcel said apart next.1.is
+seat_fine t old sh (Of conn) answer said new after apart next =
     let P : Worker → Type 0 = λ w. ConnsFine t w.conns in
     subst P (sym next.new_is) (fine_replaced t conn next.became old.conns apart (λ g is. by_one g is)) where
       by_one : (g : Held) → next.became ≡ Some g → PortsFine t g.ports
@@ -210,10 +221,6 @@ module _ {L Q : Type 0} (most : Q → ℕ) (table : Slab Q) (r : Ring L) (w : Wo
       let one : live.entry ≡ e = cc in
       ne (ap (λ (x : Entry). x.actor) (sym one) ∙ live.by))
 
-  -- and those are for UDP
-  pub all_for_udp : All AreForUdp w.conns
-  all_for_udp = all_at AreForUdp w.conns (λ i h at. let found = at_held most table r.conns.items w.conns i h is.conns at in udp_tunnels found.0.conn h.conn found.2.conn)
-
   -- ---- behind it
 
   pub turn_emptied : (o n : Outside) (seen : Seen) (boxes : Option Boxes) (box : List Parcel) (sh : Shared) (answer : Answer) (said : Note) (became : Worker) (after : Shared)
@@ -222,7 +229,7 @@ module _ {L Q : Type 0} (most : Q → ℕ) (table : Slab Q) (r : Ring L) (w : Wo
   turn_emptied o n seen boxes box sh answer said became after known book turn =
       let T : List Entry → Type 0 = λ es. AreOpened (length es) answer in
       prepared_emptied (length seen.entries) n answer became (subst T book (seat_opened w sh turn.seat answer said became after turn.next))
-      (seat_fine (length seen.entries) w sh turn.seat answer said became after (apart_before o seen boxes known) all_for_udp turn.next)
+      (seat_fine (length seen.entries) w sh turn.seat answer said became after (apart_before o seen boxes known) turn.next)
 
   pub still_emptied : (o : Outside) (seen : Seen) (boxes : Option Boxes) → Known (sight o seen boxes) w → with_held_ports (length seen.entries) (holding empty_port) w ≡ w
   still_emptied o seen boxes known = worker_clear (length seen.entries) w (conns_fine (length seen.entries) w.conns (apart_before o seen boxes known))

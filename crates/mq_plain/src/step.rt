@@ -2,7 +2,7 @@
 ghost use Rattle.std.specs.Prelude.{◌≡◌, ◌+◌, ℕ, List, length};
 ghost use Rattle.mq_outside.specs.Ports.{empty_port};
 ghost use Rattle.mq_talk.specs.Mails.{Boxes};
-ghost use Rattle.mq_talk.specs.Offices.{Seen};
+ghost use Rattle.mq_talk.specs.Offices.{IsSound, Seen};
 ghost use Rattle.mq_machine.specs.State as machine;
 ghost use Rattle.mq_machine.specs.Acting.{holding};
 ghost use Rattle.mq_mem.specs.Offices.{seen_of};
@@ -56,6 +56,7 @@ pub fn take(
     bind_fails: &mut bool,
 ) -> Result<Option<Note>, NoMemory>
     requires serves { (links : List machine.Told) × (w : machine.Worker) × Serves links (seen_of office.old) mail.old.boxes worker.old.ring.id worker.old w }
+    requires sound { IsSound (seen_of office.old) }
     requires office { office.old.actor ≡ worker.old.ring.id }
     requires mail { mail.old.actor ≡ worker.old.ring.id }
     requires inboxes { length mail.old.boxes ≡ office.old.book.config.workers + 1 }

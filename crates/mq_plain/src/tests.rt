@@ -3,7 +3,7 @@
 ghost use Rattle.std.specs.Prelude.{◌≡◌, ◌+◌, [], IfOk, List, length};
 ghost use Rattle.mq_addr.specs.declared.kind.Kind.TheVariants as kind;
 ghost use Rattle.mq_talk.specs.Mails.{Boxes};
-ghost use Rattle.mq_talk.specs.Offices.{Seen};
+ghost use Rattle.mq_talk.specs.Offices.{IsSound, Seen};
 ghost use Rattle.mq_machine.specs.State as machine;
 ghost use Rattle.mq_machine.specs.Acting.{Outside, Known};
 ghost use Rattle.mq_mem.specs.Offices.{seen_of};
@@ -71,6 +71,7 @@ fn office(alloc: Global, refused: u64) -> Result<RefusingOffice, NoMemory>
     ensures config { IfOk result (λ o. o.office.book.config.workers ≡ 1) }
     ensures empty { IfOk result (λ o. o.office.book.history ≡ []) }
     ensures actor { IfOk result (λ o. o.office.actor ≡ 0) }
+    ensures sound { IfOk result (λ o. IsSound (seen_of o.office)) }
 {
     let config = Config {
         pool: nothing(alloc),
@@ -112,6 +113,7 @@ fn steps<M: Mail>(
     mail: &mut M,
 ) -> Result<Vec<&'static str>, NoMemory>
     requires known { (o : Outside) × (w : machine.Worker) × IsWorker words.most worker.old.table.table worker.old.ring w × Known (sight o (seen_of office.old.office) (M.boxes mail.old)) w }
+    requires sound { IsSound (seen_of office.old.office) }
     requires office { office.old.office.actor ≡ worker.old.ring.id }
     requires mail { M.actor mail.old ≡ worker.old.ring.id }
     requires inboxes { M.count mail.old ≡ worker.old.ring.setup.pump + 1 }

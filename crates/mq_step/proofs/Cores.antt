@@ -23,9 +23,10 @@ use Rattle.mq_machine.specs.State.{Conn, Tunnel, owed, kind_of, tunnel_of, tunne
 use Rattle.mq_machine.specs.Want.{Want, Nothing, Say, Bind, Ask, Judge, Push, Send, Over, want_of, want_by, ending_want, over_want, due_want, tunnel_want, most_values}
 use Rattle.mq_machine.specs.Steps.{is_nothing, can_go_on, wrote}
 use Rattle.mq_machine.proofs.Lawful.Idle as lawful
-use Rattle.mq_machine.proofs.Lawful.Lists.{itself, or_false, unless_true, never, In, found_in, in_has}
+use Rattle.mq_machine.proofs.Lawful.Lists.{itself, unless_true, never, In, found_in, in_has}
 use Rattle.mq_machine.proofs.Settling.{settled_rests}
 use Rattle.mq_conn.specs.declared.conn.Conn.{Conn as Core}
+use Rattle.mq_conn.specs.Wants.{HandsOver}
 use Rattle.mq_conn.specs.Conns.{IsConn}
 use Rattle.mq_step.proofs.Keeping.{NoOpens, nothing_due, no_opens_nil, no_opens_cons}
 
@@ -104,6 +105,20 @@ IsUdpWant (Judge tunnel n flow) = ⊥
 IsUdpWant (Push parcel) = ⊥
 IsUdpWant (Send tunnel n payload) = Unit {0}
 IsUdpWant (Over why) = Unit {0}
+
+-- it hands no list over to the book
+pub hands_none : (w : Want) → IsUdpWant w → HandsOver w → ⊥
+hands_none Nothing udp hands = hands
+hands_none Say udp hands = hands
+hands_none (Bind id goal) udp hands = hands
+hands_none (Ask (call.Open conn id names goal)) udp hands = hands
+hands_none (Ask (call.Assign tunnel asked)) udp hands = udp
+hands_none (Ask (call.Advertise tunnel ranges)) udp hands = udp
+hands_none (Ask (call.Close tunnel)) udp hands = hands
+hands_none (Judge tunnel n flow) udp hands = hands
+hands_none (Push parcel) udp hands = hands
+hands_none (Send tunnel n payload) udp hands = hands
+hands_none (Over why) udp hands = hands
 
 over_udp : (why : End) (bytes : List ℕ) → IsUdpWant (over_want why bytes)
 over_udp why [] = tt

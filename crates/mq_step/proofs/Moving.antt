@@ -80,7 +80,7 @@ fallen_held most table old new s link held wait rest conn =
 pub moved_known : {L Q : Type 0} (most : Q → ℕ) (table : Slab Q) (old new : HeldBy L) (s : Held) (seen : Seen) (actor : ℕ) → IsHeld most table old s → IsKnown seen actor s → may_wait (want_of s.conn) ≡ true
     → new ≡ record old { conn = new.conn; link = new.link } → IsConn new.conn (failed s.conn) → (x : Held) × IsHeld most table new x × IsKnown seen actor x
 moved_known most table old new s seen actor held known wait rest conn =
-    (fallen s s.link, fallen_held most table old new s s.link held wait rest conn, record { worker = known.worker; actor_is = known.actor_is; tunnels = known.tunnels })
+    (fallen s s.link, fallen_held most table old new s s.link held wait rest conn, record { sound = known.sound; worker = known.worker; actor_is = known.actor_is; tunnels = known.tunnels })
 
 -- what the outside tells of it, once its link was asked in vain
 pub moved_sight : {L Q : Type 0} (link : L → Option Link) (past : L → LinkPast) (counts : L → LinkCounts) (holds : Q → Option PortHolds) (port_counts : Q → PortCounts) (binds : Binder) (table : Slab Q) (old new : HeldBy L)

@@ -1,5 +1,5 @@
 -- A receive failed, so that the tunnel of its port closed.
-use Rattle.std.proofs.Common.{◌≡◌, ◌≢◌, ◌⊎◌, inl, inr, ℕ, Bool, true, List, [], ◌∷◌, map, length, nat_lt, Option, Some, None, Result, Ok, Err, refl, sym, ap, subst, ◌∙◌}
+use Rattle.std.proofs.Common.{◌≡◌, ◌≢◌, ◌⊎◌, inl, inr, ℕ, Bool, true, List, [], ◌∷◌, length, nat_lt, Option, Some, None, Result, Ok, Err, refl, sym, ap, subst, ◌∙◌}
 use Rattle.std.specs.Prelude.{◌||◌}
 use Rattle.std.proofs.lemmas.List.Elements.{All-cons, All-nil}
 use Rattle.std.specs.Result.{IsErr}
@@ -64,7 +64,7 @@ fails_then : (holds : PortHolds) → holds.receive_fails ≡ true → may_give h
 fails_then holds fails = ap (λ (b : Bool). b || nat_lt 0 (length holds.arrived)) fails
 
 pub failing_known : (seen : Seen) (actor : ℕ) (s : Held) (t : Tunnel) → IsKnown seen actor s → IsKnown seen actor (failing s t)
-failing_known seen actor s t known = record { worker = known.worker; actor_is = known.actor_is; tunnels = known.tunnels }
+failing_known seen actor s t known = record { sound = known.sound; worker = known.worker; actor_is = known.actor_is; tunnels = known.tunnels }
 
 -- ---- an outside that tells nothing
 

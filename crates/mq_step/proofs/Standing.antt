@@ -7,7 +7,7 @@ use Rattle.mq_talk.specs.declared.book.Call.{Call}
 use Rattle.mq_talk.specs.declared.book.Call.TheVariants as call
 use Rattle.mq_talk.specs.declared.goal.Goal.{Goal}
 use Rattle.std.proofs.lemmas.List.Elements.{All-nil}
-use Rattle.mq_talk.specs.Offices.{Seen}
+use Rattle.mq_talk.specs.Offices.{IsSound, Seen}
 use Rattle.mq_machine.specs.Acting.{IsOpen}
 use Rattle.mq_machine.specs.State.{Conn, Tunnel, Held, new_conn, new_link}
 use Rattle.mq_machine.specs.Want.{Want, Nothing, Say, Bind, Ask, Judge, Push, Send, Over, want_of}
@@ -82,8 +82,9 @@ new_stands most table h number actor conn same seats bound =
     let A : List PortSeat → Type 0 = λ xs. ArePorts most table xs [] in
     stands most table h (record { conn = new_conn number actor; link = new_link; ports = [] }) conn (sym same) (subst A (sym seats) tt) (same_apart [] h.ports.items seats tt) refl no_opens_nil bound
 
-pub new_known : (seen : Seen) (actor number : ℕ) → actor < seen.config.workers → IsKnown seen actor (record { conn = new_conn number actor; link = new_link; ports = [] })
-new_known seen actor number worker = record {
+pub new_known : (seen : Seen) (actor number : ℕ) → IsSound seen → actor < seen.config.workers → IsKnown seen actor (record { conn = new_conn number actor; link = new_link; ports = [] })
+new_known seen actor number sound worker = record {
+  sound = sound;
   worker = worker;
   actor_is = refl;
   tunnels = All-nil (λ (t : Tunnel). IsOpen seen.entries actor t.id number t.stream t.goal);

@@ -6,7 +6,7 @@ use Rattle.mq_outside.specs.Ports.{limit_of}
 use Rattle.mq_talk.specs.declared.book.Call.TheVariants as call
 use Rattle.mq_talk.specs.declared.goal.Goal.TheVariants as goal
 use Rattle.mq_talk.specs.declared.note.End.{End}
-use Rattle.mq_talk.specs.Offices.{Seen}
+use Rattle.mq_talk.specs.Offices.{IsSound, Seen}
 use Rattle.mq_machine.specs.State.{Tunnel, Port, Held}
 use Rattle.mq_machine.specs.Want.{Want, Nothing, Say, Bind, Ask, Judge, Push, Send, Over, want_of}
 use Rattle.mq_machine.specs.Acting.{IsOpen}
@@ -91,8 +91,10 @@ pub record IsHeld {L Q : Type 0} (most : Q → ℕ) (table : Slab Q) (h : HeldBy
   pub bound : IsBound most table h.ports.items (want_of s.conn) h.bound
   pub room : HasRoom h
 
--- Its actor has a place in the book, and its tunnels are live by what the office has seen, as this actor opened them.
+-- Its office saw a legal history, its actor has a place in the book, and its tunnels are live by what was seen, as this actor
+-- opened them.
 pub record IsKnown (seen : Seen) (actor : ℕ) (s : Held) : Type 0 where
+  pub sound : IsSound seen
   pub worker : actor < seen.config.workers
   pub actor_is : s.conn.actor ≡ actor
   pub tunnels : All (λ (t : Tunnel). IsOpen seen.entries actor t.id s.conn.number t.stream t.goal) s.conn.tunnels

@@ -3,6 +3,7 @@ ghost use Rattle.std.specs.Prelude.{◌≡◌, ◌≢◌, ℕ, MatchOption, None
 ghost use Rattle.slab.specs.Slab.{Updates};
 ghost use Rattle.mq_talk.specs.declared.book.Call.TheVariants.{Close};
 ghost use Rattle.mq_talk.specs.declared.note.Note.{Note as Said};
+ghost use Rattle.mq_talk.specs.Offices.{IsSound};
 ghost use Rattle.mq_machine.specs.Acting.{Outside, binder};
 ghost use Rattle.mq_machine.specs.State as machine;
 ghost use Rattle.mq_machine.specs.Want.{want_of, Ask};
@@ -53,6 +54,7 @@ fn open<L, P: Ports, O: Office>(
     ensures ends { IfOk result (λ stepped. (said : Said) → stepped ≡ Stepped.Ended said → held.new.ports.items ≡ held.old.ports.items) }
     ensures calm { IfOk result (λ stepped. stepped ≡ Stepped.Quiet → (O.seen office.new ≡ O.seen office.old) × (binder P.holds P.faults table.new.ports ≡ binder P.holds P.faults table.old.ports)) }
     ensures actor { (O.seen office.new).actor ≡ (O.seen office.old).actor }
+    ensures sound { IsSound (O.seen office.old) → IsSound (O.seen office.new) }
     ensures others { KeepsOthers held.old held.new table.old.table table.new.table }
     ensures balanced { IsBalanced P.P.place (P.past table.old.ports) table.old.table.slots → IsBalanced P.P.place (P.past table.new.ports) table.new.table.slots }
 {
@@ -90,6 +92,7 @@ fn close<L, P: Ports, O: Office>(
     ensures ends { IfOk result (λ stepped. (said : Said) → stepped ≡ Stepped.Ended said → held.new.ports.items ≡ held.old.ports.items) }
     ensures calm { IfOk result (λ stepped. stepped ≡ Stepped.Quiet → (O.seen office.new ≡ O.seen office.old) × (binder P.holds P.faults table.new.ports ≡ binder P.holds P.faults table.old.ports)) }
     ensures actor { (O.seen office.new).actor ≡ (O.seen office.old).actor }
+    ensures sound { IsSound (O.seen office.old) → IsSound (O.seen office.new) }
     ensures others { KeepsOthers held.old held.new table.old.table table.new.table }
     ensures balanced { IsBalanced P.P.place (P.past table.old.ports) table.old.table.slots → IsBalanced P.P.place (P.past table.new.ports) table.new.table.slots }
 {
@@ -120,6 +123,7 @@ pub fn ask<L, P: Ports, O: Office>(
     ensures ends { IfOk result (λ stepped. (said : Said) → stepped ≡ Stepped.Ended said → held.new.ports.items ≡ held.old.ports.items) }
     ensures calm { IfOk result (λ stepped. stepped ≡ Stepped.Quiet → (O.seen office.new ≡ O.seen office.old) × (binder P.holds P.faults table.new.ports ≡ binder P.holds P.faults table.old.ports)) }
     ensures actor { (O.seen office.new).actor ≡ (O.seen office.old).actor }
+    ensures sound { IsSound (O.seen office.old) → IsSound (O.seen office.new) }
     ensures others { KeepsOthers held.old held.new table.old.table table.new.table }
     ensures balanced { IsBalanced P.P.place (P.past table.old.ports) table.old.table.slots → IsBalanced P.P.place (P.past table.new.ports) table.new.table.slots }
 {

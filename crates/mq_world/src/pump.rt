@@ -34,7 +34,7 @@ impl Workers {
     }
 
     /// What the book has is legal, by a configuration that an operator may give.
-    fn is_sound(&self)
+    pub(crate) fn is_sound(&self)
         requires { (s : machine.State) × IsWorld self.now s }
         ensures { IsSound (seen_of self.now.office) }
     {

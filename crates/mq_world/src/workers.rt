@@ -249,6 +249,7 @@ impl Workers {
         requires number { number < length self.old.workers.items }
         ensures { (s : machine.State) → IsWorld self.old s → (t : machine.State) × IsWorld self.new t × ActorGives s (WorkerOf number) result t }
     {
+        self.is_sound();
         self.office.turn_to(number);
         self.mail.turn_to(number);
         let worker = &mut self.workers[number as usize];

@@ -16,6 +16,7 @@ loop-preserved g c =
     let id = sym c.step.ensures.ring.1 in
     record {
       known = (before.known.0, behind.0, behind.1, behind.2);
+      sound = c.step.ensures.sound before.sound;
       office = c.step.ensures.office ∙ before.office ∙ id;
       mail = c.step.ensures.mail ∙ before.mail ∙ id;
       inboxes = c.step.ensures.inboxes ∙ before.inboxes ∙ ap (λ (s : Setup). s.pump + 1) (sym c.step.ensures.ring.2);

@@ -1,4 +1,4 @@
-use Rattle.std.proofs.Common.{◌≡◌, ◌≢◌, ◌∙◌, ℕ, List, All, remove, None, MatchOption, sym, ap, subst}
+use Rattle.std.proofs.Common.{◌≡◌, ◌≢◌, ◌∙◌, ℕ, List, All, None, MatchOption, sym, ap, subst}
 use Rattle.slab.specs.Slab.{get}
 use Rattle.mq_machine.specs.Acting.{Binder, binder, handed_back}
 use Rattle.mq_talk.specs.declared.book.Call.TheVariants.{Close}
@@ -6,7 +6,7 @@ use Rattle.mq_machine.specs.Want.{Ask, want_of}
 use Rattle.mq_conn.specs.declared.conn.Conn.{Conn as Core}
 use Rattle.mq_conn.specs.Conns.{IsConn}
 use Rattle.mq_held.specs.declared.held.PortSeat.{PortSeat}
-use Rattle.mq_held.specs.Seats.{IsSeatOf, HasNoSeat}
+use Rattle.mq_held.specs.Seats.{IsSeatOf}
 use Rattle.mq_step.specs.Sights.{idle}
 use Rattle.mq_step.specs.Closing.{Retires}
 use Rattle.mq_step.proofs.Standing.{bound_none}
@@ -20,7 +20,10 @@ use Rattle.mq_step.proofs.ask.close.Goals as goal
 pub ask-requires : goal.ask-requires
 ask-requires g c =
     let k = c.requires.known in
-    may_call c.args.held.now.conn (g.O.Office.seen c.args.office.now) (g.O.Office.seen c.args.office.now).actor k.0 (Close c.args.tunnel) k.1.conn k.2 k.3
+    record {
+      sound = k.2.sound;
+      may = may_call c.args.held.now.conn (g.O.Office.seen c.args.office.now) (g.O.Office.seen c.args.office.now).actor k.0 (Close c.args.tunnel) k.1.conn k.2 k.3;
+    }
 
 pub returns-clause-gives : goal.returns-clause-gives
 returns-clause-gives g c = λ o n so sn s held want boxes orders.

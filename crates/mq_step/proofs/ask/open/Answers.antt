@@ -112,4 +112,4 @@ pub ask-requires : goal.ask-requires
 ask-requires g c =
     let k = c.requires.known in
     let seen = g.O.Office.seen c.args.office.now in
-    may_call c.args.held.now.conn seen seen.actor k.0 c.args.call k.1.conn k.2 k.3
+    record { sound = k.2.sound; may = may_call c.args.held.now.conn seen seen.actor k.0 c.args.call k.1.conn k.2 k.3 }

@@ -1,4 +1,4 @@
-use Rattle.std.proofs.Common.{rules, ◌≡◌, ℕ, ◌+◌, ◌<◌, ◌≤◌, suc, List, length, slice_get, Result, Ok, Err, refl, sym, ap, subst, ◌∙◌, arith}
+use Rattle.std.proofs.Common.{rules, ◌≡◌, ℕ, ◌+◌, suc, List, length, slice_get, Result, Ok, Err, refl, sym, ap, subst, ◌∙◌, arith}
 use Rattle.std.specs.Vec.{vec_len}
 use Rattle.mq_wire.specs.declared.NoMemory.{NoMemory}
 use Rattle.mq_talk.specs.Offices.{Seen}
@@ -26,6 +26,7 @@ loop-place-init g c = record {
   calm = (refl, refl);
   actor = refl;
   others = λ key port at other. (at, other);
+  sound = λ is. is;
   balanced = λ is. is;
   passed = passed_none g.P.P.Port.holds g.P.P.Port.past g.P.P.Port.counts c.args.table.now.table c.args.held.now.ports.items;
 }
@@ -113,6 +114,7 @@ returns-in_default g c = record {
   calm = λ is. absurd (c.in_default.not-Quiet is);
   actor = c.in_ok-stepped.ensures.actor ∙ c.loop-place.invariant.actor;
   others = keeps_both c.args.held.now c.loop-place.held c.receive_at.new.held c.args.table.now.table c.loop-place.table.table c.receive_at.new.table.table c.loop-place.invariant.others c.in_ok-stepped.ensures.others;
+  sound = λ is. c.in_ok-stepped.ensures.sound (c.loop-place.invariant.sound is);
   balanced = λ is. c.in_ok-stepped.ensures.balanced (c.loop-place.invariant.balanced is);
 } where
   same_ok : (a b : Stepped) → ◌≡◌ {A = Result Stepped NoMemory} (Ok a) (Ok b) → a ≡ b
@@ -145,6 +147,7 @@ loop-place-preserved g c =
       calm = (calm.0 ∙ i.calm.0, calm.1 ∙ i.calm.1);
       actor = e.actor ∙ i.actor;
       others = keeps_both c.args.held.now c.loop-place.held c.receive_at.new.held c.args.table.now.table c.loop-place.table.table c.receive_at.new.table.table c.loop-place.invariant.others e.others;
+      sound = λ is. e.sound (i.sound is);
       balanced = λ is. e.balanced (i.balanced is);
       passed = subst P next (passed_next holds past counts table c.loop-place.table.table c.receive_at.new.table.table c.loop-place.place old.ports.items seat.0 c.requires.known.1.apart seat.1
           (e.passed quiet seat.0 there) i.passed);

@@ -1,4 +1,5 @@
-use Rattle.std.proofs.Common.{◌≡◌, true}
+use Rattle.std.proofs.Common.{◌≡◌}
+use Rattle.mq_talk.specs.Offices.{IsSound}
 use Rattle.mq_machine.specs.Acting.{binder}
 use Rattle.mq_ports.specs.Tables.{IsBalanced}
 use Rattle.mq_step.specs.Rooms.{HasRooms}
@@ -18,6 +19,7 @@ invariant-loop-place g l = record {
   calm : (g.O.Office.seen l.office ≡ g.O.Office.seen l.fn.office) × (binder g.P.Ports.holds g.P.Ports.faults l.table.ports ≡ binder g.P.Ports.holds g.P.Ports.faults l.fn.table.ports);
   actor : (g.O.Office.seen l.office).actor ≡ (g.O.Office.seen l.fn.office).actor;
   others : KeepsOthers l.fn.held l.held l.fn.table.table l.table.table;
+  sound : IsSound (g.O.Office.seen l.fn.office) → IsSound (g.O.Office.seen l.office);
   balanced : IsBalanced g.P.P.Port.place (g.P.Ports.past l.fn.table.ports) l.fn.table.table.slots → IsBalanced g.P.P.Port.place (g.P.Ports.past l.table.ports) l.table.table.slots;
   passed : PassedTo g.P.P.Port.holds g.P.P.Port.past g.P.P.Port.counts l.fn.table.table l.table.table l.place l.fn.held.ports.items;
 }

@@ -1,7 +1,6 @@
-use Rattle.std.proofs.Common.{rules, ◌≡◌, ◌≤◌, ◌∙◌, List, length, Result, Ok, Err, sym, ap, subst}
+use Rattle.std.proofs.Common.{rules, ◌≡◌, ◌∙◌, Result, Ok, Err, sym, ap, subst}
 use Rattle.mq_wire.specs.declared.NoMemory.{NoMemory}
 use Rattle.mq_machine.specs.Turn.{tries_of}
-use Rattle.mq_held.specs.declared.held.PortSeat.{PortSeat}
 use Rattle.mq_machine.specs.Acting.{binder}
 use Rattle.mq_step.specs.declared.stepped.Stepped.{Stepped}
 use Rattle.mq_step.specs.declared.stepped.Stepped.TheVariants.{Quiet}
@@ -108,6 +107,7 @@ returns-in_default g c = record {
   apart = c.in_ok-stepped.ensures.apart;
   calm = λ is. absurd (c.in_default.not-Quiet is);
   actor = search rules;
+  sound = c.in_ok-stepped.ensures.sound;
   others = search rules;
   balanced = search rules;
 } where

@@ -11,6 +11,7 @@ loop-place-init g c = record {
   ports = c.requires.ports;
   rooms = c.requires.rooms;
   actor = refl;
+  sound = λ is. is;
   balanced = λ is. is;
 }
 
@@ -40,6 +41,7 @@ loop-place-preserved g c =
       ports = c.in_ok-did.ensures.ports;
       rooms = c.in_ok-did.ensures.rooms;
       actor = c.in_ok-did.ensures.actor ∙ i.actor;
+      sound = λ is. c.in_ok-did.ensures.sound (i.sound is);
       balanced = λ is. c.in_ok-did.ensures.balanced (i.balanced is);
     }
 

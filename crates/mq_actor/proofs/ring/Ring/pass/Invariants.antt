@@ -1,4 +1,5 @@
 use Rattle.std.proofs.Common.{◌≡◌, ◌<◌}
+use Rattle.mq_talk.specs.Offices.{IsSound}
 use Rattle.mq_machine.specs.Acting.{binder}
 use Rattle.mq_ports.specs.Tables.{IsBalanced}
 use Rattle.mq_step.specs.Rooms.{HasRooms}
@@ -18,6 +19,7 @@ invariant-loop-place g l = record {
   ports : HaveOwnPorts l.self.conns.items;
   rooms : HasRooms l.self.rooms;
   actor : (g.O.Office.seen l.office).actor ≡ (g.O.Office.seen l.fn.office).actor;
+  sound : IsSound (g.O.Office.seen l.fn.office) → IsSound (g.O.Office.seen l.office);
   balanced : IsBalanced g.P.P.Port.place (g.P.Ports.past l.fn.table.ports) l.fn.table.table.slots
       → IsBalanced g.P.P.Port.place (g.P.Ports.past l.table.ports) l.table.table.slots;
 }

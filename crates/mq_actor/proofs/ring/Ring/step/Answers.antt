@@ -59,7 +59,7 @@ pass-requires-clause-known g c =
     let first = subst A c.in_default.is c.in_ok-note.ensures.gives in
     let k = c.requires.known in
     let P : Ring g.row.L.Denot → Type 0 = λ z. AreKnown words (record { conns = z.conns.items; table = old.table; binds = old.binds; seen = old.seen }) in
-    subst P (sym (c.in_default-pop.ensures.gives.0 ∙ first.0)) (known_conns words self old refl boxes count c.requires.office c.requires.inboxes k.0 k.1 k.2 k.3)
+    subst P (sym (c.in_default-pop.ensures.gives.0 ∙ first.0)) (known_conns words self old refl boxes count c.requires.office c.requires.inboxes k.0 k.1 c.requires.sound k.2 k.3)
 
 pub pass-requires-clause-ports : goal.pass-requires-clause-ports
 pass-requires-clause-ports g c =
@@ -201,7 +201,7 @@ pass-requires-2-clause-known g c =
     let popped_later = subst (λ k. N k (g.M.Mail.actor c.args.mail.now)) c.in_default-pop.ensures.count (subst (λ i. N (g.M.Mail.count c.pop.new.mail) i) c.in_default-pop.ensures.actor c.in_default-pop-2.ensures.gives) in
     let k = c.requires.known in
     let P : Ring g.row.L.Denot → Type 0 = λ z. AreKnown words (record { conns = z.conns.items; table = mid.table; binds = mid.binds; seen = mid.seen }) in
-    subst P (sym (popped_later.0 ∙ second.0)) (known_later words self old refl boxes count c.requires.office c.requires.inboxes c.accept.new.self c.pop.new.self boxes_one (g.M.Mail.actor c.args.mail.now) c.requires.mail first popped c.pass.new.self mid refl upper ports rooms (known_conns words self old refl boxes count c.requires.office c.requires.inboxes k.0 k.1 k.2 k.3))
+    subst P (sym (popped_later.0 ∙ second.0)) (known_later words self old refl boxes count c.requires.office c.requires.inboxes c.accept.new.self c.pop.new.self boxes_one (g.M.Mail.actor c.args.mail.now) c.requires.mail first popped c.pass.new.self mid refl upper ports rooms (known_conns words self old refl boxes count c.requires.office c.requires.inboxes k.0 k.1 c.requires.sound k.2 k.3))
 
 pub pass-requires-2-clause-ports : goal.pass-requires-2-clause-ports
 pass-requires-2-clause-ports g c =

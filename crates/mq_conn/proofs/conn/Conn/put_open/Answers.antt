@@ -1,30 +1,54 @@
-use Rattle.std.proofs.Common.{◌++◌, ◌∷◌, [], ℕ, List, Some, sym, ap, subst, ◌∙◌}
-use Rattle.mq_addr.specs.declared.kind.Kind.{Kind}
-use Rattle.mq_front.specs.Fronts.{HasPut}
+use Rattle.std.proofs.Common.{ℕ, List, Option, Ok, sym, subst, ◌≡◌, arith}
 use Rattle.mq_talk.specs.declared.note.Note.TheVariants as note
-use Rattle.mq_machine.specs.Done.{success}
-use Rattle.mq_machine.specs.Putting.{putting}
-use Rattle.mq_machine.specs.State as machine
-use Rattle.mq_machine.specs.State.{owed}
-use Rattle.mq_conn.specs.declared.conn.Tunnel.{Tunnel}
-use Rattle.mq_conn.specs.Conns.{Stands}
-use Rattle.mq_conn.proofs.Standing.{number_is, opens_put, reads, udp_first}
+use Rattle.mq_machine.specs.Done.{first_waiting}
+use Rattle.mq_machine.specs.State.{kind_of}
+use Rattle.mq_conn.specs.declared.conn.Conn.{Conn}
+use Rattle.mq_conn.specs.Closing.{OpensOn}
+use Rattle.mq_conn.specs.Queues.{values_of}
+use Rattle.mq_conn.proofs.Opening.{Ready3, left_all, left_front, left_more, opens_err, opens_told, opens_untold}
 use Rattle.mq_conn.proofs.conn.Conn.put_open.Goals as goal
+use Rattle.mq_conn.proofs.conn.Conn.put_open.Goals.{in-Some+in_ok-wait_at, in_default}
+
+pub returns-in_err-grant : goal.returns-in_err-grant
+returns-in_err-grant c =
+    opens_err c.args.self.now c.place.new.self c.grant.new.self c.args.id c.args.opening c.args.routes.now c.from_residual-in_err-grant.result c.from_residual-in_err-grant.ensures.0 c.in_ok-place.ensures
+    (left_front c.place.new.self c.grant.new.self c.in_err-grant.ensures)
+
+pub returns-in_err-prepare : goal.returns-in_err-prepare
+returns-in_err-prepare c =
+    opens_err c.args.self.now c.place.new.self c.prepare.new.self c.args.id c.args.opening c.args.routes.now c.from_residual-in_err-prepare.result c.from_residual-in_err-prepare.ensures.0 c.in_ok-place.ensures
+    (left_more c.place.new.self c.grant.new.self c.prepare.new.self (left_front c.place.new.self c.grant.new.self c.in_ok-grant.ensures.is) c.in_err-prepare.ensures)
+
+pub returns-in_err-capsule : goal.returns-in_err-capsule
+returns-in_err-capsule c =
+    opens_err c.args.self.now c.place.new.self c.prepare.new.self c.args.id c.args.opening c.args.routes.now c.from_residual-in_err-capsule.result c.from_residual-in_err-capsule.ensures.0 c.in_ok-place.ensures
+    (left_more c.place.new.self c.grant.new.self c.prepare.new.self (left_front c.place.new.self c.grant.new.self c.in_ok-grant.ensures.is) c.in_ok-prepare.ensures.0)
+
+pub returns-in_err-wait_at : goal.returns-in_err-wait_at
+returns-in_err-wait_at c =
+    opens_err c.args.self.now c.place.new.self c.wait_at.new.self c.args.id c.args.opening c.args.routes.now c.from_residual-in_err-wait_at.result c.from_residual-in_err-wait_at.ensures.0 c.in_ok-place.ensures
+    (left_all c.place.new.self c.prepare.new.self c.wait_at.new.self
+    (left_more c.place.new.self c.grant.new.self c.prepare.new.self (left_front c.place.new.self c.grant.new.self c.in_ok-grant.ensures.is) c.in_ok-prepare.ensures.0) c.in_err-wait_at.ensures)
 
 pub returns : goal.returns
-returns c = λ s routes st none over empty udp.
+returns c = λ s st none over some room.
     let old = c.args.self.now in
     let o = c.args.opening in
-    let id = c.args.id in
-    let t : Tunnel = record { id = id; stream = o.stream; goal = o.goal; waiting = o.waiting } in
-    let f = c.in-Some.front in
-    let put = success s.front o.stream (machine.kind_of o.goal) in
-    let K : Kind → Type 0 = λ k. HasPut c.grant.new.self (success s.front o.stream k) s.streams (owed s) in
-    let has = subst K c.kind_of-kind.ensures (c.in_ok-grant.ensures s.front s.streams (owed s) (reads old s f c.in-Some.is st)) in
-    let stands = opens_put old s t f c.grant.new.self c.push.new.self none c.in-Some.is c.in_ok-push.ensures.items has st in
-    let P : List machine.Waiting → Type 0 = λ ws.
-    Stands (record old { front = Some c.grant.new.self; tunnels = c.push.new.self })
-    (putting (record s { tunnels = s.tunnels ++ record { id = id; stream = o.stream; goal = o.goal; waiting = ws } ∷ [] }) put) in (
-      ap (λ (n : ℕ). note.Opened id n o.stream c.kind_of-kind.result) (sym (number_is old s st)) ∙ ap (λ (k : Kind). note.Opened id s.number o.stream k) c.kind_of-kind.ensures,
-      subst P (empty ∙ sym (udp_first o.goal routes udp)) stands,
-    )
+    let kind = c.kind_of-kind.result in
+    let r : Ready3 old c.place.new.self c.grant.new.self c.prepare.new.self c.args.id o kind = record {
+      kind_is = c.kind_of-kind.ensures;
+      placed = c.in_ok-place.ensures;
+      grants = c.in_ok-grant.ensures;
+      keeps = c.in_ok-prepare.ensures.0;
+      room = c.in_ok-prepare.ensures.1;
+    } in
+    let told = c.in_ok-capsule.ensures in
+    let R : Conn → Type 0 = λ k. OpensOn old k c.args.id o c.args.routes.now (Ok (note.Opened c.args.id old.number o.stream kind)) in
+    elim c.match-branch-5.branch [
+      | in-Some+in_ok-wait_at w ↦ (let e = w.in_ok-wait_at.ensures in
+          let V : Option (List ℕ) → Type 0 = λ x. values_of x ≡ first_waiting kind c.args.routes.now in
+          subst R (sym w.self-is) (opens_told old c.place.new.self c.grant.new.self c.prepare.new.self w.wait_at.new.self c.args.id c.len-place.result o kind w.in-Some.capsule e.0 c.args.routes.now r
+          (let l = c.len-place.ensures in let k = old.tunnels.ok.0 in omega (arith, l, k)) (subst V w.in-Some.is told) e.1 e.2) s st none over some room)
+      | in_default w ↦ (let V : Option (List ℕ) → Type 0 = λ x. values_of x ≡ first_waiting kind c.args.routes.now in
+          subst R (sym w.self-is) (opens_untold old c.place.new.self c.grant.new.self c.prepare.new.self c.args.id o kind c.args.routes.now r (subst V w.in_default.is told)) s st none over some room)
+    ]

@@ -1,14 +1,12 @@
-use Rattle.std.proofs.Common.{Err, sym, subst}
-use Rattle.mq_talk.specs.declared.book.Reply.TheVariants as reply
+use Rattle.std.proofs.Common.{sym, subst}
 use Rattle.mq_talk.specs.declared.book.Reply.{Reply}
 use Rattle.mq_conn.specs.Conns.{Hears}
-use Rattle.mq_conn.proofs.Parcels.{no_reply}
 use Rattle.mq_conn.proofs.conn.Conn.try_answer.Goals as goal
 
 pub returns-in-Opened-clause-hears : goal.returns-in-Opened-clause-hears
 returns-in-Opened-clause-hears c =
     let P : Reply → Type 0 = λ r. Hears c.args.self.now c.open.new.self r c.open.result in
-    subst P (sym c.in-Opened.is) (c.open.ensures.hears c.in-Opened.routes)
+    subst P (sym c.in-Opened.is) c.open.ensures.hears
 
 pub returns-in-HistoryFull-clause-hears : goal.returns-in-HistoryFull-clause-hears
 returns-in-HistoryFull-clause-hears c =
@@ -17,10 +15,10 @@ returns-in-HistoryFull-clause-hears c =
 
 pub returns-in-Assigned-clause-hears : goal.returns-in-Assigned-clause-hears
 returns-in-Assigned-clause-hears c =
-    let P : Reply → Type 0 = λ r. Hears c.args.self.now c.args.self.now r (Err _) in
-    subst P (sym c.in-Assigned.is) (no_reply c.args.self.now c.args.self.now (reply.Assigned c.in-Assigned.list c.in-Assigned.at) _ tt)
+    let P : Reply → Type 0 = λ r. Hears c.args.self.now c.assigned.new.self r c.assigned.result in
+    subst P (sym c.in-Assigned.is) c.assigned.ensures.hears
 
-pub returns-clause-hears : goal.returns-clause-hears
-returns-clause-hears c =
-    let P : Reply → Type 0 = λ r. Hears c.args.self.now c.args.self.now r (Err _) in
-    subst P (sym c.in-Accepted.is) (no_reply c.args.self.now c.args.self.now (reply.Accepted c.in-Accepted.yes c.in-Accepted.at) _ tt)
+pub returns-in-Accepted-clause-hears : goal.returns-in-Accepted-clause-hears
+returns-in-Accepted-clause-hears c =
+    let P : Reply → Type 0 = λ r. Hears c.args.self.now c.accepted.new.self r c.accepted.result in
+    subst P (sym c.in-Accepted.is) c.accepted.ensures.hears

@@ -1,8 +1,10 @@
 use Rattle.std.proofs.Common.{ℕ, sym, ap, subst, ◌∙◌}
 use Rattle.mq_mem.specs.Mails.{Mail as MailOf}
 use Rattle.mq_mem.specs.Offices.{Office as OfficeOf, seen_of}
+use Rattle.mq_talk.specs.Offices.{IsSound}
 use Rattle.mq_plain.specs.Served.{Plain, Serves}
 use Rattle.mq_plain.specs.Taking.{Common}
+use Rattle.mq_world.proofs.Pumping.{sound_turned}
 use Rattle.mq_world.proofs.Stepping.{read_at, begins, turned_took, stepped}
 use Rattle.mq_world.proofs.workers.Workers.step.Goals as goal
 
@@ -39,3 +41,7 @@ returns c = λ s is.
     let took = turned_took c.args.self.now s is c.args.number c.requires.number c.turn_to.new.self c.turn_to-2.new.self new c.take.new.worker c.take.result f.0 c.turn_to.ensures c.turn_to-2.ensures
     (c.take.ensures.takes s.links c.args.number f.0 f.2) in
     stepped c.args.self.now s is c.args.number c.requires.number new c.take.new.worker c.take.result f.0 f.1 (f.2.stands.id ∙ f.2.id) took
+
+pub take-requires-clause-sound : goal.take-requires-clause-sound
+take-requires-clause-sound c =
+    subst (λ (o : OfficeOf). IsSound (seen_of o)) (sym c.turn_to.ensures) (sound_turned c.args.self.now.office c.args.number c.is_sound.ensures)
