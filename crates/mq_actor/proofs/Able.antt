@@ -1,5 +1,5 @@
 -- What can be found in a list, whether anything can; and what a port and a connection of the code could do.
-use Rattle.std.proofs.Common.{◌≡◌, inl, inr, ◌⊎◌, ℕ, zero, suc, ◌+◌, ◌<◌, ◌≤◌, ◌==◌, cond, Bool, true, false, not, ◌||◌, ◌&&◌}
+use Rattle.std.proofs.Common.{◌≡◌, inl, inr, ◌⊎◌, ℕ, zero, suc, ◌+◌, ◌<◌, ◌≤◌, cond, Bool, true, false, not, ◌||◌, ◌&&◌}
 use Rattle.std.proofs.Common.{List, [], ◌∷◌, map, drop, length, filter, find, nat_lt, nat_le, slice_get, Option, Some, None, is_some, refl, sym, ap, subst, ◌∙◌, arith}
 use Rattle.std.specs.Option.{option_and_then, option_or}
 use Rattle.std.proofs.lemmas.List.Folds.{find-append}
@@ -8,7 +8,7 @@ use Rattle.std.proofs.lemmas.List.{map-id}
 use Rattle.slab.specs.Slab.{Slab, get}
 use Rattle.mq_outside.specs.Ports.{PortHolds}
 use Rattle.mq_talk.specs.declared.place.Parcel.{Parcel}
-use Rattle.mq_machine.specs.State.{Tunnel, Port, Offer, Held, Worker, tunnel_of}
+use Rattle.mq_machine.specs.State.{Port, Offer, Held, Worker}
 use Rattle.mq_machine.specs.Acting.{holds_of}
 use Rattle.mq_machine.specs.Shared.{port_of}
 use Rattle.mq_machine.specs.Turn.{Act, Frame, Write, Read, Receive, can_try, try_of, Seat, Offers, Inbox, Of, place_of, seats_of, can_act, ring_from, turn_of, send_waits, most_live}

@@ -5,25 +5,25 @@ use Rattle.std.proofs.lemmas.Bool.{cases_eq}
 use Rattle.std.proofs.lemmas.List.{map-set, length-map}
 use Rattle.std.proofs.lemmas.List.Elements.{All-contains}
 use Rattle.slab.specs.Slab.{Slab}
-use Rattle.mq_addr.specs.declared.kind.Kind.TheVariants as kind
+use Rattle.mq_talk.specs.declared.book.Config.{Config}
 use Rattle.mq_talk.specs.declared.book.Entry.{Entry}
 use Rattle.mq_talk.specs.declared.note.Note.{Note}
 use Rattle.mq_talk.specs.declared.place.Parcel.{Parcel}
+use Rattle.mq_talk.specs.Answers.{IsLegal}
 use Rattle.mq_talk.specs.Mails.{Boxes, IsTold}
-use Rattle.mq_talk.specs.Offices.{Seen}
-use Rattle.mq_machine.specs.declared.setup.Setup.{Setup}
+use Rattle.mq_machine.specs.Placing.{ArePlaced}
 use Rattle.mq_machine.specs.State.{Conn, Held, Offer, Worker, Tunnel, Orders, Shared}
 use Rattle.mq_machine.specs.Steps.{starved}
 use Rattle.mq_machine.specs.Want.{Answer}
 use Rattle.mq_machine.specs.Turn.{Of, Try, try_of, can_act, seats_of, turn_of, replace, with_held, TryNext}
-use Rattle.mq_machine.specs.Acting.{Outside, HasTold, Known, Meets, OffersTold, WasInbox, StepDone, StepSilent, FaultsFit as worker_fits, BindFits, with_prepared as worker_prepared, Writes}
+use Rattle.mq_machine.specs.Acting.{Outside, HasTold, Known, OffersTold, Shares, WasInbox, StepDone, StepSilent, FaultsFit as worker_fits, BindFits, with_prepared as worker_prepared, Writes}
 use Rattle.mq_conn.specs.Conns.{IsConn}
 use Rattle.mq_held.specs.declared.held.Held.{Held as HeldBy}
 use Rattle.mq_step.specs.Holds.{IsHeld, KeepsOthers}
 use Rattle.mq_step.specs.Rooms.{HasRooms}
 use Rattle.mq_step.specs.Sights.{Found}
 use Rattle.mq_step.specs.Whole.{filled, FaultsFit as HeldFits}
-use Rattle.mq_step.specs.Wanted.{Shares, with_prepared}
+use Rattle.mq_step.specs.Wanted.{with_prepared}
 use Rattle.mq_step.specs.Gives.{Turned, Starved, StandsAsTold, Anything}
 use Rattle.mq_machine.specs.Turn.{tries_of}
 use Rattle.mq_actor.specs.declared.offer.Offer.{Offer as OfferBy}
@@ -42,10 +42,11 @@ use Rattle.mq_actor.proofs.Lefts.{AllFine, all_fine, numbers_set, numbers_remove
 use Rattle.mq_actor.proofs.Lists.{map_remove, map_get, seat_at, found_at, replace_sets, replace_removes, apart_map, get_map}
 use Rattle.mq_actor.proofs.Neighbours.{Harmless, Fine, fine_still, Here, other, others_fine, as_many}
 use Rattle.mq_actor.proofs.Opened.{sees_longer, goes_longer}
+use Rattle.mq_actor.proofs.Placing.{IsFit, try_placed}
 use Rattle.mq_actor.proofs.Pointwise.{PointwiseBut, pointwise_set, pointwise_removed, there, within}
 use Rattle.mq_actor.proofs.Refilled.{found_here, refilled, reoffered, refill, refills, held_prepared, prepared_core, prepared_link, prepared_worker, told_prepared, faults_refilled, offers_told}
 use Rattle.mq_actor.proofs.SoFar.{SoFar, Covers, Vain}
-use Rattle.mq_actor.proofs.Tunnels.{known_goes}
+use Rattle.mq_actor.proofs.Tunnels.{IsNext, known_goes}
 use Rattle.mq_actor.proofs.Writing.{writes_goes}
 use Rattle.mq_actor.proofs.Turning.{FoundAt, turn_is, before_waited, conn_can, held_is}
 
@@ -70,10 +71,6 @@ was_inbox : (boxes : Option Boxes) (kept : Boxes) (id : ℕ) (box : List Parcel)
 was_inbox None kept id box told at = tt
 was_inbox (Some bs) kept id box told at = let e : kept ≡ bs = told in ap (λ (x : Boxes). slice_get x id) (sym e) ∙ at
 
-box_count : (boxes : Option Boxes) (kept bs : Boxes) → IsTold boxes kept → boxes ≡ Some bs → kept ≡ bs
-box_count None kept bs told e = absurd cc
-box_count (Some told_are) kept bs told e = let same : told_are ≡ bs = cc in told ∙ same
-
 -- the change of ports that were prepared is harmless
 pub prepared_harmless : (L : Type 0) {Q : Type 0} (most : Q → ℕ) (table : Slab Q) (n : Outside) (answer : Answer) → Harmless L most table n (with_prepared n answer)
 prepared_harmless L most table n answer = record {
@@ -83,16 +80,16 @@ prepared_harmless L most table n answer = record {
   told = told_prepared n answer;
 }
 
-module _ {L Q : Type 0} (words : Words L Q) (r m : Ring L) (old mid new : Moment L Q) (boxes boxes_now : Option Boxes) (count : ℕ)
-    (tried : Tried) (offers_tried inbox_tried : Type 0) (so : SoFar words r m old mid boxes boxes_now count tried offers_tried inbox_tried)
+module _ {L Q : Type 0} (words : Words L Q) (r m : Ring L) (old mid new : Moment L Q) (count : ℕ)
+    (tried : Tried) (offers_tried inbox_tried : Type 0) (so : SoFar words r m old mid count tried offers_tried inbox_tried)
     (o n : Outside) (sees : SeesRing words old.table old.binds r o) (x : Worker) (is : IsWorker words.most old.table r x)
     (place : ℕ) (was now : HeldBy L) (at : slice_get mid.conns place ≡ Some was) (untried : tried place was.number → ⊥)
     (own : HaveOwnPorts mid.conns) (keeps : KeepsOthers was now mid.table new.table)
     (beside : (j : ℕ) (g : HeldBy L) → j ≢ place → slice_get mid.conns j ≡ Some g → SeesConn words new.table g n)
     (covers : Covers r.next_seat tried offers_tried inbox_tried (place + 2) (Of was.number))
-    (size : count ≡ old.seen.config.workers + 1) (mine : old.seen.actor ≡ r.id) (known : Known (sight o old.seen boxes) x)
+    (size : count ≡ old.seen.config.workers + 1) (mine : old.seen.actor ≡ r.id) (known : Known (sight o old.seen old.boxes) x)
     (offers_same : (i : ℕ) (f : Offer) → slice_get x.offered i ≡ Some f → n.link f.number ≡ o.link f.number)
-    (acting : Here words r m old mid new boxes boxes_now count tried offers_tried inbox_tried so o n sees x is place was now at) where
+    (fit : IsFit new.seen new.boxes) (acting : Here words r m old mid new count tried offers_tried inbox_tried so o n sees x is place was now at) where
   apart : AreApart x.conns
   apart = apart_of words.most old.table r x is
 
@@ -100,7 +97,7 @@ module _ {L Q : Type 0} (words : Words L Q) (r m : Ring L) (old mid new : Moment
   number = acting.s.conn.number
 
   many : length mid.conns ≡ length x.conns
-  many = as_many words r m old mid new boxes boxes_now count tried offers_tried inbox_tried so o n sees x is place was now at
+  many = as_many words r m old mid new count tried offers_tried inbox_tried so o n sees x is place was now at
 
   sees_mid : (i : ℕ) (g : HeldBy L) → slice_get mid.conns i ≡ Some g → tried i g.number → SeesConn words mid.table g n
   sees_mid i g at_g was_tried = by_case (cases_eq i place) where
@@ -114,7 +111,7 @@ module _ {L Q : Type 0} (words : Words L Q) (r m : Ring L) (old mid new : Moment
     by_case (inr ne) =
         let lt = within mid.conns i g at_g in
         let s = there x.conns i (omega (arith, lt, many)) in
-        let x_is = other words r m old mid new boxes boxes_now count tried offers_tried inbox_tried so o n sees x is place was now at own keeps beside i s.0 ne s.1 in
+        let x_is = other words r m old mid new count tried offers_tried inbox_tried so o n sees x is place was now at own keeps beside i s.0 ne s.1 in
         let both : Some x_is.g ≡ Some g = sym x_is.at_is ∙ at_g in
         let e : x_is.g ≡ g = cc in
         let S : HeldBy L → Type 0 = λ h. SeesConn words mid.table h n in
@@ -124,7 +121,7 @@ module _ {L Q : Type 0} (words : Words L Q) (r m : Ring L) (old mid new : Moment
   vain =
       let V : ℕ → Type 0 = λ k. Vain o n x so.box (place + 2) (Of k) in
       subst V (sym acting.stands.number)
-      (vain_so_far words r m old mid boxes boxes_now count tried offers_tried inbox_tried so o n sees x is (place + 2) (Of was.number) covers sees_mid)
+      (vain_so_far words r m old mid count tried offers_tried inbox_tried so o n sees x is (place + 2) (Of was.number) covers sees_mid)
 
   found_at_place : (found : Found) → FoundAt x number found (place + 2)
   found_at_place found = λ i h at_h same. let e = apart i place h acting.s at_h acting.at_is same in inl (omega (arith, e))
@@ -132,28 +129,8 @@ module _ {L Q : Type 0} (words : Words L Q) (r m : Ring L) (old mid new : Moment
   seat_is : slice_get (seats_of x) (place + 2) ≡ Some (Of number)
   seat_is = seat_at x place acting.s acting.at_is
 
-  box_was : WasInbox boxes x.id so.box
-  box_was = was_inbox boxes so.mail.boxes x.id so.box so.mail.told (ap (λ (k : ℕ). slice_get so.mail.boxes k) is.id ∙ so.mail.at)
-
-  meets : (orders : Orders) (sh after : Shared) → Shares old.seen new.seen so.mail.boxes orders sh after → Meets orders (sight o old.seen boxes) (sight n new.seen boxes_now) sh after
-  meets orders sh after shares =
-      let B : Boxes → Type 0 = λ b. IsTold boxes b in
-      let N : Boxes → Type 0 = λ b. IsTold boxes_now b in
-      record {
-        config = shares.config;
-        same = shares.same;
-        book = shares.book;
-        wrote = shares.wrote;
-        boxes = subst B (sym shares.boxes_are) so.mail.told;
-        count = ap (λ (b : Boxes). length b) shares.boxes_are ∙ so.mail.size ∙ size ∙ ap (λ c. c.workers + 1) (sym shares.config);
-        boxes_after = subst N (sym shares.boxes_after) so.mail.tells;
-        orders_are = shares.orders_are;
-      }
-
-  boxes_fit : (new_seen : Seen) → new_seen.config ≡ old.seen.config → (bs : Boxes) → boxes_now ≡ Some bs → length bs ≡ new_seen.config.workers + 1
-  boxes_fit new_seen same bs e =
-      let b = box_count boxes_now so.mail.boxes bs so.mail.tells e in
-      ap (λ (z : Boxes). length z) (sym b) ∙ so.mail.size ∙ size ∙ ap (λ c. c.workers + 1) (sym same)
+  box_was : WasInbox old.boxes x.id so.box
+  box_was = was_inbox old.boxes so.mail.boxes x.id so.box so.mail.told (ap (λ (k : ℕ). slice_get so.mail.boxes k) is.id ∙ so.mail.at)
 
   fits : (found : Found) → HeldFits o n (filled o found acting.s) → worker_fits o n (refill o number found x)
   fits found here_fits = faults_refilled o n number found x (λ h has same. All-contains P x.conns h (all_at P x.conns each) has same) where
@@ -172,7 +149,7 @@ module _ {L Q : Type 0} (words : Words L Q) (r m : Ring L) (old mid new : Moment
   others_but : (F : Held → Held) (found : Found) → Harmless L words.most new.table n F
       → PointwiseBut (Fine words.most new.table n x.id) place mid.conns (map F (refill o number found x).conns)
   others_but F found safe =
-      let but = others_fine words r m old mid new boxes boxes_now count tried offers_tried inbox_tried so o n sees x is place was now at own keeps beside found acting.s acting.at_is in
+      let but = others_fine words r m old mid new count tried offers_tried inbox_tried so o n sees x is place was now at own keeps beside found acting.s acting.at_is in
       record {
         size = but.size ∙ sym (length-map (refill o number found x).conns F);
         at = λ i g u ne at_g at_u. by_one i g u ne at_g (map_get F (refill o number found x).conns i u at_u) but;
@@ -204,7 +181,6 @@ module _ {L Q : Type 0} (words : Words L Q) (r m : Ring L) (old mid new : Moment
   worker_stands s us found next id setup offered next_is fine rooms ports numbers =
       let O : List (OfferBy L) → Type 0 = λ q. AreOffered q (map (reoffered o) x.offered) in
       let N : List (OfferBy L) → Type 0 = λ q. AreDistinct (numbers_of s.conns.items q) in
-      let U : Setup → Type 0 = λ z. z.udp.kind ≡ kind.Udp in
       record {
         id = is.id ∙ sym id;
         setup = is.setup ∙ sym setup;
@@ -212,7 +188,6 @@ module _ {L Q : Type 0} (words : Words L Q) (r m : Ring L) (old mid new : Moment
         conns = fine.held;
         next = sym next_is;
         actors = fine.actors;
-        udp = subst U (sym setup) is.udp;
         rooms = rooms;
         ports = ports;
         numbers = subst N (sym offered) numbers;
@@ -254,17 +229,17 @@ module _ {L Q : Type 0} (words : Words L Q) (r m : Ring L) (old mid new : Moment
       ∙ ap (λ (hs : List Held). cores_of hs) (sym (replace_removes x.conns place acting.s apart acting.at_is))
 
   known_then : (t : Worker) (became : Option Held) (orders : Orders) (sh after : Shared) → t.id ≡ x.id → t.setup ≡ x.setup → cores_of t.conns ≡ cores_of (replace number became x.conns)
-      → ((g : Held) → became ≡ Some g → (g.conn.number ≡ number) × (g.conn.next_tunnel ≤ length new.seen.entries))
-      → Shares old.seen new.seen so.mail.boxes orders sh after → Goes acting.s.conn sh (tunnels_or became) after → Known (sight n new.seen boxes_now) t
+      → IsNext number (length new.seen.entries) old.seen.config.workers became
+      → Shares old.seen new.seen old.boxes new.boxes orders sh after → Goes acting.s.conn sh (tunnels_or became) after → Known (sight n new.seen new.boxes) t
   known_then t became orders sh after id setup cores each shares goes =
-      known_goes (sight o old.seen boxes) (sight n new.seen boxes_now) x t number acting.s became sh after known (mine ∙ sym is.id) apart
+      known_goes (sight o old.seen old.boxes) (sight n new.seen new.boxes) x t number acting.s became sh after known (mine ∙ sym is.id) apart
       (record { at = found_at x.conns place acting.s apart acting.at_is; id = id; setup = setup; cores = cores }) each acting.actor shares.book shares.wrote shares.same.config goes
-      (boxes_fit new.seen shares.same.config)
+      fit.boxes
 
   -- ---- it did something
 
   module _ (found : Found) (try : Try) (answer : Answer) (orders : Orders) (sh after : Shared) (said : Note) (first : try_of (filled o found acting.s) ≡ Some try)
-      (shares : Shares old.seen new.seen so.mail.boxes orders sh after) (here_fits : HeldFits o n (filled o found acting.s)) (binds : BindFits o n answer) where
+      (shares : Shares old.seen new.seen old.boxes new.boxes orders sh after) (here_fits : HeldFits o n (filled o found acting.s)) (binds : BindFits o n answer) where
     X : Worker
     X = refill o number found x
 
@@ -276,7 +251,7 @@ module _ {L Q : Type 0} (words : Words L Q) (r m : Ring L) (old mid new : Moment
 
     -- what the worker's step gives, where the connection became this
     done : (became : Option Held) (t : Worker) → TryNext x.setup (filled o found acting.s) sh try answer said became after
-        → t ≡ worker_prepared n answer (with_held (refill o number found x) number became) → StepDone orders (sight o old.seen boxes) (sight n new.seen boxes_now) x said t
+        → t ≡ worker_prepared n answer (with_held (refill o number found x) number became) → StepDone orders (sight o old.seen old.boxes) (sight n new.seen new.boxes) x said t
     done became t next t_is = record {
       now = refill o number found x;
       box = so.box;
@@ -286,7 +261,7 @@ module _ {L Q : Type 0} (words : Words L Q) (r m : Ring L) (old mid new : Moment
       after = after;
       refills = refills o number found x;
       was = box_was;
-      meets = meets orders sh after shares;
+      meets = shares;
       turn = turn;
       waited = before_waited o n x so.box number found (place + 2) (Of number) apart seat_is (found_at_place found) can vain;
       faults = fits found here_fits;
@@ -315,7 +290,7 @@ module _ {L Q : Type 0} (words : Words L Q) (r m : Ring L) (old mid new : Moment
     pub rooms : HasRooms s.rooms
     pub ports : HaveOwnPorts s.conns.items
 
-  next_within : (new_conn : Conn) (sh after : Shared) (orders : Orders) → Shares old.seen new.seen so.mail.boxes orders sh after → Left acting.s.conn sh new_conn after
+  next_within : (new_conn : Conn) (sh after : Shared) (orders : Orders) → Shares old.seen new.seen old.boxes new.boxes orders sh after → Left acting.s.conn sh new_conn after
       → new_conn.next_tunnel ≤ length new.seen.entries
   next_within c sh after orders shares left = by_next left.next where
     grows : length old.seen.entries ≤ length new.seen.entries
@@ -343,8 +318,20 @@ module _ {L Q : Type 0} (words : Words L Q) (r m : Ring L) (old mid new : Moment
         })) in
         omega (arith, is_next, lt, grows)
 
+  -- each packet that it is to push has an inbox
+  placed_then : (sh after : Shared) (found : Found) (try : Try) (answer : Answer) (said : Note) (g : Held) (orders : Orders) → Shares old.seen new.seen old.boxes new.boxes orders sh after
+      → TryNext x.setup (filled o found acting.s) sh try answer said (Some g) after → ArePlaced old.seen.config.workers g.conn.due
+  placed_then sh after found try answer said g orders shares next =
+      let config : new.seen.config ≡ sh.config = shares.same.config ∙ sym shares.config in
+      let L : Config → Type 0 = λ k. IsLegal k new.seen.entries in
+      let B : List Entry → Type 0 = λ h. IsLegal sh.config h in
+      let P : Config → Type 0 = λ k. ArePlaced k.workers acting.s.conn.due in
+      let R : Config → Type 0 = λ k. ArePlaced k.workers g.conn.due in
+      let was = at_all (λ (h : Held). ArePlaced old.seen.config.workers h.conn.due) x.conns known.places place acting.s acting.at_is in
+      subst R shares.config (try_placed sh after (subst B shares.wrote (subst L config fit.sound.legal)) x.setup (filled o found acting.s) g try answer said (subst P (sym shares.config) was) next)
+
   -- what it wrote is the worker's own
-  written : (sh after : Shared) (orders : Orders) (tunnels : List Tunnel) → Shares old.seen new.seen so.mail.boxes orders sh after → Goes acting.s.conn sh tunnels after
+  written : (sh after : Shared) (orders : Orders) (tunnels : List Tunnel) → Shares old.seen new.seen old.boxes new.boxes orders sh after → Goes acting.s.conn sh tunnels after
       → Writes old.seen new.seen x.id
   written sh after orders tunnels shares goes = writes_goes old.seen new.seen x.id acting.s.conn sh after tunnels shares.book shares.wrote acting.actor opened goes where
     opened : (t : Tunnel) → Contains acting.s.conn.tunnels t → (e : Entry) × (slice_get old.seen.entries t.id ≡ Some e) × (e.actor ≡ x.id)
@@ -360,10 +347,10 @@ module _ {L Q : Type 0} (words : Words L Q) (r m : Ring L) (old mid new : Moment
         }) in
         (is.entry, is.at, is.by)
 
-  pub did_gives : (said : Note) (orders : Orders) (tk : Held) → Turned x.setup tries_of Anything o n old.seen new.seen so.mail.boxes orders acting.s said (Some tk)
+  pub did_gives : (said : Note) (orders : Orders) (tk : Held) → Turned x.setup tries_of Anything o n old.seen new.seen old.boxes new.boxes orders acting.s said (Some tk)
       → StandsAsTold n (IsHeld words.most new.table now) tk → (s : Ring L) → Rest s (number + 2 + 1) → s.conns.items ≡ slice_set mid.conns place now → now.number ≡ was.number
-      → (t : Worker) × IsWorker words.most new.table s t × HasTold n t × Known (sight n new.seen boxes_now) t × Writes old.seen new.seen x.id
-      × StepDone orders (sight o old.seen boxes) (sight n new.seen boxes_now) x said t
+      → (t : Worker) × IsWorker words.most new.table s t × HasTold n t × Known (sight n new.seen new.boxes) t × Writes old.seen new.seen x.id
+      × StepDone orders (sight o old.seen old.boxes) (sight n new.seen new.boxes) x said t
   did_gives said orders tk d stands s rest items same_number =
       let F : Held → Held = with_prepared n d.answer in
       let b = mapped_some F d.became tk d.then in
@@ -374,6 +361,7 @@ module _ {L Q : Type 0} (words : Words L Q) (r m : Ring L) (old mid new : Moment
       let T : Held → Type 0 = λ h. StandsAsTold n (IsHeld words.most new.table now) h in
       let told = subst T b.2 stands in
       let left = try_leaves x.setup was.conn now.conn (filled o d.found acting.s) d.sh d.after d.try d.answer said b.0 acting.stands.conn (subst IC core told.0.conn) d.is next in
+      let placed = placed_then d.sh d.after d.found d.try d.answer said b.0 orders d.shares next in
       let fine : Fine words.most new.table n x.id now (F b.0) = record {
         stands = told.0;
         link = told.1.link;
@@ -400,17 +388,17 @@ module _ {L Q : Type 0} (words : Words L Q) (r m : Ring L) (old mid new : Moment
         (all.told, offered_told),
         known_then t (Some (F b.0)) orders d.sh d.after refl refl (cores_set F d.found (F b.0) (prepared_core n d.answer))
             (λ g e. let same : F b.0 ≡ g = cc in
-            let G : Conn → Type 0 = λ c. (c.number ≡ number) × (c.next_tunnel ≤ length new.seen.entries) in
-            subst G (sym core ∙ ap (λ (h : Held). h.conn) same) (left.number, next_within b.0.conn d.sh d.after orders d.shares left))
+            let G : Conn → Type 0 = λ c. (c.number ≡ number) × (c.next_tunnel ≤ length new.seen.entries) × ArePlaced old.seen.config.workers c.due in
+            subst G (sym core ∙ ap (λ (h : Held). h.conn) same) (left.number, next_within b.0.conn d.sh d.after orders d.shares left, placed))
             d.shares goes,
         written d.sh d.after orders (F b.0).conn.tunnels d.shares goes,
         done d.found d.try d.answer orders d.sh d.after said d.is d.shares d.faults d.binds (Some b.0) t next t_is,
       )
 
-  pub ended_gives : (said : Note) (orders : Orders) → Turned x.setup tries_of Anything o n old.seen new.seen so.mail.boxes orders acting.s said None
+  pub ended_gives : (said : Note) (orders : Orders) → Turned x.setup tries_of Anything o n old.seen new.seen old.boxes new.boxes orders acting.s said None
       → (s : Ring L) → Rest s (number + 2 + 1) → s.conns.items ≡ remove mid.conns place
-      → (t : Worker) × IsWorker words.most new.table s t × HasTold n t × Known (sight n new.seen boxes_now) t × Writes old.seen new.seen x.id
-      × StepDone orders (sight o old.seen boxes) (sight n new.seen boxes_now) x said t
+      → (t : Worker) × IsWorker words.most new.table s t × HasTold n t × Known (sight n new.seen new.boxes) t × Writes old.seen new.seen x.id
+      × StepDone orders (sight o old.seen old.boxes) (sight n new.seen new.boxes) x said t
   ended_gives said orders d s rest items =
       let F : Held → Held = with_prepared n d.answer in
       let N : Option Held → Type 0 = λ z. TryNext x.setup (filled o d.found acting.s) d.sh d.try d.answer said z d.after in
@@ -438,10 +426,10 @@ module _ {L Q : Type 0} (words : Words L Q) (r m : Ring L) (old mid new : Moment
         done d.found d.try d.answer orders d.sh d.after said d.is d.shares d.faults d.binds None t next t_is,
       )
 
-  pub starved_gives : (orders : Orders) (tk : Held) → Starved tries_of Anything o n old.seen new.seen so.mail.boxes orders acting.s tk
+  pub starved_gives : (orders : Orders) (tk : Held) → Starved tries_of Anything o n old.seen new.seen old.boxes new.boxes orders acting.s tk
       → StandsAsTold n (IsHeld words.most new.table now) tk → (s : Ring L) → Rest s r.next_seat → s.conns.items ≡ slice_set mid.conns place now → now.number ≡ was.number
-      → (t : Worker) × IsWorker words.most new.table s t × HasTold n t × Known (sight n new.seen boxes_now) t × Writes old.seen new.seen x.id
-      × StepSilent orders (sight o old.seen boxes) (sight n new.seen boxes_now) x t
+      → (t : Worker) × IsWorker words.most new.table s t × HasTold n t × Known (sight n new.seen new.boxes) t × Writes old.seen new.seen x.id
+      × StepSilent orders (sight o old.seen old.boxes) (sight n new.seen new.boxes) x t
   starved_gives orders tk d told s rest items same_number =
       let goes = starved_goes was.conn (filled o d.found acting.s) d.sh d.after d.reached.asked d.try d.answer d.tunnels acting.stands.conn d.heard in
       let conn : tk.conn ≡ record (starved acting.s.conn) { tunnels = d.tunnels } = ap (λ (h : Held). h.conn) d.then in
@@ -453,7 +441,7 @@ module _ {L Q : Type 0} (words : Words L Q) (r m : Ring L) (old mid new : Moment
       } in
       let us : List Held = slice_set (refill o number d.found x).conns place tk in
       let pw = pointwise_set (Fine words.most new.table n x.id) place mid.conns (refill o number d.found x).conns now tk
-      (others_fine words r m old mid new boxes boxes_now count tried offers_tried inbox_tried so o n sees x is place was now at own keeps beside d.found acting.s acting.at_is)
+      (others_fine words r m old mid new count tried offers_tried inbox_tried so o n sees x is place was now at own keeps beside d.found acting.s acting.at_is)
       fine lt_place in
       let H : List (HeldBy L) → Type 0 = λ hs. AllFine words.most new.table n x.id hs us in
       let A : List (HeldBy L) → Type 0 = λ hs. AreDistinct (numbers_of hs r.offered.items) in
@@ -462,7 +450,7 @@ module _ {L Q : Type 0} (words : Words L Q) (r m : Ring L) (old mid new : Moment
       let t : Worker = record (refill o number d.found x) { conns = us; next_seat = x.next_seat } in
       let same : us ≡ replace number (Some tk) (refill o number d.found x).conns =
       sym (replace_sets (refill o number d.found x).conns place (refilled o number d.found acting.s) tk (apart_refilled d.found) (at_refilled d.found)) in
-      let G : Conn → Type 0 = λ c. (c.number ≡ number) × (c.next_tunnel ≤ length new.seen.entries) in
+      let G : Conn → Type 0 = λ c. (c.number ≡ number) × (c.next_tunnel ≤ length new.seen.entries) × ArePlaced old.seen.config.workers c.due in
       let TS : List Tunnel → Type 0 = λ ts. Goes acting.s.conn d.sh ts d.after in
       let left : Left acting.s.conn d.sh (record (starved acting.s.conn) { tunnels = d.tunnels }) d.after = record { number = refl; actor = refl; goes = goes; next = inl refl } in
       let can = conn_can o x so.box d.found place acting.s d.try apart acting.at_is d.is in (
@@ -470,7 +458,7 @@ module _ {L Q : Type 0} (words : Words L Q) (r m : Ring L) (old mid new : Moment
         worker_stands s us d.found x.next_seat rest.id rest.setup rest.offered (rest.next_is ∙ sym is.next) all rest.rooms rest.ports numbers,
         (all.told, offered_told),
         known_then t (Some tk) orders d.sh d.after refl refl (cores_one d.found tk)
-            (λ g e. let is_g : tk ≡ g = cc in subst G (sym conn ∙ ap (λ (h : Held). h.conn) is_g) (refl, next_within (record (starved acting.s.conn) { tunnels = d.tunnels }) d.sh d.after orders d.shares left))
+            (λ g e. let is_g : tk ≡ g = cc in subst G (sym conn ∙ ap (λ (h : Held). h.conn) is_g) (refl, next_within (record (starved acting.s.conn) { tunnels = d.tunnels }) d.sh d.after orders d.shares left, tt))
             d.shares (subst TS (sym (ap (λ (c : Conn). c.tunnels) conn)) goes),
         written d.sh d.after orders d.tunnels d.shares goes,
         record {
@@ -482,7 +470,7 @@ module _ {L Q : Type 0} (words : Words L Q) (r m : Ring L) (old mid new : Moment
           reached = d.reached;
           refills = refills o number d.found x;
           was = box_was;
-          meets = meets orders d.sh d.after d.shares;
+          meets = d.shares;
           binds = d.binds;
           starves = record {
             seat = Of number;

@@ -16,7 +16,7 @@ use Rattle.mq_actor.proofs.Between.{get_append}
 use Rattle.mq_actor.proofs.Books.{open_once, open_within}
 use Rattle.mq_actor.proofs.Cores.{AreApart}
 use Rattle.mq_actor.proofs.InRing.{at_all}
-use Rattle.mq_actor.proofs.Lists.{found_at, map_get, get_map, get_pushed}
+use Rattle.mq_actor.proofs.Lists.{found_at, number_at, map_get, get_map, get_pushed}
 use Rattle.mq_actor.proofs.Opened.{sees_longer}
 
 -- ---- the tunnel of a seat
@@ -37,7 +37,7 @@ tunnel_of_seat most table h s a x held at = by_served s.conn.ending held.served 
   Number = (i : ℕ) × (t : Tunnel) × (slice_get s.conn.tunnels i ≡ Some t) × (t.id ≡ x.tunnel)
 
   of_port : (p : Port) → slice_get (ids_of s.conn.tunnels) a ≡ Some p.tunnel → p.tunnel ≡ x.tunnel → Number
-  of_port p at_id is_p = let t = map_get (λ (u : Tunnel). u.id) s.conn.tunnels a p.tunnel at_id in (a, t.0, t.1, sym t.2 ∙ is_p)
+  of_port p at_id is_p = let t = number_at s.conn.tunnels a p.tunnel at_id in (t.0, t.1, t.2, t.3 ∙ is_p)
 
   ids : (p : Port) → slice_get s.ports a ≡ Some p → slice_get (tunnels_of s.ports) a ≡ Some p.tunnel
   ids p at_p = get_map (λ (q : Port). q.tunnel) s.ports a p at_p
@@ -77,10 +77,12 @@ was_or_new c sh ts after i t (inr (inl opens)) at =
           → ((k : ℕ) × (v : Tunnel) × (slice_get c.tunnels k ≡ Some v) × (v.id ≡ t.id)) ⊎ (t.id ≡ length sh.book)
       by_side (inl at_i) = let v = of_shape c i (shape_of t) at_i in inl (i, v.0, v.1, v.2)
       by_side (inr (last, is)) = inr (ap (λ (x : Shape). x.id) is)
-was_or_new c sh ts after i t (inr (inr closes)) at =
+was_or_new c sh ts after i t (inr (inr (inl closes))) at =
     let k = filtered_at (λ (x : Shape). not (x.id == closes.closed.id)) (shapes_of c.tunnels) i (shape_of t)
     (ap (λ (xs : List Shape). slice_get xs i) (sym closes.tunnels_are) ∙ get_map shape_of ts i t at) in
     let v = of_shape c k.0 (shape_of t) k.1 in inl (k.0, v.0, v.1, v.2)
+was_or_new c sh ts after i t (inr (inr (inr tells))) at =
+    let v = of_shape c i (shape_of t) (ap (λ (xs : List Shape). slice_get xs i) (sym tells.tunnels_are) ∙ get_map shape_of ts i t at) in inl (i, v.0, v.1, v.2)
 
 -- ---- no two connections
 

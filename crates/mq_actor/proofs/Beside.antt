@@ -115,7 +115,7 @@ pub record Shaped (c t : Conn) : Type 0 where
   pub shapes : shapes_of t.tunnels ≡ shapes_of c.tunnels
   pub next : t.next_tunnel ≡ c.next_tunnel
 
-shaped_settled : (c x : Conn) → Shaped c x → Shaped c (settle x)
+pub shaped_settled : (c x : Conn) → Shaped c x → Shaped c (settle x)
 shaped_settled c x first =
     let same = settle_same x in
     record {

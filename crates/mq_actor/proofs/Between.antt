@@ -2,7 +2,6 @@
 use Rattle.std.proofs.Common.{◌≡◌, ◌⊎◌, inl, inr, ℕ, zero, suc, ◌+◌, ◌≤◌, List, [], ◌∷◌, ◌++◌, map, length, Option, Some, slice_get}
 use Rattle.std.proofs.Common.{refl, sym, ap, subst, ◌∙◌, arith}
 use Rattle.slab.specs.Slab.{Slab}
-use Rattle.mq_talk.specs.Mails.{Boxes}
 use Rattle.mq_machine.specs.State.{Offer, Held, Worker}
 use Rattle.mq_machine.specs.Turn.{Seat, Offers, Inbox, Of, most_live}
 use Rattle.mq_machine.specs.Acting.{Outside, Binder}
@@ -117,8 +116,8 @@ numbers_passed words old mid tried passed =
 -- ---- what went before
 
 -- It was asked of what came so far.
-module _ {L Q : Type 0} (words : Words L Q) (r m : Ring L) (old mid : Moment L Q) (boxes boxes_now : Option Boxes) (count : ℕ)
-    (tried : Tried) (offers_tried inbox_tried : Type 0) (so : SoFar words r m old mid boxes boxes_now count tried offers_tried inbox_tried)
+module _ {L Q : Type 0} (words : Words L Q) (r m : Ring L) (old mid : Moment L Q) (count : ℕ)
+    (tried : Tried) (offers_tried inbox_tried : Type 0) (so : SoFar words r m old mid count tried offers_tried inbox_tried)
     (o n : Outside) (sees : SeesRing words old.table old.binds r o) (x : Worker) (is : IsWorker words.most old.table r x) where
   -- the connection at a place, and what it was passed as
   pub record At (i : ℕ) (s : Held) : Type 0 where

@@ -1,90 +1,19 @@
 -- What the book says of an actor's tunnels, as others and itself write to it.
-use Rattle.std.proofs.Common.{◌≡◌, ◌≢◌, ◌⊎◌, inl, inr, ℕ, zero, suc, ◌+◌, ◌<◌, ◌≤◌, ◌==◌, Bool, true, false, not, ◌&&◌, ◌||◌, List, [], ◌∷◌, ◌++◌}
-use Rattle.std.proofs.Common.{length, drop, All, slice_get, Some, refl, sym, ap, subst, ◌∙◌, arith, true≢false}
-use Rattle.std.specs.List.{list_any}
+use Rattle.std.proofs.Common.{◌≡◌, ◌≢◌, ◌⊎◌, inl, inr, ℕ, zero, suc, ◌+◌, ◌<◌, ◌==◌, true, false, not, ◌&&◌, ◌||◌, List, [], ◌∷◌, ◌++◌}
+use Rattle.std.proofs.Common.{length, slice_get, Some, refl, sym, ap, subst, ◌∙◌, arith, true≢false}
 use Rattle.std.proofs.lemmas.Bool.{eq-eqb, ne_eqb}
-use Rattle.std.proofs.lemmas.List.{drop-append-le, drop_all, length_push}
-use Rattle.std.proofs.lemmas.List.Elements.{All-head, All-tail}
-use Rattle.std.proofs.lemmas.List.Folds.{list_any-append}
 use Rattle.mq_addr.specs.declared.range.Range.{Range}
 use Rattle.mq_talk.specs.declared.book.Call.{Call}
 use Rattle.mq_talk.specs.declared.book.Call.TheVariants as call
 use Rattle.mq_talk.specs.declared.book.Entry.{Entry}
+use Rattle.mq_talk.specs.declared.book.Reply.{Reply}
 use Rattle.mq_talk.specs.declared.book.Reply.TheVariants as reply
 use Rattle.mq_talk.specs.declared.goal.Goal.{Goal}
-use Rattle.mq_talk.specs.Book.{History, closes, opening, opened_at, is_some_list, is_live}
+use Rattle.mq_talk.specs.Book.{History, is_live}
 use Rattle.mq_talk.specs.Offices.{Seen, Sees, IsOfOther}
+use Rattle.mq_book.proofs.Onward.{IsBehind, any_closes, both, entry_all, entry_front, entry_last, entry_part, entry_within, live_front, live_last, not_is, others_keep}
 use Rattle.mq_machine.specs.Acting.{IsOpen}
-
--- ---- an entry of two parts of a history
-
-entry_front : (book more : History) (t : ℕ) → t < length book → slice_get (book ++ more) t ≡ slice_get book t
-entry_front [] more t less = absurd (omega arith)
-entry_front (x ∷ xs) more zero less = refl
-entry_front (x ∷ xs) more (suc t) less = let below : t < length xs = omega (arith, less) in entry_front xs more t below
-
--- an entry is one of its history
-pub entry_within : (book : History) (t : ℕ) (e : Entry) → slice_get book t ≡ Some e → t < length book
-entry_within [] t e at = absurd cc
-entry_within (x ∷ xs) zero e at = omega arith
-entry_within (x ∷ xs) (suc t) e at = let less = entry_within xs t e at in omega (arith, less)
-
--- an entry of this part that isn't in the first part is so far behind it
-abbrev IsBehind : History → History → ℕ → Entry → Type 0
-IsBehind book more t e = (k : ℕ) × (t ≡ length book + k) × (slice_get more k ≡ Some e)
-
-entry_part : (book more : History) (t : ℕ) (e : Entry) → slice_get (book ++ more) t ≡ Some e → (t < length book) ⊎ IsBehind book more t e
-entry_part [] more t e at = let same : t ≡ 0 + t = omega arith in inr (t, same, at)
-entry_part (x ∷ xs) more zero e at = let first : 0 < length (x ∷ xs) = omega arith in inl first
-entry_part (x ∷ xs) more (suc t) e at = by_case (entry_part xs more t e at) where
-  by_case : (t < length xs) ⊎ IsBehind xs more t e → (suc t < length (x ∷ xs)) ⊎ IsBehind (x ∷ xs) more (suc t) e
-  by_case (inl less) = let below : suc t < length (x ∷ xs) = omega (arith, less) in inl below
-  by_case (inr (k, is, there)) = let far : suc t ≡ length (x ∷ xs) + k = omega (arith, is) in inr (k, far, there)
-
-entry_all : (P : Entry → Type 0) (book : History) (t : ℕ) (e : Entry) → All P book → slice_get book t ≡ Some e → P e
-entry_all P [] t e all at = absurd cc
-entry_all P (x ∷ xs) zero e all at = let same : x ≡ e = cc in subst P same (All-head P x xs all)
-entry_all P (x ∷ xs) (suc t) e all at = entry_all P xs t e (All-tail P x xs all) at
-
-entry_last : (book : History) (e : Entry) → slice_get (book ++ e ∷ []) (length book) ≡ Some e
-entry_last [] e = refl
-entry_last (x ∷ xs) e = entry_last xs e
-
--- ---- a live tunnel, as the history goes on
-
--- one of these entries closes the tunnel
-abbrev pub any_closes : ℕ → History → Bool
-any_closes t book = list_any (λ (e : Entry). closes t e.call) book
-
-regroup : (a b c : Bool) → (a && not (b || c)) ≡ ((a && not b) && not c)
-regroup true true c = refl
-regroup true false c = refl
-regroup false b c = refl
-
-both : (a b : Bool) → (a && b) ≡ true → (a ≡ true) × (b ≡ true)
-both true b is = (refl, is)
-both false b is = absurd cc
-
-not_is : (b : Bool) → not b ≡ true → b ≡ false
-not_is true is = absurd cc
-not_is false is = refl
-
-live_front : (book more : History) (t : ℕ) → t < length book → is_live (book ++ more) t ≡ (is_live book t && not (any_closes t more))
-live_front book more t less =
-    let p : Entry → Bool = λ e. closes t e.call in
-    let opened = is_some_list (opened_at (slice_get book t)) in
-    let fits : t + 1 ≤ length book = omega (arith, less) in
-    ap (λ o. is_some_list (opened_at o) && not (list_any p (drop (t + 1) (book ++ more)))) (entry_front book more t less)
-    ∙ ap (λ es. opened && not (list_any p es)) (drop-append-le (t + 1) book more fits)
-    ∙ ap (λ b. opened && not b) (list_any-append p (drop (t + 1) book) more)
-    ∙ regroup opened (list_any p (drop (t + 1) book)) (any_closes t more)
-
-live_last : (book : History) (e : Entry) → is_live (book ++ e ∷ []) (length book) ≡ (is_some_list (opening e.call e.reply) && true)
-live_last book e =
-    let p : Entry → Bool = λ x. closes (length book) x.call in
-    let all : length (book ++ e ∷ []) ≤ length book + 1 = omega (arith, length_push book e) in
-    ap (λ o. is_some_list (opened_at o) && not (list_any p (drop (length book + 1) (book ++ e ∷ [])))) (entry_last book e)
-    ∙ ap (λ es. is_some_list (opening e.call e.reply) && not (list_any p es)) (drop_all (length book + 1) (book ++ e ∷ []) all)
+use Rattle.mq_held.specs.Answers.{IsFor}
 
 -- an open tunnel is an entry of the history
 pub open_within : (book : History) (actor tunnel conn stream : ℕ) (goal : Goal) → IsOpen book actor tunnel conn stream goal → tunnel < length book
@@ -122,21 +51,6 @@ open_backward book more actor tunnel conn stream goal less is =
     )
 
 -- ---- what others wrote
-
-call_keeps : (seen : Seen) (t : ℕ) (opener : Entry) (c : Call) → slice_get seen.entries t ≡ Some opener → opener.actor ≡ seen.actor
-    → ((tunnel : ℕ) (e : Entry) → c ≡ call.Close tunnel → slice_get seen.entries tunnel ≡ Some e → e.actor ≢ seen.actor) → closes t c ≡ false
-call_keeps seen t opener (call.Open conn stream actor goal) at by keeps = refl
-call_keeps seen t opener (call.Assign tunnel asked) at by keeps = refl
-call_keeps seen t opener (call.Advertise tunnel ranges) at by keeps = refl
-call_keeps seen t opener (call.Close tunnel) at by keeps =
-    ne_eqb tunnel t (λ same. keeps tunnel opener refl (ap (λ k. slice_get seen.entries k) same ∙ at) by)
-
-others_keep : (seen : Seen) (more : History) (t : ℕ) (opener : Entry) → All (IsOfOther seen) more → slice_get seen.entries t ≡ Some opener
-    → opener.actor ≡ seen.actor → any_closes t more ≡ false
-others_keep seen [] t opener others at by = refl
-others_keep seen (e ∷ more) t opener others at by =
-    ap (λ b. b || any_closes t more) (call_keeps seen t opener e.call at by (All-head (IsOfOther seen) e more others).keeps)
-    ∙ others_keep seen more t opener (All-tail (IsOfOther seen) e more others) at by
 
 -- a tunnel that its actor has seen open is open in the book
 pub stays_open : (seen : Seen) (book : History) → Sees seen book → (tunnel conn stream : ℕ) (goal : Goal)
@@ -221,3 +135,40 @@ beside_open book actor tunnel t conn stream goal is = by_case (entry_or_last boo
   by_case (inr (last, it)) =
       let calls : call.Open conn stream actor goal ≡ call.Close tunnel = sym is.call ∙ ap (λ (x : Entry). x.call) it in
       absurd cc
+
+-- ---- addresses and ways
+
+-- an entry that asks for addresses or ways
+abbrev pub own_telling : ℕ → Call → Reply → Entry
+own_telling actor asked said = record { actor = actor; call = asked; reply = said }
+
+-- it closes no tunnel
+telling_closes : (actor tunnel t : ℕ) (asked : Call) (said : Reply) → IsFor tunnel asked → any_closes t (own_telling actor asked said ∷ []) ≡ false
+telling_closes actor tunnel t (call.Open conn stream by goal) said of = absurd of
+telling_closes actor tunnel t (call.Close on) said of = absurd of
+telling_closes actor tunnel t (call.Assign on list) said of = refl
+telling_closes actor tunnel t (call.Advertise on ranges) said of = refl
+
+-- nor opens one
+telling_opens : (tunnel conn stream actor : ℕ) (goal : Goal) (asked : Call) → IsFor tunnel asked → call.Open conn stream actor goal ≡ asked → ⊥
+telling_opens tunnel conn stream actor goal (call.Open on id by to) of is = of
+telling_opens tunnel conn stream actor goal (call.Close on) of is = of
+telling_opens tunnel conn stream actor goal (call.Assign on list) of is = cc
+telling_opens tunnel conn stream actor goal (call.Advertise on ranges) of is = cc
+
+-- what is open stays open behind it
+pub open_told : (book : History) (actor tunnel : ℕ) (asked : Call) (said : Reply) (t conn stream : ℕ) (goal : Goal) → IsFor tunnel asked
+    → IsOpen book actor t conn stream goal → IsOpen (book ++ own_telling actor asked said ∷ []) actor t conn stream goal
+open_told book actor tunnel asked said t conn stream goal of is =
+    open_onward book (own_telling actor asked said ∷ []) actor t conn stream goal (telling_closes actor tunnel t asked said of) is
+
+-- and what is open then was
+pub told_open : (book : History) (actor tunnel : ℕ) (asked : Call) (said : Reply) (t conn stream : ℕ) (goal : Goal) → IsFor tunnel asked
+    → IsOpen (book ++ own_telling actor asked said ∷ []) actor t conn stream goal → IsOpen book actor t conn stream goal
+told_open book actor tunnel asked said t conn stream goal of is = by_case (entry_or_last book e t is.entry is.at) where
+  e : Entry
+  e = own_telling actor asked said
+
+  by_case : (t < length book) ⊎ ((t ≡ length book) × (is.entry ≡ e)) → IsOpen book actor t conn stream goal
+  by_case (inl less) = (open_backward book (e ∷ []) actor t conn stream goal less is).0
+  by_case (inr (last, it)) = absurd (telling_opens tunnel conn stream actor goal asked of (sym is.call ∙ ap (λ (x : Entry). x.call) it))

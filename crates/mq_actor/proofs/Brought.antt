@@ -1,5 +1,6 @@
 -- What a packet that came through an inbox leaves of the connection that has its tunnel.
-use Rattle.std.proofs.Common.{◌≡◌, inl, inr, ℕ, Bool, true, false, cond, List, [], ◌∷◌, map, nat_le, Option, Some, None, refl, sym, ap, subst, ◌∙◌}
+use Rattle.std.proofs.Common.{◌≡◌, inl, inr, ℕ, Bool, true, false, cond, List, [], ◌∷◌, ◌++◌, nat_le, Option, Some, None, refl, sym, ap, subst, ◌∙◌}
+use Rattle.std.specs.Prelude.{flat_map}
 use Rattle.slab.specs.Slab.{Slab}
 use Rattle.mq_addr.specs.declared.kind.Kind.{Kind}
 use Rattle.mq_addr.specs.declared.kind.Kind.TheVariants as kind
@@ -20,16 +21,16 @@ use Rattle.mq_machine.specs.Laws.{BeginsWithAct}
 use Rattle.mq_machine.specs.Settle.{settle, settled, passing, gives_up}
 use Rattle.mq_machine.specs.State.{Conn, Tunnel, Packet, Port, Held, owed, kind_of, tunnel_on, values}
 use Rattle.mq_machine.specs.Done.{with_waiting}
-use Rattle.mq_machine.specs.Steps.{queued, settled_note}
+use Rattle.mq_machine.specs.Steps.{passed_on, queued, settled_note}
 use Rattle.mq_machine.specs.Want.{Want, Nothing, Say, Bind, Ask, Judge, Push, Send, Over, want_of, want_by, due_want, tunnel_want, ending_want, over_want, most_values}
 use Rattle.mq_machine.specs.Words.{onward}
 use Rattle.mq_machine.proofs.Settling.{settled_rests}
 use Rattle.mq_conn.specs.declared.conn.Conn.{Conn as Core}
 use Rattle.mq_conn.specs.Conns.{IsConn}
-use Rattle.mq_conn.specs.Frames.{comes, comes_in, passed_on}
+use Rattle.mq_conn.specs.Frames.{comes, comes_in}
 use Rattle.mq_held.specs.declared.held.Held.{Held as HeldBy}
 use Rattle.mq_held.specs.declared.held.PortSeat.{PortSeat}
-use Rattle.mq_step.specs.Holds.{AreServed, IsBound, IsHeld, numbers_of as ids_of}
+use Rattle.mq_step.specs.Holds.{AreServed, IsBound, IsHeld, numbers_of as ids_of, port_number}
 use Rattle.mq_actor.specs.Goes.{Shape, shapes_of}
 use Rattle.mq_actor.proofs.Shapes.{waits_shapes}
 
@@ -186,9 +187,13 @@ module _ {Q : Type 0} (most : Q → ℕ) (table : Slab Q) (seats : List PortSeat
 
 -- ---- the connection
 
-ids_shaped : (ts : List Tunnel) → map (λ (x : Shape). x.id) (shapes_of ts) ≡ ids_of ts
+-- the numbers of the tunnels for UDP, by their shapes
+abbrev ids_in : List Shape → List ℕ
+ids_in xs = flat_map (λ (x : Shape). port_number x.goal x.id) xs
+
+ids_shaped : (ts : List Tunnel) → ids_in (shapes_of ts) ≡ ids_of ts
 ids_shaped [] = refl
-ids_shaped (t ∷ ts) = ap (λ (ids : List ℕ). t.id ∷ ids) (ids_shaped ts)
+ids_shaped (t ∷ ts) = ap (λ (ids : List ℕ). port_number t.goal t.id ++ ids) (ids_shaped ts)
 
 served_still : (e : Option End) (ts us : List Tunnel) (ports : List Port) → ids_of us ≡ ids_of ts → AreServed e ts ports → AreServed e us ports
 served_still None ts us ports same served = served ∙ sym same
@@ -201,7 +206,7 @@ pub held_brought : {L Q : Type 0} (most : Q → ℕ) (table : Slab Q) (h : HeldB
 held_brought most table h core s c held conn b =
     let S : Option End → Type 0 = λ e. AreServed e c.tunnels s.ports in
     let ids : ids_of c.tunnels ≡ ids_of s.conn.tunnels =
-    sym (ids_shaped c.tunnels) ∙ ap (λ (xs : List Shape). map (λ (x : Shape). x.id) xs) b.shapes ∙ ids_shaped s.conn.tunnels in
+    sym (ids_shaped c.tunnels) ∙ ap ids_in b.shapes ∙ ids_shaped s.conn.tunnels in
     record {
       conn = conn;
       number = ap (λ (z : Conn). z.number) b.rest ∙ held.number;

@@ -5,13 +5,14 @@ use Rattle.std.proofs.Common.{All, append-nil, refl, sym, ap, subst, ◌∙◌, 
 use Rattle.std.proofs.lemmas.Bool.{cases_lt, lt-ltb}
 use Rattle.std.proofs.lemmas.List.{map-set}
 use Rattle.std.proofs.lemmas.List.Elements.{All-push}
-use Rattle.mq_addr.specs.declared.kind.Kind.TheVariants as kind
 use Rattle.mq_talk.specs.declared.book.Entry.{Entry}
 use Rattle.mq_talk.specs.declared.note.Note.{Note}
 use Rattle.mq_talk.specs.declared.note.Note.TheVariants as note
 use Rattle.mq_talk.specs.declared.place.Parcel.{Parcel}
 use Rattle.mq_talk.specs.Mails.{Boxes, IsTold, PopGives}
 use Rattle.mq_talk.specs.Offices.{Seen, IsSame}
+use Rattle.mq_machine.specs.declared.act.Due.{Due}
+use Rattle.mq_machine.specs.Placing.{ArePlaced}
 use Rattle.mq_machine.specs.State.{Conn, new_conn, new_link, Port, Offer, Held, Worker, Orders, Shared}
 use Rattle.mq_machine.specs.Want.{Said}
 use Rattle.mq_machine.specs.Turn.{Seat, Offers, Inbox, most_live, can_act, turn_of, accepted, replace, InboxNext}
@@ -52,11 +53,11 @@ use Rattle.mq_actor.proofs.Tunnels.{known_same, known_accepted, known_goes}
 use Rattle.mq_actor.proofs.Writing.{writes_nothing}
 use Rattle.mq_actor.proofs.Turning.{turn_is, no_turn, before_waited, offers_can, all_waited}
 
-module _ {L Q : Type 0} (words : Words L Q) (r m s : Ring L) (old mid : Moment L Q) (boxes boxes_now : Option Boxes) (count : ℕ)
-    (tried : Tried) (offers_tried inbox_tried : Type 0) (so : SoFar words r m old mid boxes boxes_now count tried offers_tried inbox_tried)
+module _ {L Q : Type 0} (words : Words L Q) (r m s : Ring L) (old mid : Moment L Q) (count : ℕ)
+    (tried : Tried) (offers_tried inbox_tried : Type 0) (so : SoFar words r m old mid count tried offers_tried inbox_tried)
     (at_conns : mid.conns ≡ m.conns.items) (own : HaveOwnPorts m.conns.items) (rooms : HasRooms m.rooms) (o n : Outside) (sees : SeesRing words old.table old.binds r o)
     (sees_now : SeesRing words mid.table mid.binds s n) (count_is : count ≡ old.seen.config.workers + 1) (x : Worker)
-    (is : IsWorker words.most old.table r x) (known : Known (sight o old.seen boxes) x) where
+    (is : IsWorker words.most old.table r x) (known : Known (sight o old.seen old.boxes) x) where
   -- the worker with what is told, where nothing was found
   abbrev now : Worker
   now = refill o 0 idle x
@@ -79,12 +80,12 @@ module _ {L Q : Type 0} (words : Words L Q) (r m s : Ring L) (old mid : Moment L
 
   vain : (k : ℕ) (seat : Seat) → Covers r.next_seat tried offers_tried inbox_tried k seat → SeenNow → Vain o n x so.box k seat
   vain k seat covers seen =
-      vain_so_far words r m old mid boxes boxes_now count tried offers_tried inbox_tried so o n sees x is k seat covers
+      vain_so_far words r m old mid count tried offers_tried inbox_tried so o n sees x is k seat covers
       (λ i g at was_tried. seen i g at)
 
   tells_same : SeenNow → (i : ℕ) (h : Held) → slice_get x.conns i ≡ Some h → TellsSame o n h
   tells_same seen i h at =
-      told_so_far words r m old mid boxes boxes_now count tried offers_tried inbox_tried so o n sees x is i h at (λ g at_g. seen i g at_g)
+      told_so_far words r m old mid count tried offers_tried inbox_tried so o n sees x is i h at (λ g at_g. seen i g at_g)
 
   told_at : SeenNow → (i : ℕ) (h : Held) → slice_get now.conns i ≡ Some h → IsTold (n.link h.conn.number) h.link × PortsTold n h.ports
   told_at seen i h at_h = one (map_get (refilled o 0 idle) x.conns i h at_h) where
@@ -131,8 +132,8 @@ module _ {L Q : Type 0} (words : Words L Q) (r m s : Ring L) (old mid : Moment L
   abbrev shared : Orders → Boxes → Shared
   shared orders b = record { config = old.seen.config; book = old.seen.entries; boxes = b; orders = orders }
 
-  meets : (orders : Orders) (after : Option Boxes) (b c : Boxes) → IsTold boxes b → length b ≡ count → IsTold after c
-      → Meets orders (sight o old.seen boxes) (sight n mid.seen after) (shared orders b) (shared orders c)
+  meets : (orders : Orders) (after : Option Boxes) (b c : Boxes) → IsTold old.boxes b → length b ≡ count → IsTold after c
+      → Meets orders (sight o old.seen old.boxes) (sight n mid.seen after) (shared orders b) (shared orders c)
   meets orders after b c told size tells = record {
     config = refl;
     same = same_seen;
@@ -149,6 +150,10 @@ module _ {L Q : Type 0} (words : Words L Q) (r m s : Ring L) (old mid : Moment L
   sized after c tells size bs some =
       let workers : mid.seen.config.workers ≡ old.seen.config.workers = ap (λ (z : Seen). z.config.workers) so.passed.seen in
       boxes_told after c count tells size bs some ∙ count_is ∙ ap (λ (k : ℕ). k + 1) (sym workers)
+
+  -- what the mail tells now
+  mail_tells : IsTold mid.boxes so.mail.boxes
+  mail_tells = let P : Option Boxes → Type 0 = λ b. IsTold b so.mail.boxes in subst P (sym so.passed.boxes) so.mail.told
 
   -- ---- the ring
 
@@ -182,9 +187,6 @@ module _ {L Q : Type 0} (words : Words L Q) (r m s : Ring L) (old mid : Moment L
   setup_now : m.setup ≡ x.setup
   setup_now = ap (λ (q : Ring L). q.setup) so.ring ∙ sym is.setup
 
-  udp_now : m.setup.udp.kind ≡ kind.Udp
-  udp_now = ap (λ (q : Ring L). q.setup.udp.kind) so.ring ∙ is.udp
-
   -- the ring stands for it, where it has the connections and offered links of m
   worker_now : (next : ℕ) → s.id ≡ m.id → s.setup ≡ m.setup → s.offered ≡ r.offered → s.conns.items ≡ m.conns.items → s.rooms ≡ m.rooms
       → s.next_seat ≡ next → IsWorker words.most mid.table s (record now { next_seat = next })
@@ -203,7 +205,6 @@ module _ {L Q : Type 0} (words : Words L Q) (r m s : Ring L) (old mid : Moment L
         conns = subst C (sym conns) held_now;
         next = sym next_is;
         actors = actors_now;
-        udp = ap (λ z. z.udp.kind) setup ∙ udp_now;
         rooms = subst HasRooms (sym rooms_are) rooms;
         ports = let P : List (HeldBy L) → Type 0 = λ hs. HaveOwnPorts hs in subst P (sym conns) own;
         numbers = subst AreDistinct (sym numbers) is.numbers;
@@ -213,7 +214,7 @@ module _ {L Q : Type 0} (words : Words L Q) (r m s : Ring L) (old mid : Moment L
   known_now : (next : ℕ) (after : Option Boxes) (c : Boxes) → IsTold after c → length c ≡ count
       → Known (sight n mid.seen after) (record now { next_seat = next })
   known_now next after c tells size =
-      known_same (sight o old.seen boxes) (sight n mid.seen after) x (record now { next_seat = next }) known refl refl
+      known_same (sight o old.seen old.boxes) (sight n mid.seen after) x (record now { next_seat = next }) known refl refl
       (cores_refilled o 0 idle x.conns) so.passed.seen (sized after c tells size)
 
   told_all : s.conns.items ≡ m.conns.items → s.offered ≡ r.offered → HasTold n now
@@ -223,25 +224,25 @@ module _ {L Q : Type 0} (words : Words L Q) (r m s : Ring L) (old mid : Moment L
 
   -- Every seat was tried in vain: only what links and ports hold may have changed.
   pub idle_gives : s ≡ m → offers_tried → inbox_tried → ((i number : ℕ) → tried i number)
-      → (t : Worker) × IsWorker words.most mid.table s t × HasTold n t × Known (sight n mid.seen boxes_now) t × Writes old.seen mid.seen x.id
-      × StepQuiet (sight o old.seen boxes) (sight n mid.seen boxes_now) x t
+      → (t : Worker) × IsWorker words.most mid.table s t × HasTold n t × Known (sight n mid.seen mid.boxes) t × Writes old.seen mid.seen x.id
+      × StepQuiet (sight o old.seen old.boxes) (sight n mid.seen mid.boxes) x t
   idle_gives same offers inbox all = (
     now,
     worker_now x.next_seat (part (λ q. q.id)) (part (λ q. q.setup)) offered conns (part (λ q. q.rooms))
         (part (λ q. q.next_seat) ∙ ap (λ (q : Ring L). q.next_seat) so.ring ∙ sym is.next),
     told_all conns offered,
-    known_now x.next_seat boxes_now so.mail.boxes so.mail.tells so.mail.size,
+    known_now x.next_seat mid.boxes so.mail.boxes mail_tells so.mail.size,
     nothing_written,
     record {
       now = now;
       box = so.box;
       refills = refills o 0 idle x;
-      was = was_box boxes so.mail.boxes r.id x.id so.box so.mail.told is.id so.mail.at;
+      was = was_box old.boxes so.mail.boxes r.id x.id so.box so.mail.told is.id so.mail.at;
       none = no_turn o n x so.box apart
-          (offers_so_far words r m old mid boxes boxes_now count tried offers_tried inbox_tried so o n sees x is (so.offers offers))
+          (offers_so_far words r m old mid count tried offers_tried inbox_tried so o n sees x is (so.offers offers))
           (so.inbox inbox) over;
       waited = all_waited o n x so.box apart
-          (offers_so_far words r m old mid boxes boxes_now count tried offers_tried inbox_tried so o n sees x is (so.offers offers))
+          (offers_so_far words r m old mid count tried offers_tried inbox_tried so o n sees x is (so.offers offers))
           (so.inbox inbox) (λ i h at. (over i h at).waited);
       seen = so.passed.seen;
       outside = record {
@@ -252,7 +253,7 @@ module _ {L Q : Type 0} (words : Words L Q) (r m s : Ring L) (old mid : Moment L
       binds = nothing_bound;
       boxes = so.mail.boxes;
       told = so.mail.told;
-      tells = so.mail.tells;
+      tells = mail_tells;
       same = (refills o 0 idle x).same;
     },
   ) where
@@ -276,7 +277,7 @@ module _ {L Q : Type 0} (words : Words L Q) (r m s : Ring L) (old mid : Moment L
 
     over : (i : ℕ) (h : Held) → slice_get x.conns i ≡ Some h → PassedOver o n h
     over i h at =
-        over_so_far words r m old mid boxes boxes_now count tried offers_tried inbox_tried so o n sees x is i h at
+        over_so_far words r m old mid count tried offers_tried inbox_tried so o n sees x is i h at
         (all i h.conn.number) (λ j g at_g was_tried. seen_same conns j g at_g)
 
   -- ---- an accept was refused memory
@@ -297,14 +298,14 @@ module _ {L Q : Type 0} (words : Words L Q) (r m s : Ring L) (old mid : Moment L
   -- A link could be accepted, and there was no memory for that: it stays offered.
   pub refused_gives : (orders : Orders) → Covers r.next_seat tried offers_tried inbox_tried 0 Offers → (OffersWait m → ⊥) → s.conns.items ≡ m.conns.items
       → s ≡ record m { conns = s.conns }
-      → (t : Worker) × IsWorker words.most mid.table s t × HasTold n t × Known (sight n mid.seen boxes_now) t × Writes old.seen mid.seen x.id
-      × StepSilent orders (sight o old.seen boxes) (sight n mid.seen boxes_now) x t
+      → (t : Worker) × IsWorker words.most mid.table s t × HasTold n t × Known (sight n mid.seen mid.boxes) t × Writes old.seen mid.seen x.id
+      × StepSilent orders (sight o old.seen old.boxes) (sight n mid.seen mid.boxes) x t
   refused_gives orders covers may conns rest = (
     now,
     worker_now x.next_seat (ap (λ (q : Ring L). q.id) rest) (ap (λ (q : Ring L). q.setup) rest) offered conns (ap (λ (q : Ring L). q.rooms) rest)
         (ap (λ (q : Ring L). q.next_seat) rest ∙ ap (λ (q : Ring L). q.next_seat) so.ring ∙ sym is.next),
     told_all conns offered,
-    known_now x.next_seat boxes_now so.mail.boxes so.mail.tells so.mail.size,
+    known_now x.next_seat mid.boxes so.mail.boxes mail_tells so.mail.size,
     nothing_written,
     record {
       now = now;
@@ -314,8 +315,8 @@ module _ {L Q : Type 0} (words : Words L Q) (r m s : Ring L) (old mid : Moment L
       after = shared orders so.mail.boxes;
       reached = record { took = false; asked = false };
       refills = refills o 0 idle x;
-      was = was_box boxes so.mail.boxes r.id x.id so.box so.mail.told is.id so.mail.at;
-      meets = meets orders boxes_now so.mail.boxes so.mail.boxes so.mail.told so.mail.size so.mail.tells;
+      was = was_box old.boxes so.mail.boxes r.id x.id so.box so.mail.told is.id so.mail.at;
+      meets = meets orders mid.boxes so.mail.boxes so.mail.boxes so.mail.told so.mail.size mail_tells;
       binds = held_back;
       starves = record { seat = Offers; turn = refused_turn (seen_same conns) covers may; starves = (refl, refl, refl, refl) };
     },
@@ -433,13 +434,16 @@ module _ {L Q : Type 0} (words : Words L Q) (r m s : Ring L) (old mid : Moment L
           ∙ ap (λ (hs : List Held). cores_of hs) (sym (replace_sets x.conns one.place y became apart at_y)) in
           let last : y.conn.next_tunnel ≤ length old.seen.entries = at_all (λ (h : Held). h.conn.next_tunnel ≤ length old.seen.entries) x.conns known.last one.place y at_y in
           let next : one.c.next_tunnel ≡ y.conn.next_tunnel = ap (λ (z : Conn). z.next_tunnel) one.brings.rest ∙ ap (λ (z : Conn). z.next_tunnel) core in
+          let placed = at_all (λ (h : Held). ArePlaced old.seen.config.workers h.conn.due) x.conns known.places one.place y at_y in
+          let due : one.c.due ≡ y.conn.due = ap (λ (z : Conn). z.due) one.brings.rest ∙ ap (λ (z : Conn). z.due) core in
+          let D : List Due → Type 0 = λ ds. ArePlaced old.seen.config.workers ds in
           let long : length mid.seen.entries ≡ length old.seen.entries = ap (λ (b : List Entry). length b) seen_are in
-          known_goes (sight o old.seen boxes) (sight n mid.seen after) x (record now { conns = slice_set now.conns one.place became; next_seat = 2 }) y.conn.number y (Some became)
+          known_goes (sight o old.seen old.boxes) (sight n mid.seen after) x (record now { conns = slice_set now.conns one.place became; next_seat = 2 }) y.conn.number y (Some became)
           sh sh known (mine ∙ sym is.id) apart (record { at = found_at x.conns one.place y apart at_y; id = refl; setup = refl; cores = cores })
           (λ g some.
           let e : became ≡ g = cc in
-          let P : Held → Type 0 = λ z. (z.conn.number ≡ y.conn.number) × (z.conn.next_tunnel ≤ length mid.seen.entries) in
-          subst P e (number_is ∙ ap (λ (z : Conn). z.number) core, omega (arith, last, next, long)))
+          let P : Held → Type 0 = λ z. (z.conn.number ≡ y.conn.number) × (z.conn.next_tunnel ≤ length mid.seen.entries) × ArePlaced old.seen.config.workers z.conn.due in
+          subst P e (number_is ∙ ap (λ (z : Conn). z.number) core, omega (arith, last, next, long), subst D (sym due) placed))
           (at_all (λ (h : Held). h.conn.actor ≡ x.id) x.conns is.actors one.place y at_y) (sees_same old.seen) seen_are same_seen.config
           (inl (record { tunnels_are = one.brings.shapes ∙ ap (λ (z : Conn). shapes_of z.tunnels) core; book = refl })) (sized after c tells size)
 
@@ -462,11 +466,11 @@ module _ {L Q : Type 0} (words : Words L Q) (r m s : Ring L) (old mid : Moment L
   taken_by mine us (inr one) = taken_one mine us one
 
   -- The parcel in front of the inbox was taken, and came to its tunnel, or was dropped. The inbox wasn't tried before.
-  pub taken_gives : (orders : Orders) (said : Note) (boxes_after : Option Boxes) → old.seen.actor ≡ r.id → boxes_now ≡ boxes
-      → Covers r.next_seat tried offers_tried inbox_tried 1 Inbox → Takes count boxes_now r.id m s said boxes_after
+  pub taken_gives : (orders : Orders) (said : Note) (boxes_after : Option Boxes) → old.seen.actor ≡ r.id
+      → Covers r.next_seat tried offers_tried inbox_tried 1 Inbox → Takes count mid.boxes r.id m s said boxes_after
       → (t : Worker) × IsWorker words.most mid.table s t × HasTold n t × Known (sight n mid.seen boxes_after) t × Writes old.seen mid.seen x.id
-      × StepDone orders (sight o old.seen boxes) (sight n mid.seen boxes_after) x said t
-  taken_gives orders said boxes_after mine same covers takes = (
+      × StepDone orders (sight o old.seen old.boxes) (sight n mid.seen boxes_after) x said t
+  taken_gives orders said boxes_after mine covers takes = (
     became_then,
     worker,
     (taken.fine.told, offers_same offered),
@@ -480,7 +484,7 @@ module _ {L Q : Type 0} (words : Words L Q) (r m s : Ring L) (old mid : Moment L
       sh = shared orders p.before;
       after = shared orders p.after;
       refills = refills o 0 idle x;
-      was = was_box boxes p.before r.id x.id box told is.id p.does.1;
+      was = was_box old.boxes p.before r.id x.id box told is.id p.does.1;
       meets = meets orders boxes_after p.before p.after told p.size p.is;
       turn = turn_is o n x box 0 idle 1 Inbox apart refl (λ i h at found. inr refl) can_here vain_here;
       waited = before_waited o n x box 0 idle 1 Inbox apart refl (λ i h at found. inr refl) can_here vain_here;
@@ -500,7 +504,7 @@ module _ {L Q : Type 0} (words : Words L Q) (r m s : Ring L) (old mid : Moment L
     became_then : Worker
     became_then = record now { conns = c.us; next_seat = 2 }
 
-    p : PopGives count boxes_now r.id (Some takes.parcel) boxes_after
+    p : PopGives count mid.boxes r.id (Some takes.parcel) boxes_after
     p = takes.pops
 
     rest : List Parcel
@@ -509,8 +513,8 @@ module _ {L Q : Type 0} (words : Words L Q) (r m s : Ring L) (old mid : Moment L
     box : List Parcel
     box = takes.parcel ∷ rest
 
-    told : IsTold boxes p.before
-    told = let P : Option Boxes → Type 0 = λ bs. IsTold bs p.before in subst P same p.was
+    told : IsTold old.boxes p.before
+    told = let P : Option Boxes → Type 0 = λ bs. IsTold bs p.before in subst P so.passed.boxes p.was
 
     offered : s.offered ≡ r.offered
     offered = ap (λ (q : Ring L). q.offered) takes.rest ∙ ap (λ (q : Ring L). q.offered) so.ring
@@ -537,7 +541,6 @@ module _ {L Q : Type 0} (words : Words L Q) (r m s : Ring L) (old mid : Moment L
           conns = taken.fine.held;
           next = ap (λ (q : Ring L). q.next_seat) (sym takes.rest);
           actors = taken.fine.actors;
-          udp = ap (λ z. z.udp.kind) setup ∙ udp_now;
           rooms = subst HasRooms (ap (λ (q : Ring L). q.rooms) (sym takes.rest)) rooms;
           ports = taken.ports;
           numbers = subst N (sym offers) taken.numbers;
@@ -573,14 +576,14 @@ module _ {L Q : Type 0} (words : Words L Q) (r m s : Ring L) (old mid : Moment L
 
   -- The link that was offered first is a connection now.
   pub accepted_gives : (orders : Orders) (said : Note) → Covers r.next_seat tried offers_tried inbox_tried 0 Offers → Accepts m s said
-      → (t : Worker) × IsWorker words.most mid.table s t × HasTold n t × Known (sight n mid.seen boxes_now) t × Writes old.seen mid.seen x.id
-      × StepDone orders (sight o old.seen boxes) (sight n mid.seen boxes_now) x said t
+      → (t : Worker) × IsWorker words.most mid.table s t × HasTold n t × Known (sight n mid.seen mid.boxes) t × Writes old.seen mid.seen x.id
+      × StepDone orders (sight o old.seen old.boxes) (sight n mid.seen mid.boxes) x said t
   accepted_gives orders said covers acc = (
     became,
     worker,
     (told_pushed n now.conns new (told_now seen) offers_told_now.0 tt, offers_told_now.1),
-    known_accepted (sight o old.seen boxes) (sight n mid.seen boxes_now) x became f.number known refl refl cores so.passed.seen
-        (sized boxes_now so.mail.boxes so.mail.tells so.mail.size),
+    known_accepted (sight o old.seen old.boxes) (sight n mid.seen mid.boxes) x became f.number known refl refl cores so.passed.seen
+        (sized mid.boxes so.mail.boxes mail_tells so.mail.size),
     nothing_written,
     record {
       now = now;
@@ -590,8 +593,8 @@ module _ {L Q : Type 0} (words : Words L Q) (r m s : Ring L) (old mid : Moment L
       sh = shared orders so.mail.boxes;
       after = shared orders so.mail.boxes;
       refills = refills o 0 idle x;
-      was = was_box boxes so.mail.boxes r.id x.id so.box so.mail.told is.id so.mail.at;
-      meets = meets orders boxes_now so.mail.boxes so.mail.boxes so.mail.told so.mail.size so.mail.tells;
+      was = was_box old.boxes so.mail.boxes r.id x.id so.box so.mail.told is.id so.mail.at;
+      meets = meets orders mid.boxes so.mail.boxes so.mail.boxes so.mail.told so.mail.size mail_tells;
       turn = turn_is o n x so.box 0 idle 0 Offers apart refl (λ i h at same. inr refl) can (vain 0 Offers covers seen);
       waited = before_waited o n x so.box 0 idle 0 Offers apart refl (λ i h at same. inr refl) can (vain 0 Offers covers seen);
       faults = faults;
@@ -696,7 +699,6 @@ module _ {L Q : Type 0} (words : Words L Q) (r m s : Ring L) (old mid : Moment L
           conns = subst C (sym acc.conns) (held_pushed words.most mid.table m.conns.items now.conns acc.held new held_now stands);
           next = ap (λ (q : Ring L). q.next_seat) (sym acc.rest);
           actors = All-push (λ (h : Held). h.conn.actor ≡ x.id) now.conns new actors_now refl;
-          udp = ap (λ (q : Ring L). q.setup.udp.kind) acc.rest ∙ udp_now;
           rooms = subst HasRooms (ap (λ (q : Ring L). q.rooms) (sym acc.rest)) rooms;
           ports = subst P (sym acc.conns) (ports_pushed m.conns.items acc.held acc.ports acc.bound own);
           numbers = subst AreDistinct (sym numbers) is.numbers;

@@ -14,25 +14,28 @@ use Rattle.mq_talk.specs.declared.note.From.{From}
 use Rattle.mq_talk.specs.declared.note.From.TheVariants as source
 use Rattle.mq_talk.specs.declared.note.Note.{Note}
 use Rattle.mq_talk.specs.declared.note.Why.TheVariants as why
+use Rattle.mq_talk.specs.declared.place.Parcel.{Parcel}
 use Rattle.mq_outside.specs.Links.{behind, room_left}
 use Rattle.mq_machine.specs.declared.act.StreamAct.TheVariants as stream
 use Rattle.mq_machine.specs.declared.setup.Setup.{Setup}
-use Rattle.mq_machine.specs.State.{Conn, Tunnel, Port, Held, Shared, owed, kind_of, tunnel_of, tunnel_on}
+use Rattle.mq_machine.specs.State.{Conn, Tunnel, Port, Held, Shared, owed, tunnel_of, tunnel_on}
 use Rattle.mq_machine.specs.Want.{Want, Nothing, Say, Bind, Ask, Judge, Push, Send, Over, Answer, Said, Bound, Replied, Judged, Pushed, Put, want_of, want_by, may_wait}
 use Rattle.mq_machine.specs.Want.{tunnel_want, ending_want, over_want}
 use Rattle.mq_machine.specs.Done.{Done, done}
-use Rattle.mq_machine.specs.Shared.{Answers, Asks, port_of, at_port}
+use Rattle.mq_machine.specs.Shared.{Answers, Asks, port_of, at_port, pushing}
 use Rattle.mq_machine.specs.Steps.{framed, settled_note, wrote, finished, failed, queued, received, port_failed, port_received}
 use Rattle.mq_machine.specs.Silent.{Heard}
 use Rattle.mq_machine.specs.Turn.{Try, Act, Frame, Write, Read, Receive, TryNext, ActNext, WriteNext, ReadNext, ReceiveNext, PortNext, TakesNext, received_from}
 use Rattle.mq_machine.specs.Turn.{can_try, receive_failed, write_count, most_read, tries_of}
 use Rattle.mq_conn.specs.declared.conn.Conn.{Conn as Core}
 use Rattle.mq_conn.specs.Conns.{IsConn}
+use Rattle.mq_held.specs.Answers.{IsFor}
+use Rattle.mq_held.proofs.Streams.{Fronted, fronted}
 use Rattle.mq_step.specs.Gives.{first_of}
 use Rattle.mq_step.proofs.Wanting.{IsNotOver}
 use Rattle.mq_step.proofs.Keeping.{NoOpens, Kept, no_opens_nil, kept_said, kept_refused, kept_put, kept_full, bound_next, opened_next, closed_next}
 use Rattle.mq_step.proofs.Keeping.{port_failed_keeps}
-use Rattle.mq_step.proofs.Cores.{IsUdpWant, udp_want, tail_opens, open_alive, close_live, close_opens, own_stream}
+use Rattle.mq_step.proofs.Cores.{tail_opens, open_alive, close_live, close_opens, own_stream}
 use Rattle.mq_step.proofs.Places.{found_all, found_id}
 use Rattle.mq_step.proofs.Receiving.{alive_by, waits_opens}
 use Rattle.mq_step.proofs.Stepping.{vain_waits}
@@ -40,10 +43,11 @@ use Rattle.mq_actor.specs.Goes.{shapes_of, Goes}
 use Rattle.mq_actor.proofs.Searches.{Same, each_at, done_seeks}
 use Rattle.mq_actor.proofs.Beside.{framed_leaves, framed_has, wrote_leaves, finished_leaves, took_leaves, Shaped, queued_leaves}
 use Rattle.mq_actor.proofs.Shapes.{contains_head}
-use Rattle.mq_actor.proofs.Replies.{stays_with, opens_with, closes_with, goes_before, asked_close, Opened, Full, asked_open}
+use Rattle.mq_actor.proofs.Replies.{stays_with, opens_with, closes_with, tells_with, goes_before, Wrote, asked_close, Opened, Full, asked_open, Told, Shut, asked_told}
 use Rattle.mq_actor.proofs.Behind.{mapped, unmapped, Acted, acted_done, conn_of}
 use Rattle.mq_actor.proofs.Ending.{Ends, act_ends, failed_same, port_same, write_ends, read_ends, receive_ends}
 use Rattle.mq_actor.proofs.Starving.{want_heard}
+use Rattle.mq_actor.proofs.Telling.{judged_shaped, pushed_shaped, told_shaped, front_shuts, asks_of}
 
 -- What a step leaves of a connection, and what it did to its tunnels and to the book.
 pub record Left (old : Conn) (sh : Shared) (new : Conn) (after : Shared) : Type 0 where
@@ -69,6 +73,17 @@ left_same s t sh after same after_is = record {
   goes = stays_with s sh t.tunnels after (ap shapes_of same.tunnels) after_is;
   next = inl same.next;
 }
+
+shaped_book : (s t : Conn) (sh after : Shared) → Shaped s t → after.book ≡ sh.book → Left s sh t after
+shaped_book s t sh after shaped book = record {
+  number = shaped.number;
+  actor = shaped.actor;
+  goes = inl (record { tunnels_are = shaped.shapes; book = book });
+  next = inl shaped.next;
+}
+
+shaped_left : (s t : Conn) (sh after : Shared) → Shaped s t → after ≡ sh → Left s sh t after
+shaped_left s t sh after shaped after_is = shaped_book s t sh after shaped (ap (λ (x : Shared). x.book) after_is)
 
 left_before : (s x t : Conn) (sh after : Shared) → Same s x → Left x sh t after → Left s sh t after
 left_before s x t sh after same left = record {
@@ -141,60 +156,106 @@ bind_leaves c s t sh after id goal true n conn want after_is is =
 bind_leaves c s t sh after id goal false n conn want after_is is =
     left_kept s t sh after (kept_refused s t n (tail_opens c s conn) is) (done_seeks s t n (Bound false) is) (ap (λ (x : Shared). x.book) after_is)
 
-ask_leaves : (c : Core) (s t : Conn) (sh after : Shared) (asked : Call) (said : Reply) (n : Note) → IsConn c s → want_of s ≡ Ask asked → IsUdpWant (Ask asked)
+-- addresses or ways are asked for, or its tunnel closes, where the history has no place for that
+tell_leaves : (s t : Conn) (sh after : Shared) (tunnel : ℕ) (asked : Call) (said : Reply) (n : Note) → IsFor tunnel asked → Fronted s (Ask asked)
     → Asks sh s.actor asked said after → done s (Replied said) ≡ Some (n, t) → Left s sh t after
-ask_leaves c s t sh after (call.Open conn id actor goal) said n conn_is want udp asks is =
+tell_leaves s t sh after tunnel asked said n of f asks is = by_said (asked_told sh after s.actor tunnel asked said of asks) where
+  by_said : Told sh after s.actor asked said ⊎ Shut sh after s.actor tunnel said → Left s sh t after
+  by_said (inl x) =
+      let shaped = told_shaped s t (Ask asked) f said n x.is is in
+      record {
+        number = shaped.number;
+        actor = shaped.actor;
+        goes = tells_with s sh t.tunnels after tunnel asked said of shaped.shapes x.wrote;
+        next = inl shaped.next;
+      }
+  by_said (inr x) =
+      let same : f.t.id ≡ tunnel = asks_of f.t f.a asked tunnel of f.wants in
+      let closed : done s (Replied reply.Closed) ≡ Some (n, t) = done_with s (Replied said) (Replied reply.Closed) (Some (n, t)) (ap Replied x.said_is) is in
+      let shut = front_shuts s t (Ask asked) f n closed in
+      let W : ℕ → Type 0 = λ k. Wrote sh s.actor (call.Close k) reply.Closed after in
+      record {
+        number = shut.number;
+        actor = shut.actor;
+        goes = closes_with s sh t.tunnels after f.t (found_all (λ (u : Tunnel). Contains s.tunnels u) (λ (u : Tunnel). u.stream == f.id) s.tunnels f.t (All-contains_itself s.tunnels) f.on)
+            shut.tunnels (subst W (sym same) x.wrote);
+        next = inl (done_seeks s t n (Replied said) is);
+      }
+
+-- a push leaves the book
+pushing_book : (did : Bool) (sh : Shared) (parcel : Parcel) → (pushing did sh parcel).book ≡ sh.book
+pushing_book true sh parcel = refl
+pushing_book false sh parcel = refl
+
+ask_leaves : (c : Core) (s t : Conn) (sh after : Shared) (asked : Call) (said : Reply) (n : Note) → IsConn c s → want_of s ≡ Ask asked
+    → Asks sh s.actor asked said after → done s (Replied said) ≡ Some (n, t) → Left s sh t after
+ask_leaves c s t sh after (call.Open conn id actor goal) said n conn_is want asks is =
     open_leaves c s t sh after conn id actor goal said n conn_is want asks is
-ask_leaves c s t sh after (call.Close tunnel) said n conn_is want udp asks is =
+ask_leaves c s t sh after (call.Close tunnel) said n conn_is want asks is =
     let live = close_live c s tunnel conn_is want in
     let same : live.0.id ≡ tunnel = found_id s.tunnels live.0 tunnel live.1 in
     let A : ℕ → Type 0 = λ k. Asks sh s.actor (call.Close k) said after in
     close_leaves s t sh after live.0 (Replied said) n (has_found s tunnel live.0 live.1) (want ∙ ap (λ (k : ℕ). Ask (call.Close k)) (sym same))
     (close_opens c s tunnel conn_is want) (subst A (sym same) asks) is
-ask_leaves c s t sh after (call.Assign tunnel asked) said n conn_is want udp asks is = absurd udp
-ask_leaves c s t sh after (call.Advertise tunnel ranges) said n conn_is want udp asks is = absurd udp
+ask_leaves c s t sh after (call.Assign tunnel list) said n conn_is want asks is =
+    tell_leaves s t sh after tunnel (call.Assign tunnel list) said n refl (fronted s (Ask (call.Assign tunnel list)) want tt) asks is
+ask_leaves c s t sh after (call.Advertise tunnel ranges) said n conn_is want asks is =
+    tell_leaves s t sh after tunnel (call.Advertise tunnel ranges) said n refl (fronted s (Ask (call.Advertise tunnel ranges)) want tt) asks is
 
 say_leaves : (c : Core) (s t : Conn) (sh after : Shared) (n : Note) → IsConn c s → after ≡ sh → done s Said ≡ Some (n, t) → Left s sh t after
 say_leaves c s t sh after n conn after_is is =
     left_kept s t sh after (kept_said s t n (tail_opens c s conn) is) (done_seeks s t n Said is) (ap (λ (x : Shared). x.book) after_is)
 
-want_leaves : (c : Core) (s t : Conn) (sh after : Shared) (w : Want) (a : Answer) (n : Note) → IsConn c s → want_of s ≡ w → IsUdpWant w → IsNotOver w
+want_leaves : (c : Core) (s t : Conn) (sh after : Shared) (w : Want) (a : Answer) (n : Note) → IsConn c s → want_of s ≡ w → IsNotOver w
     → Answers s.actor sh w a after → done s a ≡ Some (n, t) → Left s sh t after
-want_leaves c s t sh after Nothing a n conn want udp over answers is = absurd answers
-want_leaves c s t sh after Say Said n conn want udp over answers is = say_leaves c s t sh after n conn answers is
-want_leaves c s t sh after Say (Bound did) n conn want udp over answers is = absurd answers
-want_leaves c s t sh after Say (Replied said) n conn want udp over answers is = absurd answers
-want_leaves c s t sh after Say (Judged v at) n conn want udp over answers is = absurd answers
-want_leaves c s t sh after Say (Pushed did) n conn want udp over answers is = absurd answers
-want_leaves c s t sh after Say (Put port limit) n conn want udp over answers is = absurd answers
-want_leaves c s t sh after (Bind id goal) Said n conn want udp over answers is = absurd answers
-want_leaves c s t sh after (Bind id goal) (Bound did) n conn want udp over answers is = bind_leaves c s t sh after id goal did n conn want answers is
-want_leaves c s t sh after (Bind id goal) (Replied said) n conn want udp over answers is = absurd answers
-want_leaves c s t sh after (Bind id goal) (Judged v at) n conn want udp over answers is = absurd answers
-want_leaves c s t sh after (Bind id goal) (Pushed did) n conn want udp over answers is = absurd answers
-want_leaves c s t sh after (Bind id goal) (Put port limit) n conn want udp over answers is = absurd answers
-want_leaves c s t sh after (Ask asked) Said n conn want udp over answers is = absurd answers
-want_leaves c s t sh after (Ask asked) (Bound did) n conn want udp over answers is = absurd answers
-want_leaves c s t sh after (Ask asked) (Replied said) n conn want udp over answers is = ask_leaves c s t sh after asked said n conn want udp answers is
-want_leaves c s t sh after (Ask asked) (Judged v at) n conn want udp over answers is = absurd answers
-want_leaves c s t sh after (Ask asked) (Pushed did) n conn want udp over answers is = absurd answers
-want_leaves c s t sh after (Ask asked) (Put port limit) n conn want udp over answers is = absurd answers
-want_leaves c s t sh after (Judge tunnel k flow) a n conn want udp over answers is = absurd udp
-want_leaves c s t sh after (Push parcel) a n conn want udp over answers is = absurd udp
-want_leaves c s t sh after (Send tunnel k payload) Said n conn want udp over answers is = absurd answers
-want_leaves c s t sh after (Send tunnel k payload) (Bound did) n conn want udp over answers is = absurd answers
-want_leaves c s t sh after (Send tunnel k payload) (Replied said) n conn want udp over answers is = absurd answers
-want_leaves c s t sh after (Send tunnel k payload) (Judged v at) n conn want udp over answers is = absurd answers
-want_leaves c s t sh after (Send tunnel k payload) (Pushed did) n conn want udp over answers is = absurd answers
-want_leaves c s t sh after (Send tunnel k payload) (Put port limit) n conn want udp over answers is =
+want_leaves c s t sh after Nothing a n conn want over answers is = absurd answers
+want_leaves c s t sh after Say Said n conn want over answers is = say_leaves c s t sh after n conn answers is
+want_leaves c s t sh after Say (Bound did) n conn want over answers is = absurd answers
+want_leaves c s t sh after Say (Replied said) n conn want over answers is = absurd answers
+want_leaves c s t sh after Say (Judged v at) n conn want over answers is = absurd answers
+want_leaves c s t sh after Say (Pushed did) n conn want over answers is = absurd answers
+want_leaves c s t sh after Say (Put port limit) n conn want over answers is = absurd answers
+want_leaves c s t sh after (Bind id goal) Said n conn want over answers is = absurd answers
+want_leaves c s t sh after (Bind id goal) (Bound did) n conn want over answers is = bind_leaves c s t sh after id goal did n conn want answers is
+want_leaves c s t sh after (Bind id goal) (Replied said) n conn want over answers is = absurd answers
+want_leaves c s t sh after (Bind id goal) (Judged v at) n conn want over answers is = absurd answers
+want_leaves c s t sh after (Bind id goal) (Pushed did) n conn want over answers is = absurd answers
+want_leaves c s t sh after (Bind id goal) (Put port limit) n conn want over answers is = absurd answers
+want_leaves c s t sh after (Ask asked) Said n conn want over answers is = absurd answers
+want_leaves c s t sh after (Ask asked) (Bound did) n conn want over answers is = absurd answers
+want_leaves c s t sh after (Ask asked) (Replied said) n conn want over answers is = ask_leaves c s t sh after asked said n conn want answers is
+want_leaves c s t sh after (Ask asked) (Judged v at) n conn want over answers is = absurd answers
+want_leaves c s t sh after (Ask asked) (Pushed did) n conn want over answers is = absurd answers
+want_leaves c s t sh after (Ask asked) (Put port limit) n conn want over answers is = absurd answers
+want_leaves c s t sh after (Judge tunnel k flow) Said n conn want over answers is = absurd answers
+want_leaves c s t sh after (Judge tunnel k flow) (Bound did) n conn want over answers is = absurd answers
+want_leaves c s t sh after (Judge tunnel k flow) (Replied said) n conn want over answers is = absurd answers
+want_leaves c s t sh after (Judge tunnel k flow) (Judged v at) n conn want over answers is =
+    let w : Want = Judge tunnel k flow in shaped_left s t sh after (judged_shaped s t w (fronted s w want tt) v at n is) answers.2
+want_leaves c s t sh after (Judge tunnel k flow) (Pushed did) n conn want over answers is = absurd answers
+want_leaves c s t sh after (Judge tunnel k flow) (Put port limit) n conn want over answers is = absurd answers
+want_leaves c s t sh after (Push parcel) Said n conn want over answers is = absurd answers
+want_leaves c s t sh after (Push parcel) (Bound did) n conn want over answers is = absurd answers
+want_leaves c s t sh after (Push parcel) (Replied said) n conn want over answers is = absurd answers
+want_leaves c s t sh after (Push parcel) (Judged v at) n conn want over answers is = absurd answers
+want_leaves c s t sh after (Push parcel) (Pushed did) n conn want over answers is =
+    let w : Want = Push parcel in
+    shaped_book s t sh after (pushed_shaped s t w (fronted s w want tt) did n is) (ap (λ (x : Shared). x.book) answers.1 ∙ pushing_book did sh parcel)
+want_leaves c s t sh after (Push parcel) (Put port limit) n conn want over answers is = absurd answers
+want_leaves c s t sh after (Send tunnel k payload) Said n conn want over answers is = absurd answers
+want_leaves c s t sh after (Send tunnel k payload) (Bound did) n conn want over answers is = absurd answers
+want_leaves c s t sh after (Send tunnel k payload) (Replied said) n conn want over answers is = absurd answers
+want_leaves c s t sh after (Send tunnel k payload) (Judged v at) n conn want over answers is = absurd answers
+want_leaves c s t sh after (Send tunnel k payload) (Pushed did) n conn want over answers is = absurd answers
+want_leaves c s t sh after (Send tunnel k payload) (Put port limit) n conn want over answers is =
     left_kept s t sh after (kept_put s t n port limit (tail_opens c s conn) is) (done_seeks s t n (Put port limit) is) (ap (λ (x : Shared). x.book) answers)
-want_leaves c s t sh after (Over why) a n conn want udp over answers is = absurd over
+want_leaves c s t sh after (Over why) a n conn want over answers is = absurd over
 
 act_leaves : (c : Core) (old new : Held) (sh after : Shared) (answer : Answer) (said : Note) → IsConn c old.conn → ActNext old sh answer said (Some new) after
     → Left old.conn sh new.conn after
 act_leaves c old new sh after answer said conn next =
     let did = acted_done old new (want_of old.conn) answer said next.is in
-    want_leaves c old.conn new.conn sh after (want_of old.conn) answer said conn refl (udp_want c old.conn conn) did.over next.answers did.is
+    want_leaves c old.conn new.conn sh after (want_of old.conn) answer said conn refl did.over next.answers did.is
 
 -- ---- what it does beside its wants
 
@@ -202,14 +263,6 @@ frame_leaves : (s t : Conn) (sh after : Shared) (n : Note) → framed s ≡ Some
 frame_leaves s t sh after n is after_is =
     let f = framed_leaves s t n is in
     record { number = f.number; actor = f.actor; goes = stays_with s sh t.tunnels after f.shapes after_is; next = inr (f.tunnel, framed_has s t f, f.next) }
-
-shaped_left : (s t : Conn) (sh after : Shared) → Shaped s t → after ≡ sh → Left s sh t after
-shaped_left s t sh after shaped after_is = record {
-  number = shaped.number;
-  actor = shaped.actor;
-  goes = stays_with s sh t.tunnels after shaped.shapes after_is;
-  next = inl shaped.next;
-}
 
 received_shaped : (s t : Conn) (o : Option Tunnel) (from : From) (k : ℕ) (datagram : List ℕ) (n : Note)
     → option_map (λ (u : Tunnel). settled_note (queued s u from k datagram)) o ≡ Some (n, t) → Shaped s t
@@ -366,4 +419,4 @@ pub starved_goes : (c : Core) (old : Held) (sh after : Shared) (asked : Bool) (t
     → IsConn c old.conn → Heard asked old sh try answer tunnels after → Goes old.conn sh tunnels after
 starved_goes c old sh after false try answer tunnels conn heard = stays_with old.conn sh tunnels after (ap shapes_of heard.1) heard.2
 starved_goes c old sh after true try answer tunnels conn heard =
-    want_heard c old.conn sh after (want_of old.conn) answer tunnels conn refl (udp_want c old.conn conn) heard.takes heard.answers heard.tunnels_are
+    want_heard c old.conn sh after (want_of old.conn) answer tunnels conn refl heard.takes heard.place heard.answers heard.tunnels_are

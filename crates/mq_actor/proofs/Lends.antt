@@ -73,7 +73,6 @@ module _ {L Q : Type 0} (most : Q → ℕ) (table : Slab Q) (r : Ring L) (w : Wo
         conns = held_set most table r.conns.items w.conns i h link at x.conns;
         next = x.next;
         actors = x.actors;
-        udp = x.udp;
         rooms = x.rooms;
         ports = own_ports_set most table table r.conns.items w.conns i h g x.conns x.ports at (λ key port there other. (there, other));
         numbers = subst (λ (ns : List ℕ). AreDistinct (ns ++ map offer_number r.offered.items)) (sym same) x.numbers;
@@ -91,7 +90,6 @@ module _ {L Q : Type 0} (most : Q → ℕ) (table : Slab Q) (r : Ring L) (w : Wo
         conns = x.conns;
         next = x.next;
         actors = x.actors;
-        udp = x.udp;
         rooms = x.rooms;
         ports = x.ports;
         numbers = subst (λ (ns : List ℕ). AreDistinct (map conn_number r.conns.items ++ ns)) (sym same) x.numbers;
@@ -212,7 +210,6 @@ module _ {Q : Type 0} (most : Q → ℕ) (table after : Slab Q) (sized : AreSize
     conns = helds_sized r.conns.items w.conns x.conns;
     next = x.next;
     actors = x.actors;
-    udp = x.udp;
     rooms = x.rooms;
     ports = x.ports;
     numbers = x.numbers;

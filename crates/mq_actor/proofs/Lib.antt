@@ -13,6 +13,8 @@ mod Searches
 mod Shapes
 mod Beside
 mod Replies
+mod Telling
+pub mod Placing
 mod Behind
 mod Ending
 mod Emptying

@@ -2,9 +2,12 @@
 use Rattle.std.proofs.Common.{◌≡◌, ◌≢◌, inl, inr, ◌⊎◌, ℕ, zero, suc, ◌+◌, ◌<◌, ◌≤◌, ◌==◌, Bool, true, false, cond}
 use Rattle.std.proofs.Common.{List, [], ◌∷◌, ◌++◌, map, length, remove, Option, Some, None, slice_get, slice_set, find, refl, sym, ap, subst, ◌∙◌, arith}
 use Rattle.std.proofs.lemmas.Bool.{cases_eq, eq-eqb, ne_eqb}
+use Rattle.mq_talk.specs.declared.goal.Goal.{Goal}
+use Rattle.mq_talk.specs.declared.goal.Goal.TheVariants as goal
 use Rattle.mq_actor.proofs.Cores.{AreApart}
-use Rattle.mq_machine.specs.State.{Held, Worker}
+use Rattle.mq_machine.specs.State.{Held, Tunnel, Worker}
 use Rattle.mq_machine.specs.Turn.{Seat, Offers, Inbox, Of, seats_of, replace}
+use Rattle.mq_step.specs.Holds.{numbers_of as ids_of, port_number}
 
 -- ---- of maps, sets and removals
 
@@ -20,6 +23,22 @@ pub map_get : {A B : Type 0} (f : A → B) (xs : List A) (i : ℕ) (y : B) → s
 map_get f [] i y at = absurd cc
 map_get f (x ∷ xs) zero y at = let e : f x ≡ y = cc in (x, refl, sym e)
 map_get f (x ∷ xs) (suc i) y at = map_get f xs i y at
+
+-- a tunnel has this number
+abbrev pub HasNumber : List Tunnel → ℕ → Type 0
+HasNumber ts n = (j : ℕ) × (t : Tunnel) × (slice_get ts j ≡ Some t) × (t.id ≡ n)
+
+-- a number of a tunnel for UDP is that of one of them
+pub number_at : (ts : List Tunnel) (i n : ℕ) → slice_get (ids_of ts) i ≡ Some n → HasNumber ts n
+number_at [] i n at = absurd cc
+number_at (u ∷ ts) i n at = by_goal u.goal i at (λ k at_k. later (number_at ts k n at_k)) where
+  later : HasNumber ts n → HasNumber (u ∷ ts) n
+  later (j, t, at_t, is) = (suc j, t, at_t, is)
+
+  by_goal : (g : Goal) (k : ℕ) → slice_get (port_number g u.id ++ ids_of ts) k ≡ Some n → ((k : ℕ) → slice_get (ids_of ts) k ≡ Some n → HasNumber (u ∷ ts) n) → HasNumber (u ∷ ts) n
+  by_goal (goal.Udp addr port) zero at_k rest = (0, u, refl, cc)
+  by_goal (goal.Udp addr port) (suc k) at_k rest = rest k at_k
+  by_goal (goal.Ip area protocol) k at_k rest = rest k at_k
 
 -- a map of a list without the element at a place
 pub map_remove : {A B : Type 0} (f : A → B) (xs : List A) (i : ℕ) → map f (remove xs i) ≡ remove (map f xs) i

@@ -1,7 +1,7 @@
 -- The connections beside one that acts.
-use Rattle.std.proofs.Common.{◌≡◌, ◌≢◌, ℕ, List, length, slice_get, Option, Some, sym, ap, subst, ◌∙◌, arith}
+use Rattle.std.proofs.Common.{◌≡◌, ◌≢◌, ℕ, List, length, slice_get, Some, sym, ap, subst, ◌∙◌, arith}
 use Rattle.std.proofs.lemmas.List.{length-map}
-use Rattle.mq_talk.specs.Mails.{Boxes, IsTold}
+use Rattle.mq_talk.specs.Mails.{IsTold}
 use Rattle.slab.specs.Slab.{Slab}
 use Rattle.mq_machine.specs.State.{Conn, Link, Held, Worker}
 use Rattle.mq_machine.specs.Acting.{Outside, PortsTold}
@@ -52,12 +52,12 @@ fine_still L most table n F id g u safe fine =
           let B : Link → Type 0 = λ l. IsTold (n.link u.conn.number) l in
           subst A (sym conn) (subst B (sym link) fine.link)
 
-module _ {L Q : Type 0} (words : Words L Q) (r m : Ring L) (old mid new : Moment L Q) (boxes boxes_now : Option Boxes) (count : ℕ)
-    (tried : Tried) (offers_tried inbox_tried : Type 0) (so : SoFar words r m old mid boxes boxes_now count tried offers_tried inbox_tried)
+module _ {L Q : Type 0} (words : Words L Q) (r m : Ring L) (old mid new : Moment L Q) (count : ℕ)
+    (tried : Tried) (offers_tried inbox_tried : Type 0) (so : SoFar words r m old mid count tried offers_tried inbox_tried)
     (o n : Outside) (sees : SeesRing words old.table old.binds r o) (x : Worker) (is : IsWorker words.most old.table r x)
     (place : ℕ) (was now : HeldBy L) (at : slice_get mid.conns place ≡ Some was) where
-  at_place : (i : ℕ) (s : Held) → slice_get x.conns i ≡ Some s → At words r m old mid boxes boxes_now count tried offers_tried inbox_tried so o n sees x is i s
-  at_place i s there_is = placed words r m old mid boxes boxes_now count tried offers_tried inbox_tried so o n sees x is i s there_is
+  at_place : (i : ℕ) (s : Held) → slice_get x.conns i ≡ Some s → At words r m old mid count tried offers_tried inbox_tried so o n sees x is i s
+  at_place i s there_is = placed words r m old mid count tried offers_tried inbox_tried so o n sees x is i s there_is
 
   -- as many connections stand there as the worker has
   pub as_many : length mid.conns ≡ length x.conns

@@ -2,8 +2,6 @@
 use Rattle.std.proofs.Common.{◌≡◌, ◌≢◌, inl, inr, ◌⊎◌, ℕ, List, [], ◌∷◌, ◌++◌, length, map, All, slice_get, Some, refl, sym, ap, subst, ◌∙◌}
 use Rattle.std.proofs.lemmas.List.{map-append, append_assoc}
 use Rattle.slab.specs.Slab.{Slab}
-use Rattle.mq_addr.specs.declared.kind.Kind.TheVariants as kind
-use Rattle.mq_machine.specs.declared.setup.Setup.{Setup}
 use Rattle.mq_machine.specs.State.{Link, Offer, Worker, with_offer}
 use Rattle.mq_held.specs.declared.held.Held.{Held as HeldBy}
 use Rattle.mq_step.specs.declared.rooms.Rooms.{Rooms}
@@ -47,7 +45,6 @@ offered_stands {L} {Q} most table r s number link w held free more rest is =
     let H : List (HeldBy L) → Type 0 = λ gs. AreHeld most table gs w.conns in
     let P : List (HeldBy L) → Type 0 = λ gs. HaveOwnPorts gs in
     let R : Rooms → Type 0 = λ z. HasRooms z in
-    let U : Setup → Type 0 = λ z. z.udp.kind ≡ kind.Udp in
     record {
       id = is.id ∙ sym (ap (λ (z : Ring L). z.id) rest);
       setup = is.setup ∙ sym (ap (λ (z : Ring L). z.setup) rest);
@@ -55,7 +52,6 @@ offered_stands {L} {Q} most table r s number link w held free more rest is =
       conns = subst H (sym (ap (λ (z : Ring L). z.conns.items) rest)) is.conns;
       next = is.next ∙ sym (ap (λ (z : Ring L). z.next_seat) rest);
       actors = is.actors;
-      udp = subst U (sym (ap (λ (z : Ring L). z.setup) rest)) is.udp;
       rooms = subst R (sym (ap (λ (z : Ring L). z.rooms) rest)) is.rooms;
       ports = subst P (sym (ap (λ (z : Ring L). z.conns.items) rest)) is.ports;
       numbers = subst AreDistinct numbers (distinct_more (numbers_of r.conns.items r.offered.items) number free is.numbers);

@@ -5,14 +5,17 @@ use Rattle.std.proofs.lemmas.Bool.{cases_eq, eq-eqb, ne_eqb}
 use Rattle.std.proofs.lemmas.List.{length-append}
 use Rattle.std.proofs.lemmas.List.Elements.{Contains-append_left, Contains-push, Contains-push_cases}
 use Rattle.mq_addr.specs.declared.range.Range.{Range}
+use Rattle.mq_talk.specs.declared.book.Call.{Call}
 use Rattle.mq_talk.specs.declared.book.Entry.{Entry}
+use Rattle.mq_talk.specs.declared.book.Reply.{Reply}
 use Rattle.mq_talk.specs.declared.goal.Goal.{Goal}
 use Rattle.mq_talk.specs.Book.{History}
 use Rattle.mq_talk.specs.Offices.{Seen, Sees}
 use Rattle.mq_machine.specs.State.{Tunnel, Conn, Shared}
 use Rattle.mq_machine.specs.Acting.{IsOpen}
-use Rattle.mq_actor.specs.Goes.{Shape, shape_of, shapes_of, Stays, Opens, Closes, Goes}
-use Rattle.mq_actor.proofs.Books.{stays_open, was_open, open_once, own_opening, own_close, open_behind, opens, open_before, open_beside, beside_open}
+use Rattle.mq_held.specs.Answers.{IsFor}
+use Rattle.mq_actor.specs.Goes.{Shape, shape_of, shapes_of, Stays, Opens, Closes, Tells, Goes}
+use Rattle.mq_actor.proofs.Books.{stays_open, was_open, open_once, own_opening, own_close, open_behind, opens, open_before, open_beside, beside_open, own_telling, open_told, told_open}
 use Rattle.mq_actor.proofs.Cores.{in_map, in_filter, passes, stays, shaped}
 
 -- ---- tunnels of connections that the book has open
@@ -162,6 +165,16 @@ closes_open before after book actor number tunnel stream goal are others has now
   by_case (inl same) = let P : ℕ → Type 0 = λ k. Contains (after k) x ↔ IsOpen more actor t k on to in subst P (sym same) here
   by_case (inr ne) = let P : List Shape → Type 0 = λ xs. Contains xs x ↔ IsOpen more actor t conn on to in subst P (sym (others conn ne)) (there ne)
 
+-- ---- addresses or ways were asked for
+
+tells_open : (shapes : ℕ → List Shape) (book : History) (actor tunnel : ℕ) (asked : Call) (said : Reply) → IsFor tunnel asked → AreOpen shapes book actor
+    → AreOpen shapes (book ++ own_telling actor asked said ∷ []) actor
+tells_open shapes book actor tunnel asked said of are t conn on to =
+    let is = are t conn on to in (
+      λ has. open_told book actor tunnel asked said t conn on to of (is.0 has),
+      λ live. is.1 (told_open book actor tunnel asked said t conn on to of live),
+    )
+
 -- ---- what a step of a connection does
 
 all_stay : (before after : ℕ → List Shape) (number : ℕ) → OthersStay before after number → after number ≡ before number → (conn : ℕ) → after conn ≡ before conn
@@ -178,7 +191,7 @@ goes_open before after c sh end tunnels are others was now goes = by_case goes w
   P : History → Type 0
   P book = AreOpen after book c.actor
 
-  by_case : Stays c sh tunnels end ⊎ (Opens c sh tunnels end ⊎ Closes c sh tunnels end) → P end.book
+  by_case : Stays c sh tunnels end ⊎ (Opens c sh tunnels end ⊎ (Closes c sh tunnels end ⊎ Tells c sh tunnels end)) → P end.book
   by_case (inl is) =
       let same = all_stay before after c.number others (now ∙ is.tunnels_are ∙ sym was) in
       subst P (sym is.book) (same_open before after sh.book c.actor same are)
@@ -186,11 +199,15 @@ goes_open before after c sh end tunnels are others was now goes = by_case goes w
       let new : Shape = shaped (length sh.book) is.stream is.goal in
       let here : after c.number ≡ before c.number ++ new ∷ [] = now ∙ is.tunnels_are ∙ ap (λ (xs : List Shape). xs ++ new ∷ []) (sym was) in
       subst P (sym is.book) (opens_open before after sh.book c.actor c.number is.stream is.goal is.routes are others here)
-  by_case (inr (inr is)) =
+  by_case (inr (inr (inl is))) =
       let Has : List Shape → Type 0 = λ xs. Contains xs (shape_of is.closed) in
       let has = subst Has (sym was) (in_map shape_of c.tunnels is.closed is.has) in
       let here = now ∙ is.tunnels_are ∙ ap (λ (xs : List Shape). filter (is_other is.closed.id) xs) (sym was) in
       subst P (sym is.book) (closes_open before after sh.book c.actor c.number is.closed.id is.closed.stream is.closed.goal are others has here)
+  by_case (inr (inr (inr is))) =
+      let same = all_stay before after c.number others (now ∙ is.tunnels_are ∙ sym was) in
+      let are_told = tells_open before sh.book c.actor is.tunnel is.asked is.said is.of are in
+      subst P (sym is.book) (same_open before after (sh.book ++ own_telling c.actor is.asked is.said ∷ []) c.actor same are_told)
 
 -- the book only grows
 pub goes_longer : (c : Conn) (sh end : Shared) (tunnels : List Tunnel) → Goes c sh tunnels end → length sh.book ≤ length end.book
@@ -199,8 +216,12 @@ goes_longer c sh end tunnels (inr (inl is)) =
     let e : Entry = own_opening sh.book c.actor c.number is.stream is.goal is.routes in
     let long = ap (λ (h : History). length h) is.book ∙ length-append sh.book (e ∷ []) in
     omega (arith, long)
-goes_longer c sh end tunnels (inr (inr is)) =
+goes_longer c sh end tunnels (inr (inr (inl is))) =
     let e : Entry = own_close c.actor is.closed.id in
+    let long = ap (λ (h : History). length h) is.book ∙ length-append sh.book (e ∷ []) in
+    omega (arith, long)
+goes_longer c sh end tunnels (inr (inr (inr is))) =
+    let e : Entry = own_telling c.actor is.asked is.said in
     let long = ap (λ (h : History). length h) is.book ∙ length-append sh.book (e ∷ []) in
     omega (arith, long)
 

@@ -17,11 +17,12 @@ use Rattle.mq_talk.specs.declared.place.Place.{Place}
 use Rattle.mq_talk.specs.declared.place.Place.TheVariants as place
 use Rattle.mq_machine.specs.State.{Conn, Tunnel, Held, Worker, kind_of, tunnel_of}
 use Rattle.mq_machine.specs.Turn.{came_to, has_tunnel, popped, replace, source_of, tunnel_in}
+use Rattle.mq_machine.specs.Steps.{passed_on}
 use Rattle.mq_machine.specs.Words.{onward}
 use Rattle.mq_machine.specs.Acting.{Outside}
 use Rattle.mq_conn.specs.declared.conn.Conn.{Conn as Core}
 use Rattle.mq_conn.specs.Conns.{IsConn}
-use Rattle.mq_conn.specs.Frames.{Delivers, comes, comes_in, delivered, passed_on}
+use Rattle.mq_conn.specs.Frames.{Delivers, comes, comes_in, delivered}
 use Rattle.mq_held.specs.declared.held.Held.{Held as HeldBy}
 use Rattle.mq_step.specs.Holds.{IsHeld}
 use Rattle.mq_actor.specs.Holds.{AreHeld, AreOthers, HaveOwnPorts}

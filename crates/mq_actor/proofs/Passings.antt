@@ -1,5 +1,5 @@
 -- Connections that were passed over, one after the other.
-use Rattle.std.proofs.Common.{◌≡◌, ◌↔◌, ◌⊎◌, inl, inr, ℕ, zero, suc, ◌<◌, ◌≤◌, List, [], ◌∷◌, map, length, All, slice_get, slice_set}
+use Rattle.std.proofs.Common.{◌≡◌, ◌↔◌, ◌⊎◌, inl, inr, ℕ, zero, suc, ◌<◌, List, [], ◌∷◌, map, length, All, slice_get, slice_set}
 use Rattle.std.proofs.Common.{Some, None, Result, Ok, refl, sym, ap, subst, ◌∙◌, arith}
 use Rattle.std.proofs.lemmas.Bool.{cases_eq}
 use Rattle.std.proofs.lemmas.List.{length-set}
@@ -117,6 +117,7 @@ none_passed words m tried none = record {
   size = refl;
   at = λ place h at. untouched words m m tried place h at (all_stay m.table h) (none place h at);
   seen = refl;
+  boxes = refl;
   binds = refl;
 }
 
@@ -135,6 +136,7 @@ passed_as words old new V W same p = record {
     still = λ not_so. x.still (λ is. not_so ((same place h at).0 is));
   };
   seen = p.seen;
+  boxes = p.boxes;
   binds = p.binds;
 }
 
@@ -193,6 +195,7 @@ module _ {L Q : Type 0} (words : Words L Q) (old mid new : Moment L Q) (V W : Tr
     size = two.size ∙ one.size;
     at = λ place h at. let a = one.at place h at in then_at apart place h a (two.at place a.now a.at);
     seen = two.seen ∙ one.seen;
+    boxes = two.boxes ∙ one.boxes;
     binds = two.binds ∙ one.binds;
   }
 
@@ -289,10 +292,11 @@ module _ {L Q : Type 0} (words : Words L Q) (setup : Setup) (old new : Moment L 
     size = ap (λ (hs : List (HeldBy L)). length hs) conns ∙ length-set old.conns place now;
     at = at;
     seen = (acts.calm refl).0;
+    boxes = (acts.calm refl).2;
     binds = (acts.calm refl).1;
   } where
     waited : (p q : Outside) → SeesConn words old.table was p → SeesConn words new.table now q → (s : Held) → IsHeld words.most old.table was s
-        → Waited tries_of (with_binds old.binds p) (with_binds new.binds q) old.seen new.seen s × IsHeld words.most new.table now s
+        → Waited tries_of (with_binds old.binds p) (with_binds new.binds q) old.seen new.seen old.boxes new.boxes s × IsHeld words.most new.table now s
     waited p q so sn s held = acts.gives (with_binds old.binds p) (with_binds new.binds q) (sees_binds words old.binds old.table was p so)
         (sees_binds words new.binds new.table now q sn) s held
 

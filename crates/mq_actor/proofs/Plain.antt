@@ -116,22 +116,22 @@ module _ {L Q : Type 0} (words : Words L Q) (table : Slab Q) (o : Outside) where
 
 -- ---- the step
 
-module _ {L Q : Type 0} (words : Words L Q) (self : Ring L) (old : Moment L Q) (starts : old.conns ≡ self.conns.items) (boxes : Option Boxes) (count : ℕ)
+module _ {L Q : Type 0} (words : Words L Q) (self : Ring L) (old : Moment L Q) (starts : old.conns ≡ self.conns.items) (count : ℕ)
     (office : old.seen.actor ≡ self.id) (inboxes : count ≡ old.seen.config.workers + 1) where
   -- the ring and what its office and mail tell
-  abbrev pub place : Ring L → Moment L Q → Option Boxes → Place L Q
-  place r m told_boxes = record { ring = r; table = m.table; binds = m.binds; seen = m.seen; boxes = told_boxes }
+  abbrev pub place : Ring L → Moment L Q → Place L Q
+  place r m = record { ring = r; table = m.table; binds = m.binds; seen = m.seen; boxes = m.boxes }
 
-  pub plain_by : (s : Ring L) (new : Moment L Q) (boxes_after : Option Boxes) (result : Result (Option Note) NoMemory)
-      → Promise words self old starts boxes count office inboxes s new boxes_after result → Seen words self old starts boxes count office inboxes s new
+  pub plain_by : (s : Ring L) (new : Moment L Q) (result : Result (Option Note) NoMemory)
+      → Promise words self old starts count office inboxes s new result → Seen words self old starts count office inboxes s new
       → AlwaysTells words.link → AlwaysTells words.port → (o : Outside) (x : Worker) (bs : Boxes) (orders : Orders) → IsWorker words.most old.table self x → TellsRing words old.table self x
-      → Known (sight o old.seen boxes) x → old.seen.is_whole ≡ true → boxes ≡ Some bs
-      → PlainStep words orders bs (place self old boxes) (place s new boxes_after) x result
-  plain_by s new after result promise seen links ports o x bs orders is tell known whole mail =
-      let b = begins words self old starts boxes count office inboxes o x is known in
+      → Known (sight o old.seen old.boxes) x → old.seen.is_whole ≡ true → old.boxes ≡ Some bs
+      → PlainStep words orders bs (place self old) (place s new) x result
+  plain_by s new result promise seen links ports o x bs orders is tell known whole mail =
+      let b = begins words self old starts count office inboxes o x is known in
       let n = seen o x is known in
-      let g = promise b.0 n.0 b.1 n.1 orders x is (known_any words self old starts boxes count office inboxes o b.0 old.seen boxes x known) in
-      let all = tells_all words old.table b.0 old.binds (begun self) x b.1 (record { id = is.id; setup = is.setup; offered = is.offered; conns = is.conns; next = is.next; actors = is.actors; udp = is.udp; rooms = is.rooms; ports = is.ports; numbers = is.numbers }) (record { conns = tell.conns; offered = tell.offered }) in
+      let g = promise b.0 n.0 b.1 n.1 orders x is (known_any words self old starts count office inboxes o b.0 old.seen old.boxes x known) in
+      let all = tells_all words old.table b.0 old.binds (begun self) x b.1 (record { id = is.id; setup = is.setup; offered = is.offered; conns = is.conns; next = is.next; actors = is.actors; rooms = is.rooms; ports = is.ports; numbers = is.numbers }) (record { conns = tell.conns; offered = tell.offered }) in
       record {
         t = g.0;
         stands = g.1;
@@ -142,5 +142,5 @@ module _ {L Q : Type 0} (words : Words L Q) (self : Ring L) (old : Moment L Q) (
         binds_behind = n.1.binds_are;
         known = g.3;
         writes = g.4;
-        gives = told orders (sight b.0 old.seen boxes) (sight n.0 new.seen after) bs x g.0 result all g.2 whole mail g.5;
+        gives = told orders (sight b.0 old.seen old.boxes) (sight n.0 new.seen new.boxes) bs x g.0 result all g.2 whole mail g.5;
       }

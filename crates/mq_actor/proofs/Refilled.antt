@@ -1,5 +1,5 @@
 -- A worker with what is told of links and ports, or else what was found there.
-use Rattle.std.proofs.Common.{◌≡◌, ◌≢◌, inl, inr, ℕ, zero, suc, ◌==◌, Bool, true, false, List, [], ◌∷◌, map, All, Contains, slice_get}
+use Rattle.std.proofs.Common.{◌≡◌, ◌≢◌, ℕ, zero, suc, ◌==◌, Bool, true, false, List, [], ◌∷◌, map, All, Contains, slice_get}
 use Rattle.std.proofs.Common.{Option, Some, None, refl, sym, ap, subst, ◌∙◌}
 use Rattle.std.specs.Prelude.{◌||◌, if◌then◌else◌}
 use Rattle.std.proofs.lemmas.Bool.{eq-eqb, ne_eqb, eqb-true}
@@ -16,7 +16,7 @@ use Rattle.mq_machine.specs.Acting.{Outside, PortsTold, ConnsTold, OffersTold, R
 use Rattle.mq_machine.specs.Acting.{holds_of, holding, bare_port, bare_held, bare, prepared, with_prepared as worker_prepared}
 use Rattle.mq_held.specs.declared.held.Held.{Held as HeldBy}
 use Rattle.mq_held.specs.declared.held.PortSeat.{PortSeat}
-use Rattle.mq_step.specs.Sights.{Found, PortsFit, idle, idle_port, port_if, filled_port}
+use Rattle.mq_step.specs.Sights.{Found, PortsFit, idle, port_if, filled_port}
 use Rattle.mq_step.specs.Whole.{link_if, filled}
 use Rattle.mq_step.specs.Whole.{FaultsFit as HeldFits}
 use Rattle.mq_step.specs.Holds.{IsHeld, IsPort, ArePorts, AreServed, tunnels_of}

@@ -11,9 +11,10 @@ use Rattle.mq_talk.specs.declared.goal.Goal.{Goal}
 use Rattle.mq_talk.specs.Answers.{IsAnswer}
 use Rattle.mq_machine.specs.State.{Conn, Tunnel, Waiting, Shared}
 use Rattle.mq_machine.specs.Shared.{Asks, asked_by}
+use Rattle.mq_held.specs.Answers.{IsFor}
 use Rattle.mq_actor.specs.Goes.{Shape, shapes_of, Goes}
 use Rattle.mq_actor.proofs.Searches.{Same}
-use Rattle.mq_actor.proofs.Shapes.{without_shapes, more_shapes, contains_head}
+use Rattle.mq_actor.proofs.Shapes.{without_shapes, more_shapes}
 
 -- no tunnel came or went
 pub stays_with : (s : Conn) (sh : Shared) (ts : List Tunnel) (after : Shared) → shapes_of ts ≡ shapes_of s.tunnels → after ≡ sh → Goes s sh ts after
@@ -48,12 +49,18 @@ pub closes_with : (s : Conn) (sh : Shared) (ts : List Tunnel) (after : Shared) (
     → ts ≡ filter (λ (u : Tunnel). not (u.id == t.id)) s.tunnels
     → Wrote sh s.actor (call.Close t.id) reply.Closed after → Goes s sh ts after
 closes_with s sh ts after t has ts_are book =
-    inr (inr (record {
+    inr (inr (inl (record {
       closed = t;
       has = has;
       tunnels_are = ap shapes_of ts_are ∙ without_shapes t.id s.tunnels;
       book = book;
-    }))
+    })))
+
+-- addresses or ways of one were asked for
+pub tells_with : (s : Conn) (sh : Shared) (ts : List Tunnel) (after : Shared) (tunnel : ℕ) (asked : Call) (said : Reply) → IsFor tunnel asked
+    → shapes_of ts ≡ shapes_of s.tunnels → Wrote sh s.actor asked said after → Goes s sh ts after
+tells_with s sh ts after tunnel asked said of shapes book =
+    inr (inr (inr (record { tunnel = tunnel; asked = asked; said = said; of = of; tunnels_are = shapes; book = book })))
 
 -- ---- what comes to the same connection
 
@@ -73,16 +80,26 @@ goes_before s x sh ts after same (inr (inl opens)) =
       tunnels_are = opens.tunnels_are ∙ ap (λ (us : List Tunnel). shapes_of us ++ opened ∷ []) same.tunnels;
       book = opens.book ∙ ap (λ (k : ℕ). entries k x.actor) same.number ∙ ap (λ (k : ℕ). entries s.number k) same.actor;
     }))
-goes_before s x sh ts after same (inr (inr closes)) =
+goes_before s x sh ts after same (inr (inr (inl closes))) =
     let P : List Tunnel → Type 0 = λ us. Contains us closes.closed in
     let left : List Tunnel → List Shape = λ us. filter (λ (y : Shape). not (y.id == closes.closed.id)) (shapes_of us) in
     let entries : ℕ → List Entry = λ by. sh.book ++ record { actor = by; call = call.Close closes.closed.id; reply = reply.Closed } ∷ [] in
-    inr (inr (record {
+    inr (inr (inl (record {
       closed = closes.closed;
       has = subst P same.tunnels closes.has;
       tunnels_are = closes.tunnels_are ∙ ap left same.tunnels;
       book = closes.book ∙ ap entries same.actor;
-    }))
+    })))
+goes_before s x sh ts after same (inr (inr (inr tells))) =
+    let entries : ℕ → List Entry = λ by. sh.book ++ record { actor = by; call = tells.asked; reply = tells.said } ∷ [] in
+    inr (inr (inr (record {
+      tunnel = tells.tunnel;
+      asked = tells.asked;
+      said = tells.said;
+      of = tells.of;
+      tunnels_are = tells.tunnels_are ∙ ap shapes_of same.tunnels;
+      book = tells.book ∙ ap entries same.actor;
+    })))
 
 -- ---- what the book replies
 
@@ -136,3 +153,52 @@ asked_open sh after actor conn id by goal said asks = by_said asks.said asks.is 
   by_said (reply.Assigned list at) is same after_is = absurd is
   by_said (reply.Accepted accepts at) is same after_is = absurd is
   by_said reply.Closed is same after_is = absurd is
+
+-- it gives addresses, or takes ranges up or doesn't
+abbrev pub IsTold : Reply → Type 0
+IsTold (reply.Assigned list at) = Unit {0}
+IsTold (reply.Accepted accepts at) = Unit {0}
+IsTold (reply.Opened tunnel routes) = ⊥
+IsTold (reply.HistoryFull entries live) = ⊥
+IsTold reply.Closed = ⊥
+
+-- addresses or ways were asked for, and the book has that
+pub record Told (sh after : Shared) (actor : ℕ) (asked : Call) (said : Reply) : Type 0 where
+  pub is : IsTold said
+  pub wrote : Wrote sh actor asked said after
+
+-- or the history had no place for that, and the tunnel is closed
+pub record Shut (sh after : Shared) (actor tunnel : ℕ) (said : Reply) : Type 0 where
+  pub said_is : said ≡ reply.Closed
+  pub wrote : Wrote sh actor (call.Close tunnel) reply.Closed after
+
+-- to a request for addresses or ways
+pub asked_told : (sh after : Shared) (actor tunnel : ℕ) (asked : Call) (said : Reply) → IsFor tunnel asked → Asks sh actor asked said after
+    → Told sh after actor asked said ⊎ Shut sh after actor tunnel said
+asked_told sh after actor tunnel asked said of asks = by_said asked of asks.said asks.is asks.reply_is asks.after_is where
+  closed_book : ℕ → List Entry
+  closed_book k = sh.book ++ record { actor = actor; call = call.Close k; reply = reply.Closed } ∷ []
+
+  by_said : (c : Call) → IsFor tunnel c → (r : Reply) → IsAnswer sh.config sh.book c r → said ≡ (asked_by sh.book actor c r).reply
+      → after ≡ record sh { book = (asked_by sh.book actor c r).book }
+      → Told sh after actor c said ⊎ Shut sh after actor tunnel said
+  by_said (call.Open conn id by goal) for r is same after_is = absurd for
+  by_said (call.Close on) for r is same after_is = absurd for
+  by_said (call.Assign on list) for (reply.Opened u routes) is same after_is = absurd is
+  by_said (call.Assign on list) for (reply.Accepted accepts at) is same after_is = absurd is
+  by_said (call.Assign on list) for reply.Closed is same after_is = absurd is
+  by_said (call.Assign on list) for (reply.HistoryFull entries live) is same after_is =
+      inr (record { said_is = same; wrote = ap (λ (x : Shared). x.book) after_is ∙ ap (λ (k : ℕ). closed_book k) for })
+  by_said (call.Assign on list) for (reply.Assigned given at) is same after_is =
+      let e : reply.Assigned given at ≡ said = sym same in
+      let P : Reply → Type 0 = λ x. Told sh after actor (call.Assign on list) x in
+      inl (subst P e (record { is = tt; wrote = ap (λ (x : Shared). x.book) after_is }))
+  by_said (call.Advertise on ranges) for (reply.Opened u routes) is same after_is = absurd is
+  by_said (call.Advertise on ranges) for (reply.Assigned given at) is same after_is = absurd is
+  by_said (call.Advertise on ranges) for reply.Closed is same after_is = absurd is
+  by_said (call.Advertise on ranges) for (reply.HistoryFull entries live) is same after_is =
+      inr (record { said_is = same; wrote = ap (λ (x : Shared). x.book) after_is ∙ ap (λ (k : ℕ). closed_book k) for })
+  by_said (call.Advertise on ranges) for (reply.Accepted accepts at) is same after_is =
+      let e : reply.Accepted accepts at ≡ said = sym same in
+      let P : Reply → Type 0 = λ x. Told sh after actor (call.Advertise on ranges) x in
+      inl (subst P e (record { is = tt; wrote = ap (λ (x : Shared). x.book) after_is }))

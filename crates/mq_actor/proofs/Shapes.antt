@@ -1,5 +1,5 @@
 -- What a tunnel's shape is where what waits in it changes, where one opened or closed, and which tunnel is framed.
-use Rattle.std.proofs.Common.{◌≡◌, ℕ, ◌==◌, cond, Bool, true, false, not, List, [], ◌∷◌, ◌++◌, nat_lt, nat_le, All, Some, None, refl, ap, ◌∙◌, subst, arith}
+use Rattle.std.proofs.Common.{◌≡◌, ℕ, ◌==◌, cond, Bool, true, false, not, List, [], ◌∷◌, ◌++◌, nat_lt, nat_le, All, Some, None, refl, ap, subst, arith}
 use Rattle.std.specs.Prelude.{filter, find, Contains}
 use Rattle.std.proofs.lemmas.List.{map-append}
 use Rattle.std.proofs.lemmas.List.Elements.{All-cons, All-head, All-tail, All-nil, All-filter, All-append}

@@ -15,7 +15,7 @@ use Rattle.mq_machine.specs.State.{Tunnel, Link, Port, Held, Worker}
 use Rattle.mq_machine.specs.Acting.{Outside, IsOpen, Known, Binder}
 use Rattle.mq_held.specs.declared.held.Held.{Held as HeldBy}
 use Rattle.mq_held.specs.declared.held.PortSeat.{PortSeat}
-use Rattle.mq_step.specs.Holds.{ArePorts, AreServed, IsApartFrom, SeatsApart, IsHeld}
+use Rattle.mq_step.specs.Holds.{ArePorts, AreServed, IsApartFrom, SeatsApart, IsHeld, numbers_of as ids_of}
 use Rattle.mq_step.specs.Sights.{SeesPort}
 use Rattle.mq_step.proofs.Places.{apart_at}
 use Rattle.mq_actor.specs.declared.offer.Offer.{Offer as OfferBy}
@@ -27,7 +27,7 @@ use Rattle.mq_actor.proofs.Between.{get_append}
 use Rattle.mq_actor.proofs.Books.{open_once}
 use Rattle.mq_actor.proofs.Cores.{AreApart}
 use Rattle.mq_actor.proofs.InRing.{all_at, at_all}
-use Rattle.mq_actor.proofs.Lists.{found_at, get_map, get_pushed, get_removed, map_get}
+use Rattle.mq_actor.proofs.Lists.{found_at, get_map, get_pushed, get_removed, HasNumber, number_at}
 use Rattle.mq_actor.proofs.Helds.{held_at}
 use Rattle.mq_actor.proofs.Pointwise.{within}
 
@@ -270,23 +270,16 @@ seat_port most table (x ∷ seats) [] are a seat at = absurd are
 seat_port most table (x ∷ seats) (p ∷ ports) are zero seat at = let e : x ≡ seat = cc in (p, refl, are.0.tunnel ∙ ap (λ (y : PortSeat). y.tunnel) e)
 seat_port most table (x ∷ seats) (p ∷ ports) are (suc a) seat at = seat_port most table seats ports are.1 a seat at
 
--- the tunnel at a place has this number
-abbrev HasNumber : List Tunnel → ℕ → ℕ → Type 0
-HasNumber tunnels a tunnel = (t : Tunnel) × (slice_get tunnels a ≡ Some t) × (t.id ≡ tunnel)
-
-tunnel_at : (tunnels : List Tunnel) (a n : ℕ) → slice_get (map (λ (t : Tunnel). t.id) tunnels) a ≡ Some n → HasNumber tunnels a n
-tunnel_at tunnels a n at = let found = map_get (λ (t : Tunnel). t.id) tunnels a n at in (found.0, found.1, sym found.2)
-
-tunnel_same : (tunnels : List Tunnel) (ports : List Port) → map (λ (q : Port). q.tunnel) ports ≡ map (λ (t : Tunnel). t.id) tunnels
-    → (a : ℕ) (p : Port) → slice_get ports a ≡ Some p → HasNumber tunnels a p.tunnel
-tunnel_same tunnels ports same a p at = tunnel_at tunnels a p.tunnel (ap (λ (ns : List ℕ). slice_get ns a) (sym same) ∙ get_map (λ (q : Port). q.tunnel) ports a p at)
+tunnel_same : (tunnels : List Tunnel) (ports : List Port) → map (λ (q : Port). q.tunnel) ports ≡ ids_of tunnels
+    → (a : ℕ) (p : Port) → slice_get ports a ≡ Some p → HasNumber tunnels p.tunnel
+tunnel_same tunnels ports same a p at = number_at tunnels a p.tunnel (ap (λ (ns : List ℕ). slice_get ns a) (sym same) ∙ get_map (λ (q : Port). q.tunnel) ports a p at)
 
 port_tunnel : (ending : Option End) (tunnels : List Tunnel) (ports : List Port) → AreServed ending tunnels ports
-    → (a : ℕ) (p : Port) → slice_get ports a ≡ Some p → HasNumber tunnels a p.tunnel
+    → (a : ℕ) (p : Port) → slice_get ports a ≡ Some p → HasNumber tunnels p.tunnel
 port_tunnel None tunnels ports served a p at = tunnel_same tunnels ports served a p at
 port_tunnel (Some why) tunnels ports (inl same) a p at = tunnel_same tunnels ports same a p at
 port_tunnel (Some why) tunnels ports (inr (last, is)) a p at =
-    tunnel_at tunnels a p.tunnel
+    number_at tunnels a p.tunnel
     (ap (λ (ns : List ℕ). slice_get ns a) is ∙ get_append (map (λ (q : Port). q.tunnel) ports) (last ∷ []) a p.tunnel (get_map (λ (q : Port). q.tunnel) ports a p at))
 
 -- the seats of one connection are of tunnels of their own
@@ -308,9 +301,9 @@ own_tunnels {L} most table hs x o seen boxes are apart known = λ i j a b g h u 
       OpenOn : ℕ → ℕ → Type 0
       OpenOn tunnel conn = (stream : ℕ) × (goal : Goal) × IsOpen seen.entries x.id tunnel conn stream goal
 
-      of_tunnel : (i a : ℕ) (s : Held) (seat : PortSeat) → slice_get x.conns i ≡ Some s → HasNumber s.conn.tunnels a seat.tunnel
+      of_tunnel : (i : ℕ) (s : Held) (seat : PortSeat) → slice_get x.conns i ≡ Some s → HasNumber s.conn.tunnels seat.tunnel
           → OpenOn seat.tunnel s.conn.number
-      of_tunnel i a s seat at_s (t, at_t, is) = (
+      of_tunnel i s seat at_s (a, t, at_t, is) = (
         t.stream,
         t.goal,
         (known.tunnels seat.tunnel s.conn.number t.stream t.goal).0 (record {
@@ -328,8 +321,8 @@ own_tunnels {L} most table hs x o seen boxes are apart known = λ i j a b g h u 
           → slice_get g.ports.items a ≡ Some seat → OpenOn seat.tunnel s.conn.number
       open_on i a g s seat at_s is at_seat =
           let p = seat_port most table g.ports.items s.ports is.ports a seat at_seat in
-          let P : ℕ → Type 0 = λ n. HasNumber s.conn.tunnels a n in
-          of_tunnel i a s seat at_s (subst P p.2 (port_tunnel s.conn.ending s.conn.tunnels s.ports is.served a p.0 p.1))
+          let P : ℕ → Type 0 = λ n. HasNumber s.conn.tunnels n in
+          of_tunnel i s seat at_s (subst P p.2 (port_tunnel s.conn.ending s.conn.tunnels s.ports is.served a p.0 p.1))
 
       one_conn : (tunnel m n : ℕ) → OpenOn tunnel m → OpenOn tunnel n → m ≡ n
       one_conn tunnel m n (stream, goal, is) (on, to, also) = open_once seen.entries x.id tunnel n on m stream to goal also is

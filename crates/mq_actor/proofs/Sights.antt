@@ -1,5 +1,5 @@
 -- Behind a step in which a connection acted, an outside sees the ring.
-use Rattle.std.proofs.Common.{◌≡◌, ◌≢◌, ℕ, ◌≤◌, List, [], ◌∷◌, ◌++◌, length, map, remove, All, slice_get, slice_set, Option, Some, None, Result, Ok, Err, refl, sym, ap, subst, ◌∙◌}
+use Rattle.std.proofs.Common.{◌≡◌, ◌≢◌, ℕ, List, [], ◌∷◌, ◌++◌, map, remove, All, slice_get, slice_set, Option, Some, None, Result, Ok, Err, refl, sym, ap, subst, ◌∙◌}
 use Rattle.std.specs.Prelude.{false}
 use Rattle.slab.specs.Slab.{Slab}
 use Rattle.mq_wire.specs.declared.NoMemory.{NoMemory}
@@ -45,15 +45,15 @@ no_seats : {Q : Type 0} (most : Q → ℕ) (table : Slab Q) (seats : List PortSe
 no_seats most table [] are = refl
 no_seats most table (x ∷ seats) are = absurd are
 
-module _ {L Q : Type 0} (words : Words L Q) (r m : Ring L) (old mid new : Moment L Q) (boxes boxes_now : Option Boxes) (count : ℕ)
-    (tried : Tried) (offers_tried inbox_tried : Type 0) (so : SoFar words r m old mid boxes boxes_now count tried offers_tried inbox_tried) (begins : r.ended ≡ None)
+module _ {L Q : Type 0} (words : Words L Q) (r m : Ring L) (old mid new : Moment L Q) (count : ℕ)
+    (tried : Tried) (offers_tried inbox_tried : Type 0) (so : SoFar words r m old mid count tried offers_tried inbox_tried) (begins : r.ended ≡ None)
     (o : Outside) (sees : SeesRing words old.table old.binds r o) (x : Worker) (is : IsWorker words.most old.table r x)
-    (known : Known (sight o old.seen boxes) x) (place : ℕ) (was now : HeldBy L) (at : slice_get mid.conns place ≡ Some was) (untried : tried place was.number → ⊥) (s : Ring L) where
+    (known : Known (sight o old.seen old.boxes) x) (place : ℕ) (was now : HeldBy L) (at : slice_get mid.conns place ≡ Some was) (untried : tried place was.number → ⊥) (s : Ring L) where
   apart : AreApart x.conns
   apart = apart_of words.most old.table r x is
 
-  acting : Here words r m old mid new boxes boxes_now count tried offers_tried inbox_tried so o o sees x is place was now at
-  acting = here words r m old mid new boxes boxes_now count tried offers_tried inbox_tried so o o sees x is place was now at untried
+  acting : Here words r m old mid new count tried offers_tried inbox_tried so o o sees x is place was now at
+  acting = here words r m old mid new count tried offers_tried inbox_tried so o o sees x is place was now at untried
 
   stand : AreHeld words.most mid.table mid.conns x.conns
   stand =
@@ -61,7 +61,7 @@ module _ {L Q : Type 0} (words : Words L Q) (r m : Ring L) (old mid new : Moment
       held_passed words old mid tried x.conns so.passed (subst A (sym so.starts) is.conns)
 
   own : HaveOwnTunnels mid.conns
-  own = own_tunnels words.most mid.table mid.conns x o old.seen boxes stand apart known
+  own = own_tunnels words.most mid.table mid.conns x o old.seen old.boxes stand apart known
 
   numbers_mid : AreDistinct (numbers_of mid.conns r.offered.items)
   numbers_mid =
@@ -72,17 +72,18 @@ module _ {L Q : Type 0} (words : Words L Q) (r m : Ring L) (old mid new : Moment
 
   -- what the step of the connection gives, as an outside sees it alone
   given : (stepped : Result Stepped NoMemory) → Acts words m.setup mid new stepped was now
-      → Gives x.setup tries_of Anything o (lone_sight words new.binds new.table now) old.seen new.seen (IsHeld words.most new.table now) acting.s stepped
+      → Gives x.setup tries_of Anything o (lone_sight words new.binds new.table now) old.seen new.seen old.boxes new.boxes (IsHeld words.most new.table now) acting.s stepped
   given stepped acts =
       let n : Outside = lone_sight words new.binds new.table now in
-      let S : Setup → Type 0 = λ z. Gives z tries_of Anything o n mid.seen new.seen (IsHeld words.most new.table now) acting.s stepped in
-      let E : Seen → Type 0 = λ z. Gives x.setup tries_of Anything o n z new.seen (IsHeld words.most new.table now) acting.s stepped in
+      let S : Setup → Type 0 = λ z. Gives z tries_of Anything o n mid.seen new.seen mid.boxes new.boxes (IsHeld words.most new.table now) acting.s stepped in
+      let E : Seen → Type 0 = λ z. Gives x.setup tries_of Anything o n z new.seen mid.boxes new.boxes (IsHeld words.most new.table now) acting.s stepped in
+      let M : Option Boxes → Type 0 = λ z. Gives x.setup tries_of Anything o n old.seen new.seen z new.boxes (IsHeld words.most new.table now) acting.s stepped in
       let setup : m.setup ≡ x.setup = ap (λ (z : Ring L). z.setup) so.ring ∙ sym is.setup in
       let before : Sees words.link words.link_counts words.port words.port_counts mid.binds mid.table was o = record {
         of_link = acting.seen.of_link;
         of_table = record { ports = acting.seen.of_ports; binds_are = sees.binds_are ∙ sym so.passed.binds };
       } in
-      subst E so.passed.seen (subst S setup (acts.gives o n before (sight_whole words new.binds new.table now acts.apart) acting.s acting.stands))
+      subst M so.passed.boxes (subst E so.passed.seen (subst S setup (acts.gives o n before (sight_whole words new.binds new.table now acts.apart) acting.s acting.stands)))
 
   -- its tunnels are none of the others'
   tunnels_set : (t : Held) (sh after : Shared) → SeatsApart now.ports.items → IsHeld words.most new.table now t → Goes acting.s.conn sh t.conn.tunnels after → SeesBook old.seen sh.book
@@ -93,7 +94,7 @@ module _ {L Q : Type 0} (words : Words L Q) (r m : Ring L) (old mid new : Moment
         let v = tunnel_of_seat words.most new.table now t i a held at_a in
         let other = held_at words.most mid.table mid.conns x.conns j h stand at_h in
         let u = tunnel_of_seat words.most mid.table h other.0 b y other.2 at_y in
-        let differ = goes_apart x o old.seen boxes known apart place j u.0 acting.s other.0 sh t.conn.tunnels after v.0 v.1 u.1 acting.at_is other.1 (λ e. ne (sym e)) goes book v.2 u.2 in
+        let differ = goes_apart x o old.seen old.boxes known apart place j u.0 acting.s other.0 sh t.conn.tunnels after v.0 v.1 u.1 acting.at_is other.1 (λ e. ne (sym e)) goes book v.2 u.2 in
         λ same. differ (v.3 ∙ same ∙ sym u.3)
 
   set_seen : (t : Held) (sh after : Shared) → SeatsApart now.ports.items → IsHeld words.most new.table now t → Goes acting.s.conn sh t.conn.tunnels after → SeesBook old.seen sh.book
@@ -113,7 +114,7 @@ module _ {L Q : Type 0} (words : Words L Q) (r m : Ring L) (old mid new : Moment
       → LeavesRing place was now mid.conns m s stepped result → (n : Outside) × SeesRing words new.table new.binds s n
   acted_seen (Ok Quiet) result acts leaves = absurd leaves
   acted_seen (Ok (Did said)) result acts leaves =
-      let gives = given (Ok (Did said)) acts so.mail.boxes no_orders in
+      let gives = given (Ok (Did said)) acts no_orders in
       let d = gives.1 in
       let n : Outside = lone_sight words new.binds new.table now in
       let F : Held → Held = with_prepared n d.answer in
@@ -128,7 +129,7 @@ module _ {L Q : Type 0} (words : Words L Q) (r m : Ring L) (old mid new : Moment
       (ap (λ (z : Ring L). z.ended) leaves.2 ∙ ap (λ (z : Ring L). z.ended) so.ring ∙ begins)
       (ap (λ (z : Ring L). z.offered.items) leaves.2 ∙ ap (λ (z : Ring L). z.offered.items) so.ring)
   acted_seen (Ok (Ended said)) result acts leaves =
-      let d = given (Ok (Ended said)) acts so.mail.boxes no_orders in
+      let d = given (Ok (Ended said)) acts no_orders in
       let n : Outside = lone_sight words new.binds new.table now in
       let N : Option Held → Type 0 = λ z. TryNext x.setup (filled o d.found acting.s) d.sh d.try d.answer said z d.after in
       let bare = try_ends x.setup was.conn (filled o d.found acting.s) d.sh d.after d.try d.answer said acting.stands.conn d.is (subst N (mapped_none (with_prepared n d.answer) d.became d.then) d.next) in
@@ -147,7 +148,7 @@ module _ {L Q : Type 0} (words : Words L Q) (r m : Ring L) (old mid new : Moment
       (subst NO (sym offered) (subst A (sym leaves.1) (numbers_removed mid.conns r.offered.items place (within mid.conns place was at) numbers_mid)))
       (subst T (sym leaves.1) (own_tunnels_removed mid.conns place own))
   acted_seen (Err refused) result acts leaves =
-      let gives = given (Err refused) acts so.mail.boxes no_orders in
+      let gives = given (Err refused) acts no_orders in
       let d = gives.1 in
       let goes = starved_goes was.conn (filled o d.found acting.s) d.sh d.after d.reached.asked d.try d.answer d.tunnels acting.stands.conn d.heard in
       let TL : List Tunnel → Type 0 = λ ts. Goes acting.s.conn d.sh ts d.after in

@@ -21,22 +21,21 @@ pub record Vain (o n : Outside) (x : Worker) (box : List Parcel) (k : ℕ) (seat
 
 -- ---- of the ring
 
--- the inboxes stay as they are, and this is in the own one
-pub record MailKept (old new : Option Boxes) (count id : ℕ) (box : List Parcel) : Type 0 where
+-- of inboxes with which what is told fits, this is in the own one
+pub record MailKept (mail : Option Boxes) (count id : ℕ) (box : List Parcel) : Type 0 where
   pub boxes : Boxes
-  pub told : IsTold old boxes
-  pub tells : IsTold new boxes
+  pub told : IsTold mail boxes
   pub size : length boxes ≡ count
   pub at : slice_get boxes id ≡ Some box
 
 -- These connections were tried, and the offered links and the inbox where that is said: all in vain. The ring is now m.
-pub record SoFar {L Q : Type 0} (words : Words L Q) (r m : Ring L) (old mid : Moment L Q) (boxes boxes_now : Option Boxes) (count : ℕ) (tried : Tried) (offers_tried inbox_tried : Type 0) : Type 0 where
+pub record SoFar {L Q : Type 0} (words : Words L Q) (r m : Ring L) (old mid : Moment L Q) (count : ℕ) (tried : Tried) (offers_tried inbox_tried : Type 0) : Type 0 where
   pub passed : Passed words old mid tried
   pub starts : old.conns ≡ r.conns.items
   pub ring : m ≡ record r { conns = m.conns; rooms = m.rooms }
   pub offers : offers_tried → OffersWait r
   pub box : List Parcel
-  pub mail : MailKept boxes boxes_now count r.id box
+  pub mail : MailKept old.boxes count r.id box
   pub inbox : inbox_tried → box ≡ []
 
 -- what was tried is all that comes before this seat

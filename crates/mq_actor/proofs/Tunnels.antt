@@ -8,6 +8,7 @@ use Rattle.mq_talk.specs.declared.place.Parcel.{Parcel}
 use Rattle.mq_talk.specs.Book.{History}
 use Rattle.mq_talk.specs.Offices.{Seen, Sees}
 use Rattle.mq_machine.specs.declared.setup.Setup.{Setup}
+use Rattle.mq_machine.specs.Placing.{ArePlaced}
 use Rattle.mq_machine.specs.State.{Conn, new_conn, Held, Worker, held_of, Shared}
 use Rattle.mq_machine.specs.Turn.{replace}
 use Rattle.mq_machine.specs.Acting.{Sight, HasTunnel, IsOpen, Known}
@@ -41,11 +42,16 @@ open_known w book actor are tunnel conn stream goal =
 abbrev IsSeen : ℕ → Conn → Type 0
 IsSeen seen c = c.next_tunnel ≤ seen
 
+-- each packet that it is to push has an inbox
+abbrev HasPlaces : ℕ → Conn → Type 0
+HasPlaces workers c = ArePlaced workers c.due
+
 -- A worker with other connections is known, where these have the tunnels that are open and the numbers that were seen.
 known_with : (old new : Sight) (s t : Worker) → Known old s → t.id ≡ s.id → t.setup ≡ s.setup → new.seen.config ≡ old.seen.config
     → AreOpen (shapes_at (cores_of t.conns)) new.seen.entries s.id → All (IsSeen (length new.seen.entries)) (cores_of t.conns)
+    → All (HasPlaces old.seen.config.workers) (cores_of t.conns)
     → ((boxes : List (List Parcel)) → new.boxes ≡ Some boxes → length boxes ≡ new.seen.config.workers + 1) → Known new t
-known_with old new s t known id setup config are last boxes =
+known_with old new s t known id setup config are last places boxes =
     let workers : new.seen.config.workers ≡ old.seen.config.workers = ap (λ c. c.workers) config in
     let own : s.id < old.seen.config.workers = known.id in
     let A : ℕ → Type 0 = λ actor. AreOpen (shapes_at (cores_of t.conns)) new.seen.entries actor in
@@ -54,6 +60,9 @@ known_with old new s t known id setup config are last boxes =
       pump = ap (λ (x : Setup). x.pump) setup ∙ known.pump ∙ sym workers;
       tunnels = open_known t new.seen.entries t.id (subst A (sym id) are);
       last = each_held (IsSeen (length new.seen.entries)) t.conns last;
+      places =
+          let P : ℕ → Type 0 = λ k. All (HasPlaces k) (cores_of t.conns) in
+          each_held (HasPlaces new.seen.config.workers) t.conns (subst P (sym workers) places);
       boxes = boxes;
     }
 
@@ -75,9 +84,10 @@ number_found [] number h at = absurd cc
 number_found (x ∷ hs) number h at =
     numbered (x.conn.number == number) x h (find (λ (y : Held). y.conn.number == number) hs) number refl (number_found hs number h) at
 
--- what a connection became, if it hasn't ended, has its number, and its search begins where the office has seen
-abbrev pub IsNext : ℕ → ℕ → Option Held → Type 0
-IsNext number seen became = (g : Held) → became ≡ Some g → (g.conn.number ≡ number) × (g.conn.next_tunnel ≤ seen)
+-- what a connection became, if it hasn't ended, has its number, its search begins where the office has seen, and each packet that it
+-- is to push has an inbox
+abbrev pub IsNext : ℕ → ℕ → ℕ → Option Held → Type 0
+IsNext number seen workers became = (g : Held) → became ≡ Some g → (g.conn.number ≡ number) × (g.conn.next_tunnel ≤ seen) × ArePlaced workers g.conn.due
 
 became_open : (hs : List Held) (number : ℕ) (h : Held) (became : Option Held) (sh after : Shared) → AreApart hs
     → find (λ (x : Held). x.conn.number == number) hs ≡ Some h → ((g : Held) → became ≡ Some g → g.conn.number ≡ number)
@@ -103,24 +113,29 @@ became_open hs number h became sh after apart at one are goes =
       is : shapes_at now h.conn.number ≡ shapes_of (tunnels_or became)
       is = ap (λ (k : ℕ). shapes_at now k) number_is ∙ shapes_became hs number became h.conn apart one core_is
 
-became_seen : (hs : List Held) (number seen more : ℕ) (became : Option Held) → seen ≤ more → All (λ (h : Held). h.conn.next_tunnel ≤ seen) hs
-    → IsNext number more became → All (IsSeen more) (cores_of (replace number became hs))
-became_seen hs number seen more became less all next =
+became_seen : (hs : List Held) (number seen more workers : ℕ) (became : Option Held) → seen ≤ more → All (λ (h : Held). h.conn.next_tunnel ≤ seen) hs
+    → IsNext number more workers became → All (IsSeen more) (cores_of (replace number became hs))
+became_seen hs number seen more workers became less all next =
     let P : Held → Type 0 = λ h. IsSeen more h.conn in
     let old : All P hs = All-weaker (λ (h : Held). h.conn.next_tunnel ≤ seen) P (λ h was. omega (arith, was, less)) hs all in
     each_core (IsSeen more) (replace number became hs) (each_replaced (IsSeen more) hs number became old (λ g is. (next g is).1))
 
+became_placed : (hs : List Held) (number more workers : ℕ) (became : Option Held) → All (λ (h : Held). ArePlaced workers h.conn.due) hs
+    → IsNext number more workers became → All (HasPlaces workers) (cores_of (replace number became hs))
+became_placed hs number more workers became all next =
+    each_core (HasPlaces workers) (replace number became hs) (each_replaced (HasPlaces workers) hs number became all (λ g is. (next g is).2))
+
 -- Behind a step of a connection the office knows the worker's tunnels.
 pub known_goes : (old new : Sight) (s t : Worker) (number : ℕ) (h : Held) (became : Option Held) (sh after : Shared)
     → Known old s → old.seen.actor ≡ s.id → AreApart s.conns → Became s t number h became
-    → ((g : Held) → became ≡ Some g → (g.conn.number ≡ number) × (g.conn.next_tunnel ≤ length new.seen.entries))
+    → IsNext number (length new.seen.entries) old.seen.config.workers became
     → h.conn.actor ≡ s.id
     → Sees old.seen sh.book → new.seen.entries ≡ after.book → new.seen.config ≡ old.seen.config
     → Goes h.conn sh (tunnels_or became) after
     → ((boxes : List (List Parcel)) → new.boxes ≡ Some boxes → length boxes ≡ new.seen.config.workers + 1)
     → Known new t
 known_goes old new s t number h became sh after known actor apart is next actor_is sees wrote config goes boxes =
-    known_with old new s t known is.id is.setup config open_now seen_now boxes where
+    known_with old new s t known is.id is.setup config open_now seen_now placed_now boxes where
       cores : List Conn
       cores = cores_of (replace number became s.conns)
 
@@ -150,7 +165,12 @@ known_goes old new s t number h became sh after known actor apart is next actor_
       seen_now : All (IsSeen (length new.seen.entries)) (cores_of t.conns)
       seen_now =
           let C : List Conn → Type 0 = λ cs. All (IsSeen (length new.seen.entries)) cs in
-          subst C (sym is.cores) (became_seen s.conns number (length old.seen.entries) (length new.seen.entries) became longer known.last next)
+          subst C (sym is.cores) (became_seen s.conns number (length old.seen.entries) (length new.seen.entries) old.seen.config.workers became longer known.last next)
+
+      placed_now : All (HasPlaces old.seen.config.workers) (cores_of t.conns)
+      placed_now =
+          let C : List Conn → Type 0 = λ cs. All (HasPlaces old.seen.config.workers) cs in
+          subst C (sym is.cores) (became_placed s.conns number (length new.seen.entries) old.seen.config.workers became known.places next)
 
 -- ---- no connection did anything
 
@@ -162,9 +182,10 @@ known_same old new s t known id setup cores seen boxes =
     let B : Seen → Type 0 = λ x. AreOpen (shapes_at (cores_of t.conns)) x.entries s.id in
     let C : List Conn → Type 0 = λ cs. All (IsSeen (length old.seen.entries)) cs in
     let D : Seen → Type 0 = λ x. All (IsSeen (length x.entries)) (cores_of t.conns) in
+    let E : List Conn → Type 0 = λ cs. All (HasPlaces old.seen.config.workers) cs in
     let last : All (IsSeen (length old.seen.entries)) (cores_of s.conns) = each_core (IsSeen (length old.seen.entries)) s.conns known.last in
     known_with old new s t known id setup (ap (λ (x : Seen). x.config) seen) (subst B (sym seen) (subst A (sym cores) (known_open old s known)))
-    (subst D (sym seen) (subst C (sym cores) last)) boxes
+    (subst D (sym seen) (subst C (sym cores) last)) (subst E (sym cores) (each_core (HasPlaces old.seen.config.workers) s.conns known.places)) boxes
 
 -- a connection without tunnels adds none
 accepted_none : (b : Bool) (number actor : ℕ) → shapes_or (cond b (Some (new_conn number actor)) None) ≡ []
@@ -195,5 +216,7 @@ known_accepted old new s t number known id setup cores seen boxes =
     let are = same_open (shapes_at cs) (shapes_at new_cs) old.seen.entries s.id (accepted_shapes cs number s.id) (known_open old s known) in
     let none : 0 ≤ length old.seen.entries = omega arith in
     let last = All-push (IsSeen (length old.seen.entries)) cs (new_conn number s.id) (each_core (IsSeen (length old.seen.entries)) s.conns known.last) none in
+    let E : List Conn → Type 0 = λ xs. All (HasPlaces old.seen.config.workers) xs in
+    let placed = All-push (HasPlaces old.seen.config.workers) cs (new_conn number s.id) (each_core (HasPlaces old.seen.config.workers) s.conns known.places) tt in
     known_with old new s t known id setup (ap (λ (x : Seen). x.config) seen) (subst B (sym seen) (subst A (sym cores) are))
-    (subst D (sym seen) (subst C (sym cores) last)) boxes
+    (subst D (sym seen) (subst C (sym cores) last)) (subst E (sym cores) placed) boxes

@@ -1,10 +1,13 @@
 -- What a step of a connection does to its tunnels, and to the book.
 use Rattle.std.specs.Prelude.{◌≡◌, ◌⊎◌, ℕ, ◌==◌, not, List, [], ◌∷◌, ◌++◌, length, map, filter, Contains}
 use Rattle.mq_addr.specs.declared.range.Range.{Range}
+use Rattle.mq_talk.specs.declared.book.Call.{Call}
 use Rattle.mq_talk.specs.declared.book.Call.TheVariants as call
+use Rattle.mq_talk.specs.declared.book.Reply.{Reply}
 use Rattle.mq_talk.specs.declared.book.Reply.TheVariants as reply
 use Rattle.mq_talk.specs.declared.goal.Goal.{Goal}
 use Rattle.mq_machine.specs.State.{Tunnel, Conn, Shared}
+use Rattle.mq_held.specs.Answers.{IsFor}
 
 -- a tunnel without what waits in it
 pub record Shape : Type 0 where
@@ -44,6 +47,16 @@ pub record Closes (old : Conn) (sh : Shared) (tunnels : List Tunnel) (after : Sh
   pub book : after.book
       ≡ sh.book ++ record { actor = old.actor; call = call.Close closed.id; reply = reply.Closed } ∷ []
 
+-- addresses or ways of a tunnel were asked for, and no tunnel came or went
+pub record Tells (old : Conn) (sh : Shared) (tunnels : List Tunnel) (after : Shared) : Type 0 where
+  pub tunnel : ℕ
+  pub asked : Call
+  pub said : Reply
+  pub of : IsFor tunnel asked
+  pub tunnels_are : shapes_of tunnels ≡ shapes_of old.tunnels
+  pub book : after.book ≡ sh.book ++ record { actor = old.actor; call = asked; reply = said } ∷ []
+
 -- of a connection with these tunnels then
 abbrev pub Goes : Conn → Shared → List Tunnel → Shared → Type 0
-Goes old sh tunnels after = Stays old sh tunnels after ⊎ (Opens old sh tunnels after ⊎ Closes old sh tunnels after)
+Goes old sh tunnels after =
+    Stays old sh tunnels after ⊎ (Opens old sh tunnels after ⊎ (Closes old sh tunnels after ⊎ Tells old sh tunnels after))

@@ -1,7 +1,6 @@
 -- For which worker a ring of seats stands, whatever links and ports hold.
 use Rattle.std.specs.Prelude.{◌≡◌, ◌≢◌, ⊤, ℕ, List, [], ◌∷◌, ◌++◌, map, slice_get, All, Some, MatchOption}
 use Rattle.slab.specs.Slab.{Slab}
-use Rattle.mq_addr.specs.declared.kind.Kind.TheVariants as kind
 use Rattle.mq_machine.specs.State.{Offer, Held, Worker}
 use Rattle.mq_held.specs.declared.held.Held.{Held as HeldBy}
 use Rattle.mq_held.specs.declared.held.PortSeat.{PortSeat}
@@ -51,7 +50,6 @@ pub record IsWorker {L Q : Type 0} (most : Q → ℕ) (table : Slab Q) (r : Ring
   pub conns : AreHeld most table r.conns.items w.conns
   pub next : w.next_seat ≡ r.next_seat
   pub actors : All (λ (h : Held). h.conn.actor ≡ w.id) w.conns
-  pub udp : r.setup.udp.kind ≡ kind.Udp
   pub rooms : HasRooms r.rooms
   pub ports : HaveOwnPorts r.conns.items
   pub numbers : AreDistinct (numbers_of r.conns.items r.offered.items)

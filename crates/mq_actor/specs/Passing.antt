@@ -1,5 +1,5 @@
 -- Connections that were passed over, and one that acted.
-use Rattle.std.specs.Prelude.{◌≡◌, ⊤, ℕ, ◌+◌, ◌<◌, ◌≤◌, Bool, true, false, nat_le, nat_lt, List, length, remove, slice_get, slice_set, All, Option, Some, None, MatchOption, Result, Ok, Err}
+use Rattle.std.specs.Prelude.{◌≡◌, ⊤, ℕ, ◌+◌, ◌<◌, Bool, true, false, nat_le, nat_lt, List, length, remove, slice_get, slice_set, All, Option, Some, None, MatchOption, Result, Ok, Err}
 use Rattle.slab.specs.Slab.{Slab, get}
 use Rattle.mq_wire.specs.declared.NoMemory.{NoMemory}
 use Rattle.mq_talk.specs.declared.note.Note.{Note}
@@ -70,6 +70,7 @@ pub record Passed {L Q : Type 0} (words : Words L Q) (old new : Moment L Q) (tri
   pub at : (place : ℕ) (h : HeldBy L) → slice_get old.conns place ≡ Some h
       → PassedAt words old new tried place h
   pub seen : new.seen ≡ old.seen
+  pub boxes : new.boxes ≡ old.boxes
   pub binds : new.binds ≡ old.binds
 
 -- ---- one that acted
@@ -80,7 +81,7 @@ pub record Acts {L Q : Type 0} (words : Words L Q) (setup : Setup) (old new : Mo
   pub number : now.number ≡ was.number
   pub others : KeepsOthers was now old.table new.table
   pub stays : stepped ≡ Ok Quiet → now.ports.items ≡ was.ports.items
-  pub calm : stepped ≡ Ok Quiet → (new.seen ≡ old.seen) × (new.binds ≡ old.binds)
+  pub calm : stepped ≡ Ok Quiet → (new.seen ≡ old.seen) × (new.binds ≡ old.binds) × (new.boxes ≡ old.boxes)
   pub apart : SeatsApart now.ports.items
   pub ends : (said : Note) → stepped ≡ Ok (Ended said) → now.ports.items ≡ was.ports.items
   pub still : stepped ≡ Ok Quiet
@@ -89,7 +90,7 @@ pub record Acts {L Q : Type 0} (words : Words L Q) (setup : Setup) (old new : Mo
       → Sees words.link words.link_counts words.port words.port_counts old.binds old.table was o
       → Sees words.link words.link_counts words.port words.port_counts new.binds new.table now n
       → (s : Held) → IsHeld words.most old.table was s
-      → Gives setup tries_of Anything o n old.seen new.seen (IsHeld words.most new.table now) s stepped
+      → Gives setup tries_of Anything o n old.seen new.seen old.boxes new.boxes (IsHeld words.most new.table now) s stepped
 
 -- How it leaves the ring: one that is over is no longer in it. The next search begins behind its seat.
 abbrev pub LeavesRing : {L : Type 0} → ℕ → HeldBy L → HeldBy L → List (HeldBy L) → Ring L → Ring L

@@ -3,6 +3,7 @@ use Rattle.std.specs.Prelude.{◌≡◌, ⊤, ℕ, List, All, Option, MatchOptio
 use Rattle.slab.specs.Slab.{Slab}
 use Rattle.mq_outside.specs.Counts.{LinkCounts, PortCounts}
 use Rattle.mq_outside.specs.Ports.{PortHolds}
+use Rattle.mq_talk.specs.Mails.{Boxes}
 use Rattle.mq_talk.specs.Offices.{Seen}
 use Rattle.mq_machine.specs.State.{Link}
 use Rattle.mq_machine.specs.Acting.{Outside, Binder}
@@ -20,12 +21,13 @@ pub record Words (L Q : Type 0) : Type 0 where
   pub port : Q → Option PortHolds
   pub port_counts : Q → PortCounts
 
--- connections and their ports at one moment, what binds those, and what the office has seen
+-- connections and their ports at one moment, what binds those, what the office has seen, and what the mail tells
 pub record Moment (L Q : Type 0) : Type 0 where
   pub conns : List (HeldBy L)
   pub table : Slab Q
   pub binds : Binder
   pub seen : Seen
+  pub boxes : Option Boxes
 
 -- the outside tells what a connection's link and ports tell
 pub record SeesConn {L Q : Type 0} (words : Words L Q) (table : Slab Q) (h : HeldBy L) (o : Outside) : Type 0 where

@@ -1,6 +1,5 @@
 //! A worker.
 ghost use Rattle.std.specs.Prelude.{◌≡◌, ◌≢◌, ◌+◌, ◌++◌, ◌∷◌, true, Some, None, IfOk, OnOk, IfErr, MatchOption, All, [], length};
-ghost use Rattle.mq_addr.specs.declared.kind.Kind.TheVariants as kind;
 ghost use Rattle.mq_talk.specs.Mails.{Boxes};
 ghost use Rattle.mq_machine.specs.State as machine;
 ghost use Rattle.mq_machine.specs.State.{Orders, new_worker, with_offer};
@@ -33,9 +32,8 @@ pub struct Actor<L, P: Ports> {
 }
 
 impl<L: Drop, P: Ports> Actor<L, P> {
-    /// A worker without connections, with its number. Its template for UDP tunnels is one of that kind.
+    /// A worker without connections, with its number.
     pub fn new(alloc: Global, id: u32, setup: Setup, ports: P) -> Result<Actor<L, P>, NoMemory>
-        requires { setup.udp.kind ≡ kind.Udp }
         ensures stands { IfOk result (λ actor. IsWorker P.P.most actor.table.table actor.ring (new_worker id setup)) }
         ensures empty { IfOk result (λ actor. (actor.alloc ≡ alloc) × (actor.ring.ended ≡ None) × (actor.table.table.slots ≡ []) × (actor.table.ports ≡ ports)) }
     {

@@ -55,7 +55,7 @@ impl<L: WriteReady> Ring<L> {
         if let Some(note) = self.pop(true, mail) {
             return Ok(Some(note));
         }
-        if let Some(note) = self.pass(alloc, true, table, office)? {
+        if let Some(note) = self.pass(alloc, true, table, office, mail)? {
             return Ok(Some(note));
         }
         if let Some(note) = self.accept(alloc, false)? {
@@ -64,6 +64,6 @@ impl<L: WriteReady> Ring<L> {
         if let Some(note) = self.pop(false, mail) {
             return Ok(Some(note));
         }
-        self.pass(alloc, false, table, office)
+        self.pass(alloc, false, table, office, mail)
     }
 }

@@ -1,7 +1,7 @@
 -- On legal histories the live tunnels' blocks and ranges are apart.
 use Rattle.std.proofs.Common.{◌≡◌, ◌≢◌, ℕ, ◌+◌, ◌<◌, ◌≤◌, ◌⊎◌, false, not, List, [], ◌∷◌, ◌++◌, length, Some, None, ap, sym, ◌∙◌, refl, subst, arith, inl, inr}
 use Rattle.std.specs.Prelude.{IsTrue}
-use Rattle.std.specs.List.{All, Any, Contains, filter}
+use Rattle.std.specs.List.{All, Any, Contains}
 use Rattle.std.proofs.lemmas.Bool.{cases_lt, both_ways, and_parts}
 use Rattle.std.proofs.lemmas.List.{length_push, get_or_append_left}
 use Rattle.std.proofs.lemmas.List.Elements.{All-append, All-nil, All-push, All-contains, All-weaker}
@@ -11,13 +11,13 @@ use Rattle.mq_addr.specs.declared.prefix.Prefix.{Prefix}
 use Rattle.mq_addr.specs.declared.entry.Asked.{Asked}
 use Rattle.mq_addr.specs.declared.entry.Given.{Given}
 use Rattle.mq_addr.specs.declared.range.Range.{Range}
-use Rattle.mq_addr.specs.Block.{IsIn, Overlap}
+use Rattle.mq_addr.specs.Block.{Overlap}
 use Rattle.mq_addr.specs.Cover.{IsWithin, IsFree}
 use Rattle.mq_addr.specs.Ranges.{IsInside, RangesMeet, ListsMeet}
 use Rattle.mq_talk.specs.declared.book.Config.{Config}
 use Rattle.mq_talk.specs.declared.book.Entry.{Entry}
 use Rattle.mq_talk.specs.Book.{History, opening, closes, assigned, accepted, is_some_list, is_live, live_tunnels, is_given, held, ranges, blocks, taken}
-use Rattle.mq_talk.specs.Answers.{IsLegal, Follows, MayCall, IsMine, IsAnswer, IsWritten, IsAssigned, IsAcceptable, AreTreated, IsOutcome, IsOffered, Outcome, Keeps, Denies, Gives, taken_by, given_by, denied_by, denial}
+use Rattle.mq_talk.specs.Answers.{AreTreated, IsOutcome, IsOffered, Outcome, Keeps, Denies, Gives, taken_by, given_by, denied_by, denial}
 use Rattle.mq_book.proofs.Members.{stays, in_map, in_flat_map, any_from, in_none}
 use Rattle.mq_book.proofs.More.{live_old, live_new, live_within, held_kept, ranges_kept}
 

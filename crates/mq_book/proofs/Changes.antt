@@ -19,7 +19,7 @@ use Rattle.mq_talk.specs.declared.book.Entry.{Entry}
 use Rattle.mq_talk.specs.declared.book.Call.TheVariants.{Assign, Advertise}
 use Rattle.mq_talk.specs.declared.book.Reply.TheVariants.{Assigned, Accepted}
 use Rattle.mq_talk.specs.Config.{IsConfig, HasNoZero}
-use Rattle.mq_talk.specs.Book.{History, is_live, live_tunnels, is_given, held, ranges, blocks, taken}
+use Rattle.mq_talk.specs.Book.{History, is_live, is_given, held, ranges, blocks, taken}
 use Rattle.mq_talk.specs.Answers.{Follows, IsAssigned, AreTreated}
 use Rattle.mq_book.specs.declared.tunnel.Tunnel.{Tunnel}
 use Rattle.mq_book.specs.declared.assign.Treated.{Treated}

@@ -1,6 +1,7 @@
 pub mod Allowed
 pub mod More
 pub mod Legal
+pub mod Onward
 pub mod Members
 pub mod Apart
 pub mod Owners
@@ -11,3 +12,5 @@ pub mod Treating
 pub mod Changes
 pub mod OneMeet
 pub mod OneAnswer
+pub mod Full
+pub mod Inboxes

@@ -1,5 +1,5 @@
 -- What the listed tunnels stand for, with an entry more.
-use Rattle.std.proofs.Common.{◌≡◌, ◌≢◌, ℕ, zero, suc, ◌+◌, ◌<◌, ◌≤◌, ◌⊎◌, Bool, true, false, not, cond, ◌&&◌, List, [], ◌∷◌, ◌++◌, length, get_or, set, map, Option, Some, None, ap, sym, ◌∙◌, refl, subst, arith, inl, inr}
+use Rattle.std.proofs.Common.{◌≡◌, ◌≢◌, ℕ, zero, suc, ◌+◌, ◌<◌, ◌≤◌, Bool, true, false, not, cond, List, [], ◌∷◌, ◌++◌, length, get_or, set, map, None, ap, sym, ◌∙◌, refl, subst, arith, inl, inr}
 use Rattle.std.specs.Prelude.{IsTrue, ◌==◌}
 use Rattle.std.specs.Option.{unwrap_or}
 use Rattle.std.specs.List.{All, AllPairs, Contains, HoldsAt, filter, range_with_len, remove}
@@ -40,7 +40,7 @@ tunnel_kept h e t is stays_on none no_ways =
       routes_is = is.routes_is ∙ sym (routes_old h e t.number less);
     }
 
-filter_all : (p : ℕ → Bool) (xs : List ℕ) → ((x : ℕ) → p x ≡ true) → filter p xs ≡ xs
+pub filter_all : (p : ℕ → Bool) (xs : List ℕ) → ((x : ℕ) → p x ≡ true) → filter p xs ≡ xs
 filter_all p [] h = refl
 filter_all p (x ∷ xs) h = ap (λ b. cond b (x ∷ filter p xs) (filter p xs)) (h x) ∙ ap (λ ys. x ∷ ys) (filter_all p xs h)
 
@@ -110,7 +110,7 @@ range_rises n i j d less within =
     let low : i < n = omega arith in
     omega (arith, get_or-range_with_len 0 n i d low, get_or-range_with_len 0 n j d high, less)
 
-rise : (h : History) → AllPairs (λ a b. a < b) (live_tunnels h)
+pub rise : (h : History) → AllPairs (λ a b. a < b) (live_tunnels h)
 rise h = AllPairs-filter (λ a b. a < b) (λ t. is_live h t) (range_with_len 0 (length h)) (range_rises (length h))
 
 -- two places have two numbers
@@ -207,7 +207,7 @@ stands_with l m e ts s follows live setup history tunnels few room =
       room = holds;
     }
 
-keeps_all : (p : Tunnel → Bool) (ts : List Tunnel) → All (λ t. p t ≡ true) ts → filter p ts ≡ ts
+pub keeps_all : {X : Type 0} (p : X → Bool) (ts : List X) → All (λ t. p t ≡ true) ts → filter p ts ≡ ts
 keeps_all p [] all = refl
 keeps_all p (t ∷ ts) all =
     let first : 0 < length (t ∷ ts) = omega arith in

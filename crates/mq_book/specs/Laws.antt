@@ -1,5 +1,5 @@
 -- What holds of every history, and of every legal one.
-use Rattle.std.specs.Prelude.{◌≡◌, ℕ, take}
+use Rattle.std.specs.Prelude.{◌≡◌, ℕ, ◌++◌, take}
 use Rattle.mq_addr.specs.declared.addr.Addr.{Addr}
 use Rattle.mq_addr.specs.declared.range.Flow.{Flow}
 use Rattle.mq_talk.specs.declared.book.Config.{Config}
@@ -8,11 +8,14 @@ use Rattle.mq_talk.specs.declared.book.Call.TheVariants.{Open, Assign, Advertise
 use Rattle.mq_talk.specs.declared.book.Reply.{Reply}
 use Rattle.mq_talk.specs.declared.book.Reply.TheVariants.{Opened, HistoryFull, Assigned, Accepted, Closed}
 use Rattle.mq_talk.specs.declared.place.Origin.{Origin}
+use Rattle.mq_talk.specs.declared.place.Place.{Place}
 use Rattle.mq_talk.specs.declared.place.Verdict.{Verdict}
+use Rattle.mq_talk.specs.declared.place.Verdict.TheVariants.{Pass}
 use Rattle.mq_talk.specs.Book.{History, IsOwner, Owns}
-use Rattle.mq_talk.specs.Answers.{IsAnswer, IsLegal}
+use Rattle.mq_talk.specs.Answers.{IsAnswer, IsFull, IsLegal}
 use Rattle.mq_talk.specs.Config.{IsConfig}
 use Rattle.mq_talk.specs.Judging.{IsJudged}
+use Rattle.mq_talk.specs.Mails.{HasInbox}
 
 -- the reply is one that such a call may get
 abbrev pub Fits : Call → Reply → Type 0
@@ -35,6 +38,11 @@ HasOneAnswer = (config : Config) (h : History) (call : Call) (a b : Reply) → I
 abbrev pub BeginsLegal : Type 0
 BeginsLegal = (config : Config) (h : History) (n : ℕ) → IsLegal config h → IsLegal config (take n h)
 
+-- a history that has no place for so many entries has none later, whatever the entries
+abbrev pub StaysFull : Type 0
+StaysFull = (config : Config) (h more : History) (count entries live : ℕ) → IsFull config h count entries live
+    → (entries_later live_later : ℕ) × IsFull config (h ++ more) count entries_later live_later
+
 -- no address lies in blocks or accepted ranges of two live tunnels
 abbrev pub HasOneOwner : Type 0
 HasOneOwner = (config : Config) (h : History) (t u : ℕ) (a : Addr) → IsConfig config → IsLegal config h → IsOwner h t a → IsOwner h u a → t ≡ u
@@ -47,3 +55,8 @@ IsOwnedOnce = (config : Config) (h : History) (t u : ℕ) (a : Addr) (p q : ℕ)
 abbrev pub HasOneVerdict : Type 0
 HasOneVerdict = (config : Config) (h : History) (origin : Origin) (flow : Flow) (a b : Verdict) → IsConfig config → IsLegal config h
     → IsJudged config h origin flow a → IsJudged config h origin flow b → a ≡ b
+
+-- a packet that may pass goes to an inbox that there is
+abbrev pub JudgedHasInbox : Type 0
+JudgedHasInbox = (config : Config) (h : History) (origin : Origin) (flow : Flow) (to : Place) → IsLegal config h
+    → IsJudged config h origin flow (Pass to) → HasInbox config.workers to

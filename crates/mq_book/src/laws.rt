@@ -1,5 +1,5 @@
 //! What holds of every history, and of every legal one. The functions do nothing.
-ghost use Rattle.mq_book.specs.Laws.{BeginsLegal, EachReplyFits, HasOneAnswer, HasOneOwner, HasOneVerdict, IsOwnedOnce};
+ghost use Rattle.mq_book.specs.Laws.{BeginsLegal, EachReplyFits, HasOneAnswer, HasOneOwner, HasOneVerdict, IsOwnedOnce, JudgedHasInbox, StaysFull};
 
 /// A reply is of a kind that its call may get.
 pub fn each_reply_fits()
@@ -16,6 +16,11 @@ pub fn begins_legal()
     ensures { BeginsLegal }
 {}
 
+/// A history that has no place for so many entries has none later.
+pub fn stays_full()
+    ensures { StaysFull }
+{}
+
 /// On a legal history no address lies in blocks or accepted ranges of two live tunnels.
 pub fn one_owner()
     ensures { HasOneOwner }
@@ -29,4 +34,9 @@ pub fn owned_once()
 /// A legal history determines the verdict on a packet.
 pub fn one_verdict()
     ensures { HasOneVerdict }
+{}
+
+/// On a legal history a packet that may pass goes to an inbox that there is.
+pub fn judged_has_inbox()
+    ensures { JudgedHasInbox }
 {}

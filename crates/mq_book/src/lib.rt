@@ -10,7 +10,10 @@ mod setup;
 mod tunnel;
 
 pub use book::Book;
-pub use laws::{begins_legal, each_reply_fits, one_answer, one_owner, one_verdict, owned_once};
+pub use laws::{
+    begins_legal, each_reply_fits, judged_has_inbox, one_answer, one_owner, one_verdict,
+    owned_once, stays_full,
+};
 pub use mq_talk::Config;
 
 #[cfg(test)]

@@ -1,7 +1,6 @@
 -- A connection takes a read, and the end of its link.
 use Rattle.std.proofs.Common.{◌≡◌, ℕ, Bool, true, false, List, [], ◌∷◌, ◌++◌, drop, Option, Some, None, refl, sym, ap, ◌∙◌, subst}
 use Rattle.std.specs.Prelude.{vec_len, vec_capacity}
-use Rattle.mq_addr.specs.declared.kind.Kind.TheVariants as kind
 use Rattle.mq_h2.specs.Laws.{IsAskedOnce, IsTold}
 use Rattle.mq_front.specs.declared.front.Front.{Front}
 use Rattle.mq_front.specs.declared.finish.Finish.{Finish}
@@ -35,9 +34,9 @@ use Rattle.mq_machine.proofs.Lawful.Taking.{took_loose}
 use Rattle.mq_conn.proofs.Framing.{drop_more, given_more}
 use Rattle.mq_conn.proofs.Serving.{Is, Settles, by_state, has_front, reads_on, settles_so}
 
-pub takes_so : (c read ready d : Conn) (setup : Setup) (piece : List ℕ) → IsAskedOnce → IsTold → setup.udp.kind ≡ kind.Udp → Read c read setup piece → KeepsTunnels read ready
+pub takes_so : (c read ready d : Conn) (setup : Setup) (piece : List ℕ) → IsAskedOnce → IsTold → Read c read setup piece → KeepsTunnels read ready
     → HasRoom ready.spare (vec_len ready.tunnels) (vec_capacity ready.tunnels) ready.due → Settles ready d → Feeds (IsConn c) (IsConn d) ⊥ setup piece true
-takes_so c read ready d setup piece once told udp was keeps room settles s stands can =
+takes_so c read ready d setup piece once told was keeps room settles s stands can =
     by_state c (λ (x : machine.Conn). can_read x ≡ true → (t : machine.Conn) × IsConn d t × TookNext setup x piece t) go s stands can
   where
     go : (p : Past) → Is c p → can_read (state c p) ≡ true → (t : machine.Conn) × IsConn d t × TookNext setup (state c p) piece t
@@ -48,7 +47,7 @@ takes_so c read ready d setup piece once told udp was keeps room settles s stand
         let had = subst R was.was is.read in
         let r = was.reads p.front p.streams (drop p.given p.out) had.1 in
         let acts_are : read.due ≡ r.acts = r.after_is ∙ ap (λ (ds : List Due). ds ++ r.acts) idle.due in
-        let loose = took_loose setup x piece r.events r.text r.front r.acts r.others once told udp is.lawful can r.brings r.asks in
+        let loose = took_loose setup x piece r.events r.text r.front r.acts r.others once told is.lawful can r.brings r.asks in
         let y : machine.Conn = record x { front = r.front; streams = r.others; due = r.acts; out = p.out ++ r.text } in
         let q : Past = record p { front = r.front; streams = r.others; out = p.out ++ r.text } in
         let e : Conn = record c { front = Some was.g; due = read.due; spare = ready.spare; tunnels = ready.tunnels } in

@@ -25,7 +25,7 @@ use Rattle.mq_machine.specs.Putting.{first_of, putting}
 use Rattle.mq_machine.specs.Settle.{settle, is_given_up}
 use Rattle.mq_machine.specs.State as machine
 use Rattle.mq_machine.specs.State.{Waiting, Head, OverHttp1, OverHttp2, Stream, is_packet, kind_of, tunnel_of}
-use Rattle.mq_machine.specs.Steps.{can_frame, can_go_on, frame_size, framed, framed_by, framed_front, framing, next_framed, port_failed, queued, set_waiting, settled_note, tunnels_from, whole_note}
+use Rattle.mq_machine.specs.Steps.{can_frame, can_go_on, frame_size, framed, framed_by, framed_front, framing, next_framed, port_failed, queued, set_waiting, settled_note, tunnels_from, whole_note, passed_on}
 use Rattle.mq_machine.specs.Want.{want_of, may_wait}
 use Rattle.mq_machine.proofs.Lawful.Steps.{waiting_loose, framed_by_loose}
 use Rattle.mq_machine.proofs.Lawful.Idle.{port_failed_lawful}
@@ -39,7 +39,7 @@ use Rattle.mq_addr.specs.declared.kind.Kind.TheVariants as kind
 use Rattle.mq_talk.specs.declared.note.From.TheVariants as source
 use Rattle.mq_conn.proofs.Ready.{ready_first, ready_idle, ready_same}
 use Rattle.mq_conn.specs.Conns.{IsConn, Stands, IsRead, Leaves, Refuses, Past, state, behind, act_of, tunnel_is, tunnels_of}
-use Rattle.mq_conn.specs.Frames.{ComesFrom, ComesInAt, Delivers, GoesOnAt, QueuesAt, comes_in, delivered, passed_on, IsFirst, IsNext, IsPlaceOf, HasNone, PutFirst, PutsFirst, Takes, TookFirst, on_side, took_note, took_waiting}
+use Rattle.mq_conn.specs.Frames.{ComesFrom, ComesInAt, Delivers, GoesOnAt, QueuesAt, comes_in, delivered, IsFirst, IsNext, IsPlaceOf, HasNone, PutFirst, PutsFirst, Takes, TookFirst, on_side, took_note, took_waiting}
 use Rattle.mq_conn.specs.declared.queue.Queued.{Queued}
 use Rattle.mq_conn.specs.Queues.{a_packet, size_of, behind as behind_part}
 use Rattle.mq_conn.proofs.Places.{found, missing, waits_at, set_at, bytes_in, one_within, side, side_is, first_at, none_at, either_side, other_side}

@@ -11,7 +11,7 @@ use Rattle.mq_talk.specs.declared.note.Note.{Note}
 use Rattle.mq_talk.specs.declared.note.Note.TheVariants as note
 use Rattle.mq_wire.specs.declared.NoMemory.{NoMemory}
 use Rattle.mq_machine.specs.declared.act.Due.{Due}
-use Rattle.mq_machine.specs.Done.{first_waiting, opened, success}
+use Rattle.mq_machine.specs.Done.{first_waiting, success}
 use Rattle.mq_machine.specs.Putting.{putting}
 use Rattle.mq_machine.specs.State as machine
 use Rattle.mq_machine.specs.State.{Waiting, kind_of, owed}

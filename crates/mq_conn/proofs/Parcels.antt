@@ -1,8 +1,7 @@
 -- Packets are judged and pushed.
 use Rattle.std.proofs.Common.{◌≡◌, ℕ, ◌==◌, nat_le, Bool, true, false, cond, List, [], ◌∷◌, Option, Some, None, Ok, refl, sym, ap, ◌∙◌, subst}
-use Rattle.std.specs.Prelude.{find, option_map, vec_len, vec_capacity}
+use Rattle.std.specs.Prelude.{find, vec_len, vec_capacity}
 use Rattle.std.specs.Option.{is_some}
-use Rattle.mq_addr.specs.declared.kind.Kind.{Kind}
 use Rattle.mq_addr.specs.declared.range.Flow.{Flow}
 use Rattle.mq_front.specs.Limits.{AllMayBeDue}
 use Rattle.mq_talk.specs.declared.note.End.{End}
@@ -11,18 +10,17 @@ use Rattle.mq_talk.specs.declared.place.Judged.{Judged as Verdict}
 use Rattle.mq_talk.specs.declared.place.Origin.TheVariants as origin
 use Rattle.mq_talk.specs.declared.place.Parcel.{Parcel}
 use Rattle.mq_talk.specs.declared.place.Place.{Place}
-use Rattle.mq_machine.specs.declared.act.Act.{Act}
 use Rattle.mq_machine.specs.declared.act.Act.TheVariants as act
 use Rattle.mq_machine.specs.declared.act.StreamAct.{StreamAct}
 use Rattle.mq_machine.specs.declared.act.StreamAct.TheVariants as stream
 use Rattle.mq_machine.specs.declared.act.Due.{Due}
 use Rattle.mq_machine.specs.declared.act.Due.TheVariants as due
-use Rattle.mq_machine.specs.Done.{Done, before, done, done_by, due_done, judged, stream_done, tunnel_done}
-use Rattle.mq_machine.specs.Lawful.{AreSeated, Fits, IsAskedOf, IsFresh, IsLawful, IsLoose, IsOver, IsUsed, Loose, kind_on}
+use Rattle.mq_machine.specs.Done.{Done, before, done_by, due_done, judged, stream_done, tunnel_done}
+use Rattle.mq_machine.specs.Lawful.{IsLoose}
 use Rattle.mq_machine.specs.Settle.{gives_up, settle}
 use Rattle.mq_machine.specs.State as machine
-use Rattle.mq_machine.specs.State.{Head, OverHttp1, OverHttp2, Stream, owed, tunnel_on, values}
-use Rattle.mq_machine.specs.Want.{Answer, Ask, Bind, Judge, Judged, Nothing, Over, Push, Pushed, Say, Send, Want, most_values, due_want, ending_want, over_want, tunnel_want, want_by, want_of}
+use Rattle.mq_machine.specs.State.{owed, tunnel_on, values}
+use Rattle.mq_machine.specs.Want.{Ask, Bind, Judge, Judged, Nothing, Over, Push, Pushed, Say, Send, Want, most_values, due_want, ending_want, over_want, tunnel_want, want_by, want_of}
 use Rattle.mq_conn.specs.Acts.{DoesAct}
 use Rattle.mq_conn.specs.declared.conn.Conn.{Conn}
 use Rattle.mq_conn.specs.declared.conn.First.{First}
@@ -31,7 +29,7 @@ use Rattle.mq_conn.specs.declared.packets.Judging.{Judging}
 use Rattle.mq_conn.specs.declared.packets.Pushing.{Pushing}
 use Rattle.mq_talk.specs.declared.book.Call.{Call}
 use Rattle.mq_talk.specs.declared.book.Call.TheVariants as call
-use Rattle.mq_conn.specs.Conns.{Does, GivesParcel, IsConn, IsReady, Stands, behind, emptied, emptied_dues, find_on, state}
+use Rattle.mq_conn.specs.Conns.{GivesParcel, IsConn, IsReady, Stands, TellsPush, behind, emptied, emptied_act, emptied_due, emptied_dues, find_on, state}
 use Rattle.mq_conn.specs.Packets.{HasNoPush, HasPush, JudgesNote, pushed_note}
 use Rattle.mq_conn.proofs.Answering.{does_due, leads, not_over, some_done}
 use Rattle.mq_conn.proofs.Ready.{ready_first}
@@ -71,22 +69,7 @@ judges mid acted id number p flow j said t live same on none note s st over =
       r.1,
     )
 
--- ---- the act in front, once it was taken
-
-pub acts_first : (old mid acted e : Conn) (a : Act) (answer : Answer) (said : Note) → mid ≡ record old { first = None } → behind old.first old.due ≡ due.Do a ∷ old.due
-    → ((ts : List machine.Tunnel) → IsFresh ts answer) → DoesAct mid acted a answer (Ok said)
-    → ((x : machine.Conn) → Stands acted x → IsLoose x → Stands e (settle x)) → Does old e answer said
-acts_first old mid acted e a answer said keeps is fresh does ends s conn some =
-    let due_so = due_is old s conn.stands ∙ is in
-    let over = not_over s (due.Do a) old.due conn.lawful due_so in
-    let x = record s { due = old.due } in
-    let P : Conn → Type 0 = λ k. Stands k x in
-    let r = does x (subst P (sym keeps) (fronted old s (due.Do a) old.due is conn.stands)) over in
-    leads e s answer said conn.lawful (fresh s.tunnels) (record {
-      x = r.0;
-      does = does_due s a old.due answer over due_so ∙ r.1;
-      stands = λ loose. ends r.0 r.2 loose;
-    })
+-- ---- the push in front, once it was taken
 
 push_done : (x : machine.Conn) (t : machine.Tunnel) (n : ℕ) (to : Place) (packet : List ℕ) (taken : Bool) → stream_done x t (stream.Push n to packet) (Pushed taken) ≡ Some (pushed_note t.id n to taken, x)
 push_done x t n to packet true = refl
@@ -100,6 +83,55 @@ tells_push c id number n to packet taken t live same s st over =
 
 pub first_push : (c : Conn) (p : Pushing) (packet : List ℕ) → HasPush c p packet → behind c.first c.due ≡ due.Do (act.OfStream p.stream (stream.Push p.n p.to packet)) ∷ c.due
 first_push c p packet is = ap (λ (f : Option First). behind f c.due) is
+
+-- the due whose bytes these were
+lent_act : (a : StreamAct) (n : ℕ) (to : Place) (packet : List ℕ) → emptied_act a ≡ stream.Push n to packet → (bytes : List ℕ) × (a ≡ stream.Push n to bytes)
+lent_act (stream.Payload m payload) n to packet is = absurd cc
+lent_act (stream.Packet m bytes flow) n to packet is = absurd cc
+lent_act (stream.Push m place bytes) n to packet is = (bytes, cc)
+lent_act (stream.Drop m cause) n to packet is = absurd cc
+lent_act (stream.Assign asked) n to packet is = absurd cc
+lent_act (stream.Advertise ranges) n to packet is = absurd cc
+lent_act (stream.Close reason) n to packet is = absurd cc
+
+lent_due : (d : Due) (id n : ℕ) (to : Place) (packet : List ℕ) → emptied_due d ≡ due.Do (act.OfStream id (stream.Push n to packet))
+    → (bytes : List ℕ) × (d ≡ due.Do (act.OfStream id (stream.Push n to bytes)))
+lent_due (due.Do (act.Bind on goal)) id n to packet is = absurd cc
+lent_due (due.Do (act.Open on goal)) id n to packet is = absurd cc
+lent_due (due.Do (act.Refuse on status rule)) id n to packet is = absurd cc
+lent_due (due.Do (act.Reset on code)) id n to packet is = absurd cc
+lent_due (due.Do (act.OfStream on a)) id n to packet is =
+    let on_is : on ≡ id = cc in
+    let x = lent_act a n to packet cc in
+    (x.0, ap (λ (k : ℕ). due.Do (act.OfStream k a)) on_is ∙ ap (λ (b : StreamAct). due.Do (act.OfStream id b)) x.1)
+lent_due (due.Spend on size) id n to packet is = absurd cc
+lent_due (due.Fault code) id n to packet is = absurd cc
+
+lent_dues : (ds rest : List Due) (id n : ℕ) (to : Place) (packet : List ℕ) → emptied_dues ds ≡ due.Do (act.OfStream id (stream.Push n to packet)) ∷ rest
+    → (bytes : List ℕ) × (ds ≡ due.Do (act.OfStream id (stream.Push n to bytes)) ∷ rest)
+lent_dues [] rest id n to packet is = absurd cc
+lent_dues (d ∷ ds) rest id n to packet is =
+    let same : ds ≡ rest = cc in
+    let x = lent_due d id n to packet cc in
+    (x.0, ap (λ (k : Due). k ∷ ds) x.1 ∙ ap (λ (ks : List Due). due.Do (act.OfStream id (stream.Push n to x.0)) ∷ ks) same)
+
+-- it is told what became of it
+pub tells_lent : (old mid e : Conn) (p : Pushing) (packet : List ℕ) (number : ℕ) (t : machine.Tunnel) (taken : Bool) → HasPush old p packet → mid ≡ record old { first = None }
+    → find_on mid p.stream ≡ Some t → t.id ≡ number → ((x : machine.Conn) → Stands mid x → IsLoose x → Stands e (settle x)) → TellsPush old e taken (pushed_note number p.n p.to taken)
+tells_lent old mid e p packet number t taken has keeps live same ends s lent some =
+    let is = first_push old p packet has in
+    let was = lent_dues s.due old.due p.stream p.n p.to packet (due_is old (emptied s) lent.stands ∙ is) in
+    let a = act.OfStream p.stream (stream.Push p.n p.to was.0) in
+    let over = not_over s (due.Do a) old.due lent.lawful was.1 in
+    let x = record s { due = old.due } in
+    let P : Conn → Type 0 = λ k. Stands k x in
+    let stands = subst P (sym keeps) (fronted old (emptied s) (due.Do (act.OfStream p.stream (stream.Push p.n p.to packet))) old.due is lent.stands) in
+    let r = tells_push mid p.stream number p.n p.to was.0 taken t live same x stands over in
+    leads e s (Pushed taken) (pushed_note number p.n p.to taken) lent.lawful tt (record {
+      x = r.0;
+      does = does_due s a old.due (Pushed taken) over was.1 ∙ r.1;
+      stands = λ loose. ends r.0 r.2 loose;
+    })
 
 -- ---- no push is due
 
@@ -226,9 +258,27 @@ by_undone s None ts taken h = due_undone (record s { tunnels = ts }) s.due taken
 by_undone s (Some reason) [] taken h = refl
 by_undone s (Some reason) (t ∷ ts) taken h = refl
 
-pub pushes_none : (old e : Conn) (taken : Bool) (said : Note) → HasNoPush old → Does old e (Pushed taken) said
-pushes_none old e taken said none s conn some =
-    let f : true ≡ false = sym (some_done s (Pushed taken) some) ∙ ap (λ (o : Done). is_some o) (by_undone s s.ending s.tunnels taken (no_push old s none conn.stands)) in
+-- nor without the bytes of one
+emptied_no_push : (dues : List Due) → IsNoPush (emptied_dues dues) → IsNoPush dues
+emptied_no_push [] h = tt
+emptied_no_push (due.Do (act.Bind id goal) ∷ rest) h = tt
+emptied_no_push (due.Do (act.Open id goal) ∷ rest) h = tt
+emptied_no_push (due.Do (act.Refuse id status rule) ∷ rest) h = tt
+emptied_no_push (due.Do (act.Reset id code) ∷ rest) h = tt
+emptied_no_push (due.Do (act.OfStream id (stream.Payload n payload)) ∷ rest) h = tt
+emptied_no_push (due.Do (act.OfStream id (stream.Packet n packet flow)) ∷ rest) h = tt
+emptied_no_push (due.Do (act.OfStream id (stream.Push n to packet)) ∷ rest) h = absurd h
+emptied_no_push (due.Do (act.OfStream id (stream.Drop n cause)) ∷ rest) h = tt
+emptied_no_push (due.Do (act.OfStream id (stream.Assign asked)) ∷ rest) h = tt
+emptied_no_push (due.Do (act.OfStream id (stream.Advertise ranges)) ∷ rest) h = tt
+emptied_no_push (due.Do (act.OfStream id (stream.Close reason)) ∷ rest) h = tt
+emptied_no_push (due.Spend id size ∷ rest) h = tt
+emptied_no_push (due.Fault code ∷ rest) h = tt
+
+pub pushes_none : (old e : Conn) (taken : Bool) (said : Note) → HasNoPush old → TellsPush old e taken said
+pushes_none old e taken said none s lent some =
+    let quiet = emptied_no_push s.due (no_push old (emptied s) none lent.stands) in
+    let f : true ≡ false = sym (some_done s (Pushed taken) some) ∙ ap (λ (o : Done). is_some o) (by_undone s s.ending s.tunnels taken quiet) in
     absurd cc
 
 -- ---- the parcel
@@ -253,68 +303,14 @@ emptied_none (due.Fault code ∷ rest) h = refl
 pub gives_none : (old new : Conn) (parcel : Parcel) → HasNoPush old → new ≡ old → GivesParcel old new parcel
 gives_none old new parcel none is = record {
   parcel_is = λ s conn wanted wants. absurd (wants_no_push s wanted (no_push old s none conn.stands) wants);
-  stands = λ s conn.
+  lent = λ s conn.
       (let same : emptied s ≡ s = ap (λ (ds : List Due). record s { due = ds }) (emptied_none s.due (no_push old s none conn.stands)) in
-      let P : machine.Conn → Type 0 = λ x. IsConn new x in
-      let Q : Conn → Type 0 = λ k. IsConn k s in
-      subst P (sym same) (subst Q (sym is) conn));
-  same = λ s taken conn. ap (λ (ds : List Due). done (record s { due = ds }) (Pushed taken)) (emptied_none s.due (no_push old s none conn.stands));
+      let P : machine.Conn → Type 0 = λ x. Stands new x in
+      let Q : Conn → Type 0 = λ k. Stands k s in
+      record { stands = subst P (sym same) (subst Q (sym is) conn.stands); lawful = conn.lawful });
 }
 
 -- a push without its bytes stands in front
-abbrev emptied_push : Pushing → Due
-emptied_push p = due.Do (act.OfStream p.stream (stream.Push p.n p.to []))
-
-asked_same : (kind : Option Kind) (n : ℕ) (to : Place) (packet : List ℕ) → IsAskedOf kind (stream.Push n to packet) → IsAskedOf kind (stream.Push n to [])
-asked_same None n to packet h = absurd h
-asked_same (Some kind) n to packet h = h
-
-seated_same : (e : Option End) (ts : List machine.Tunnel) (id n : ℕ) (to : Place) (packet : List ℕ) (rest : List Due) (ss : List Stream)
-    → AreSeated e ts (due.Do (act.OfStream id (stream.Push n to packet)) ∷ rest) ss → AreSeated e ts (due.Do (act.OfStream id (stream.Push n to [])) ∷ rest) ss
-seated_same None ts id n to packet rest ss h = h
-seated_same (Some reason) ts id n to packet rest ss h = tt
-
-over_same : (e : Option End) (d k : Due) (rest : List Due) → IsOver e (d ∷ rest) → IsOver e (k ∷ rest)
-over_same None d k rest h = tt
-over_same (Some reason) d k rest h = absurd cc
-
-used_same : (e : Option End) (d k : Due) (rest : List Due) (ts : List machine.Tunnel) → IsUsed e (d ∷ rest) ts → IsUsed e (k ∷ rest) ts
-used_same None d k rest ts h = tt
-used_same (Some reason) d k rest ts h = tt
-
-fits_same : (f : machine.Front) (e : Option End) (id n : ℕ) (to : Place) (packet : List ℕ) (rest : List Due) (ts : List machine.Tunnel) (ss : List Stream)
-    → Fits f e (due.Do (act.OfStream id (stream.Push n to packet)) ∷ rest) ts ss → Fits f e (due.Do (act.OfStream id (stream.Push n to [])) ∷ rest) ts ss
-fits_same (Head bytes) e id n to packet rest ts ss h = (let k = h.0 in absurd cc)
-fits_same OverHttp1 e id n to packet rest ts ss h = record {
-  due = h.due;
-  used = used_same e (due.Do (act.OfStream id (stream.Push n to packet))) (due.Do (act.OfStream id (stream.Push n to []))) rest ts h.used;
-  tunnels = h.tunnels;
-  streams = h.streams;
-}
-fits_same (OverHttp2 x) e id n to packet rest ts ss h = record { tunnels = h.tunnels; dues = h.dues; spends = h.spends }
-
-loose_same : (e : Option End) (id n : ℕ) (to : Place) (packet : List ℕ) (rest : List Due) (ts : List machine.Tunnel) (ss : List Stream) (f : machine.Front)
-    → Loose e (due.Do (act.OfStream id (stream.Push n to packet)) ∷ rest) ts ss f → Loose e (due.Do (act.OfStream id (stream.Push n to [])) ∷ rest) ts ss f
-loose_same e id n to packet rest ts ss f h = record {
-  over = over_same e (due.Do (act.OfStream id (stream.Push n to packet))) (due.Do (act.OfStream id (stream.Push n to []))) rest h.over;
-  follows = (asked_same (kind_on ts id) n to packet h.follows.0, h.follows.1);
-  opens = h.opens;
-  seated = seated_same e ts id n to packet rest ss h.seated;
-  alone = h.alone;
-  numbered = h.numbered;
-  served = h.served;
-  asked = h.asked;
-  front = fits_same f e id n to packet rest ts ss h.front;
-}
-
--- it is lawful all the same
-emptied_lawful : (s : machine.Conn) (id n : ℕ) (to : Place) (packet : List ℕ) (rest : List Due) → s.due ≡ due.Do (act.OfStream id (stream.Push n to packet)) ∷ rest → IsLawful s → IsLawful (emptied s)
-emptied_lawful s id n to packet rest is h =
-    let L : List Due → Type 0 = λ ds. Loose s.ending ds s.tunnels s.streams s.front in
-    let P : List Due → Type 0 = λ ds. IsLawful (record s { due = ds }) in
-    let e : due.Do (act.OfStream id (stream.Push n to [])) ∷ rest ≡ emptied_dues s.due = ap emptied_dues (sym is) in
-    subst P e (record { loose = loose_same s.ending id n to packet rest s.tunnels s.streams s.front (subst L is h.loose); settled = tt })
-
 lent_stands : (c : Conn) (s : machine.Conn) (p : Pushing) (packet : List ℕ) → HasPush c p packet → Stands c s → Stands (record c { first = Some (first.Push p.stream p.n p.to []) }) (emptied s)
 lent_stands c s p packet has st =
     let q = st.past in
@@ -329,21 +325,6 @@ lent_stands c s p packet has st =
       given = st.given;
       ready = record { room = r.room; spare_is = r.spare_is; may = r.may };
     })
-
-push_same : (x : machine.Conn) (o : Option machine.Tunnel) (n : ℕ) (to : Place) (packet : List ℕ) (taken : Bool) → tunnel_done x o (stream.Push n to []) (Pushed taken) ≡ tunnel_done x o (stream.Push n to packet) (Pushed taken)
-push_same x None n to packet taken = refl
-push_same x (Some t) n to packet true = refl
-push_same x (Some t) n to packet false = refl
-
-empties_done : (s : machine.Conn) (id n : ℕ) (to : Place) (packet : List ℕ) (rest : List Due) (taken : Bool) → s.ending ≡ None → s.due ≡ due.Do (act.OfStream id (stream.Push n to packet)) ∷ rest
-    → done (emptied s) (Pushed taken) ≡ done s (Pushed taken)
-empties_done s id n to packet rest taken over is =
-    let a = act.OfStream id (stream.Push n to packet) in
-    let b = act.OfStream id (stream.Push n to []) in
-    let x : machine.Conn = record s { due = due.Do b ∷ rest } in
-    ap (λ (ds : List Due). done (record s { due = emptied_dues ds }) (Pushed taken)) is
-    ∙ ap (λ (o : Done). option_map (λ (d : Note × machine.Conn). (d.0, settle d.1)) o)
-    (does_due x b rest (Pushed taken) over refl ∙ push_same (record s { due = rest }) (tunnel_on s id) n to packet taken ∙ sym (does_due s a rest (Pushed taken) over is))
 
 -- the push that is wanted
 wants_push : (c : Conn) (s : machine.Conn) (p : Pushing) (packet : List ℕ) → HasPush c p packet → Stands c s → s.ending ≡ None → want_of s ≡ tunnel_want (find_on c p.stream) (stream.Push p.n p.to packet)
@@ -369,17 +350,13 @@ pub gives_some : (old new : Conn) (p : Pushing) (packet : List ℕ) (parcel : Pa
     → ((wanted : Parcel) → tunnel_want (find_on old p.stream) (stream.Push p.n p.to packet) ≡ Push wanted → parcel ≡ wanted) → GivesParcel old new parcel
 gives_some old new p packet parcel has is gives = record {
   parcel_is = λ s conn wanted wants. gives wanted (sym (wants_push old s p packet has conn.stands (is_alive s conn)) ∙ wants);
-  stands = λ s conn.
+  lent = λ s conn.
       (let P : Conn → Type 0 = λ k. Stands k (emptied s) in record {
         stands = subst P (sym is) (lent_stands old s p packet has conn.stands);
-        lawful = emptied_lawful s p.stream p.n p.to packet old.due (due_so s conn) conn.lawful;
+        lawful = conn.lawful;
       });
-  same = λ s taken conn. empties_done s p.stream p.n p.to packet old.due taken (is_alive s conn) (due_so s conn);
 }
   where
-    due_so : (s : machine.Conn) → IsConn old s → s.due ≡ due.Do (act.OfStream p.stream (stream.Push p.n p.to packet)) ∷ old.due
-    due_so s conn = due_is old s conn.stands ∙ first_push old p packet has
-
     is_alive : (s : machine.Conn) → IsConn old s → s.ending ≡ None
     is_alive s conn = not_over s (due.Do (act.OfStream p.stream (stream.Push p.n p.to packet))) old.due conn.lawful (due_is old s conn.stands ∙ first_push old p packet has)
 

@@ -171,12 +171,19 @@ emptied_dues (d ∷ dues) = emptied_due d ∷ dues
 abbrev pub emptied : machine.Conn → machine.Conn
 emptied s = record s { due = emptied_dues s.due }
 
--- The parcel that it wants to push. Its packet is moved out, so that it wants to push one without bytes then, until it is told
--- what became of it: that does what it would have done before.
+-- It stands for this connection, but for the bytes of the push in front, which were moved out.
+pub record IsLent (c : Conn) (s : machine.Conn) : Type 0 where
+  pub stands : Stands c (emptied s)
+  pub lawful : IsLawful s
+
+-- the parcel that it wants to push, whose bytes are moved out until it is told what became of it
 pub record GivesParcel (old new : Conn) (parcel : Parcel) : Type 0 where
   pub parcel_is : (s : machine.Conn) → IsConn old s → (wanted : Parcel) → want_of s ≡ Push wanted → parcel ≡ wanted
-  pub stands : (s : machine.Conn) → IsConn old s → IsConn new (emptied s)
-  pub same : (s : machine.Conn) (taken : Bool) → IsConn old s → done (emptied s) (Pushed taken) ≡ done s (Pushed taken)
+  pub lent : (s : machine.Conn) → IsConn old s → IsLent new s
+
+-- what became of that parcel
+abbrev pub TellsPush : Conn → Conn → Bool → Note → Type 0
+TellsPush old new taken note = Answered (IsLent old) (IsConn new) (Pushed taken) note
 
 -- the note of a payload that was given to the port
 abbrev pub PutsNote : ℕ → ℕ → List ℕ → PortPut → ℕ → Note → Type 0

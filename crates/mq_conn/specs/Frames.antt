@@ -13,15 +13,10 @@ use Rattle.mq_machine.specs.State as machine
 use Rattle.mq_machine.specs.Reading.{EndsThere}
 use Rattle.mq_machine.specs.State.{Waiting, kind_of, owed, tunnel_of}
 use Rattle.mq_machine.specs.Words.{onward}
-use Rattle.mq_machine.specs.Steps.{can_frame, can_read, finish_by, frame_size, framing, queued, settled_note, whole_note}
+use Rattle.mq_machine.specs.Steps.{can_frame, can_read, finish_by, frame_size, framing, passed_on, queued, settled_note, whole_note}
 use Rattle.mq_conn.specs.declared.conn.Conn.{Conn}
 use Rattle.mq_conn.specs.declared.conn.Tunnel.{Tunnel}
 use Rattle.mq_conn.specs.Conns.{IsConn, Leaves, Stands, tunnel_is, tunnels_of}
-
--- a packet goes on to a tunnel with its hop limit lowered, where that is above one
-abbrev pub passed_on : machine.Conn → machine.Tunnel → From → ℕ → Option (List ℕ) → Note × machine.Conn
-passed_on s t from n None = (note.Dropped from n cause.HopLimit, s)
-passed_on s t from n (Some packet) = settled_note (queued s t from n packet)
 
 -- One that came through an inbox goes to a tunnel for IP packets alone.
 abbrev pub comes_in : machine.Conn → Kind → machine.Tunnel → From → ℕ → List ℕ → Note × machine.Conn

@@ -1,7 +1,6 @@
 //! A connection is fed bytes, and told that they end.
 ghost use Rattle.std.specs.Prelude.{◌≡◌, ◌≢◌, ◌==◌, [], Bool, true, find, is_ok, OnOk, OnErr};
 ghost use Rattle.std.specs.Option.{is_some};
-ghost use Rattle.mq_addr.specs.declared.kind.Kind.TheVariants as kind;
 ghost use Rattle.mq_machine.specs.Cores.{Feeds};
 ghost use Rattle.mq_machine.specs.State as machine;
 ghost use Rattle.mq_machine.specs.Reading.{EndsThere};
@@ -45,10 +44,10 @@ impl<'a> Tunnels for Live<'a> {
 }
 
 impl Conn {
-    /// Takes the bytes of one read, and judges its requests by the setup of the proxy, which is the same at each read. Its
-    /// template for UDP tunnels is one of that kind. A connection that is refused memory is ending.
+    /// Takes the bytes of one read, and judges its requests by the setup of the proxy, which is the same at each read. A
+    /// connection that is refused memory is ending.
     pub fn feed(&mut self, setup: &Setup, piece: &[u8]) -> Result<(), NoMemory>
-        ensures takes { setup.now.udp.kind ≡ kind.Udp → piece.now ≢ [] → Feeds (IsConn self.old) (IsConn self.new) (Starves self.old self.new) setup.now piece.now (is_ok result) }
+        ensures takes { piece.now ≢ [] → Feeds (IsConn self.old) (IsConn self.new) (Starves self.old self.new) setup.now piece.now (is_ok result) }
         ensures pump { OnOk result (self.new.pump ≡ setup.now.pump) }
         ensures spent { Refuses self.old (is_ok result) }
     {
@@ -65,7 +64,7 @@ impl Conn {
     }
 
     fn try_feed(&mut self, setup: &Setup, piece: &[u8]) -> Result<(), NoMemory>
-        ensures takes { OnOk result (setup.now.udp.kind ≡ kind.Udp → Feeds (IsConn self.old) (IsConn self.new) ⊥ setup.now piece.now true) }
+        ensures takes { OnOk result (Feeds (IsConn self.old) (IsConn self.new) ⊥ setup.now piece.now true) }
         ensures keeps { OnErr result (Leaves self.old self.new) }
         ensures spent { Refuses self.old (is_ok result) }
     {

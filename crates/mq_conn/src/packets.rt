@@ -3,9 +3,9 @@ ghost use Rattle.std.specs.Prelude.{◌≡◌, ◌≢◌, ℕ, List, MatchOption
 ghost use Rattle.mq_machine.specs.declared.act.Act.TheVariants as asks;
 ghost use Rattle.mq_machine.specs.declared.act.StreamAct.TheVariants as asked;
 ghost use Rattle.mq_machine.specs.declared.act.Due.TheVariants.{Do};
-ghost use Rattle.mq_machine.specs.Want.{Judged as WasJudged, Pushed as WasPushed};
+ghost use Rattle.mq_machine.specs.Want.{Judged as WasJudged};
 ghost use Rattle.mq_addr.specs.declared.range.Flow.{Flow};
-ghost use Rattle.mq_conn.specs.Conns.{Does, GivesParcel};
+ghost use Rattle.mq_conn.specs.Conns.{Does, GivesParcel, TellsPush};
 ghost use Rattle.mq_conn.specs.Packets.{JudgesNote, LendsPush, TakesPush, pushed_note};
 ghost use Rattle.mq_conn.specs.Wants.{is_taken};
 
@@ -195,9 +195,9 @@ impl Conn {
         }
     }
 
-    /// Its parcel was pushed. A full inbox hands it back, and it is dropped.
+    /// The parcel that `parcel` gave was pushed. A full inbox hands it back, and it is dropped.
     pub fn pushed(&mut self, pushed: Pushed) -> Note
-        ensures { Does self.old self.new (WasPushed (is_taken pushed)) result }
+        ensures { TellsPush self.old self.new (is_taken pushed) result }
     {
         let Some(pushing) = self.take_push() else {
             return self.none();

@@ -1,13 +1,13 @@
-//! What the path of a request means: where its tunnel leads, or a refusal (RFC 9298, section 3).
+//! What the path of a request means: where its tunnel leads, or a refusal (RFC 9298, section 3; RFC 9484, section 3).
 ghost use Rattle.std.specs.Prelude.{◌≡◌, IfOk};
-ghost use Rattle.mq_machine.specs.Reading.{PathMeans, decided};
+ghost use Rattle.mq_machine.specs.Reading.{PathMeans, decided, template_of};
 ghost use Rattle.mq_front.specs.Meanings.{meaning_of};
 
 use mq_addr::Kind;
 use mq_machine::Setup;
 use mq_policy::Decision;
 use mq_talk::Goal;
-use mq_target::Matched;
+use mq_target::{Matched, Template};
 use mq_wire::NoMemory;
 use std::alloc::Global;
 
@@ -34,11 +34,26 @@ fn decided(decision: Decision) -> Verdict
     }
 }
 
-/// What the path of a request for a UDP tunnel means.
-fn judge_udp(alloc: Global, setup: &Setup, path: &[u8]) -> Result<Verdict, NoMemory>
-    ensures { IfOk result (λ verdict. PathMeans setup.now Kind.Udp path.now (meaning_of verdict)) }
+/// The template of the requests for tunnels of this kind.
+fn template_of(setup: &Setup, kind: Kind) -> &Template
+    ensures { result.now ≡ template_of setup.now kind }
 {
-    match setup.udp.matches(alloc, path)? {
+    match kind {
+        Kind::Udp => &setup.udp,
+        Kind::Ip => &setup.ip,
+    }
+}
+
+/// What the path of a request means.
+pub fn judge_path(
+    alloc: Global,
+    setup: &Setup,
+    kind: Kind,
+    path: &[u8],
+) -> Result<Verdict, NoMemory>
+    ensures { IfOk result (λ verdict. PathMeans setup.now kind path.now (meaning_of verdict)) }
+{
+    match template_of(setup, kind).matches(alloc, path)? {
         Matched::No => Ok(Verdict::Refused {
             status: 404,
             rule: 0,
@@ -48,23 +63,5 @@ fn judge_udp(alloc: Global, setup: &Setup, path: &[u8]) -> Result<Verdict, NoMem
             rule: 0,
         }),
         Matched::Yes(target) => Ok(decided(setup.policy.decide(&target))),
-    }
-}
-
-/// What the path of a request means. Tunnels for IP packets aren't served yet.
-pub fn judge_path(
-    alloc: Global,
-    setup: &Setup,
-    kind: Kind,
-    path: &[u8],
-) -> Result<Verdict, NoMemory>
-    ensures { IfOk result (λ verdict. PathMeans setup.now kind path.now (meaning_of verdict)) }
-{
-    match kind {
-        Kind::Udp => judge_udp(alloc, setup, path),
-        Kind::Ip => Ok(Verdict::Refused {
-            status: 501,
-            rule: 0,
-        }),
     }
 }

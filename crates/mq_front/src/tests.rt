@@ -3,9 +3,9 @@
 use crate::data::DataStream;
 use crate::http2::Http2;
 use crate::{Dues, Finish, Front, Tunnels};
-use mq_addr::{Addr, Kind};
+use mq_addr::{Addr, Kind, Prefix};
 use mq_machine::{Act, Due, Setup, StreamAct};
-use mq_policy::Policy;
+use mq_policy::{Policy, Rule};
 use mq_talk::{End, Goal};
 use mq_target::Template;
 use std::alloc::Global;
@@ -83,6 +83,10 @@ fn act_line(alloc: Global, act: &Act) -> Result<String, Fail> {
             stream,
             goal: Goal::Udp { port, .. },
         } => Ok(format!(in alloc; "{stream} bind {port}\n")?),
+        Act::Open {
+            stream,
+            goal: Goal::Ip { area, protocol },
+        } => Ok(format!(in alloc; "{stream} open {area:?} {protocol:?}\n")?),
         Act::Refuse {
             stream,
             status,
@@ -359,6 +363,87 @@ fn other_requests_of_http1_are_refused(rt: HostRuntime) -> Result<(), Fail> {
             assert_eq!(rt; second, format!(in alloc; "{want}")?);
             assert_eq!(rt; front.refusal_end(), Some(End::Refused));
         }
+    }
+    Ok(())
+}
+
+/// A rule for all IP packets to the first 24 bits of this address.
+fn rule(allow: bool, addr: u32) -> Rule {
+    Rule::Ip {
+        allow,
+        block: Some(Prefix {
+            addr: Addr::V4(addr),
+            length: 24,
+        }),
+        protocol: None,
+    }
+}
+
+/// A setup that denies IP packets to 198.51.100.0/24 by its first rule, and allows those to 192.0.2.0/24 by its second.
+fn guarded(alloc: Global) -> Result<Setup, Fail> {
+    let mut policy = Policy::new(alloc);
+    policy.add_rule(rule(false, 0xc633_6400))?;
+    policy.add_rule(rule(true, 0xc000_0200))?;
+    Ok(Setup {
+        policy,
+        ..setup(alloc)?
+    })
+}
+
+/// HEADERS of stream 1 with a request for IP packets.
+fn ip_request(alloc: Global, path: &str) -> Result<Vec<u8>, Fail> {
+    let mut block = bytes(alloc, "0207434f4e4e4543548704")?;
+    block.push((path.len() % 127) as u8)?;
+    block.extend_from_slice(path.as_bytes())?;
+    let rest = bytes(alloc, "01017000093a70726f746f636f6c0a636f6e6e6563742d6970")?;
+    block.extend_from_slice(rest.as_slice())?;
+    let mut frame = bytes(alloc, "0000")?;
+    frame.push((block.len() % 256) as u8)?;
+    let head = bytes(alloc, "010400000001")?;
+    frame.extend_from_slice(head.as_slice())?;
+    frame.extend_from_slice(block.as_slice())?;
+    Ok(frame)
+}
+
+/// Requests for IP packets over both protocols, by their paths (RFC 9484, section 3).
+#[test]
+fn requests_for_ip_packets(rt: HostRuntime) -> Result<(), Fail> {
+    let alloc = rt.alloc();
+    let setup = guarded(alloc)?;
+    let rows = [
+        (
+            "/.well-known/masque/ip/192.0.2.0%2F24/17/",
+            "open Some(Prefix { addr: V4(3221225984), length: 24 }) Some(17)",
+        ),
+        (
+            "/.well-known/masque/ip/192.0.2.0%2F25/*/",
+            "open Some(Prefix { addr: V4(3221225984), length: 25 }) None",
+        ),
+        (
+            "/.well-known/masque/ip/198.51.100.0%2F24/17/",
+            "refuse 403 1",
+        ),
+        // everything is more than the second rule allows
+        ("/.well-known/masque/ip/*/*/", "refuse 403 0"),
+        ("/.well-known/masque/ip/a.example/17/", "refuse 502 0"),
+        // a bit past the length of its block
+        ("/.well-known/masque/ip/192.0.2.1%2F24/17/", "refuse 400 0"),
+        // a path of tunnels for UDP
+        ("/u/192.0.2.6/443", "refuse 404 0"),
+    ];
+    for (path, want) in rows {
+        let mut dues = Dues::new(alloc);
+        let head = format!(in alloc;
+            "GET {path} HTTP/1.1\r\nHost: p\r\nConnection: Upgrade\r\nUpgrade: connect-ip\r\n\r\n"
+        )?;
+        Front::new().read(alloc, &setup, &NoTunnel, head.as_bytes(), &mut dues)?;
+        assert_eq!(rt; lines(alloc, &mut dues)?, format!(in alloc; "0 {want}\n")?);
+        let mut front = Http2::new(alloc)?;
+        let settings = bytes(alloc, SETTINGS)?;
+        front.read(alloc, &setup, &NoTunnel, settings.as_slice(), &mut dues)?;
+        let piece = ip_request(alloc, path)?;
+        front.read(alloc, &setup, &NoTunnel, piece.as_slice(), &mut dues)?;
+        assert_eq!(rt; lines(alloc, &mut dues)?, format!(in alloc; "1 {want}\n")?);
     }
     Ok(())
 }

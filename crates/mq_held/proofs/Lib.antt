@@ -3,5 +3,7 @@ pub mod Reading
 pub mod Sending
 pub mod Receiving
 pub mod Fronts
+pub mod Streams
+pub mod Asked
 pub mod Seating
 mod Telling

@@ -10,8 +10,11 @@ use Rattle.mq_talk.specs.declared.book.Call.TheVariants as call
 use Rattle.mq_talk.specs.declared.book.Reply.{Reply}
 use Rattle.mq_talk.specs.declared.book.Reply.TheVariants as reply
 use Rattle.mq_talk.specs.declared.note.Note.{Note}
-use Rattle.mq_talk.specs.Offices.{Seen, CallOk, CallGives}
+use Rattle.mq_talk.specs.Answers.{IsAnswer}
+use Rattle.mq_talk.specs.Book.{History}
+use Rattle.mq_talk.specs.Offices.{Seen, Sees, IsSame, CallOk, CallGives}
 use Rattle.mq_machine.specs.Lawful as lawful
+use Rattle.mq_machine.specs.Shared.{asked_by}
 use Rattle.mq_machine.specs.State.{Conn, Tunnel}
 use Rattle.mq_machine.specs.Steps.{starved}
 use Rattle.mq_machine.specs.Want.{Bound, Replied}
@@ -59,9 +62,9 @@ pub record NothingBound (before after : Option ℕ) (binds binds_after : Binder)
   pub bound_is : after ≡ before
   pub binds_are : binds_after ≡ binds
 
--- ---- the book
+-- ---- the book is asked that a tunnel opens, or closes
 
--- a tunnel for UDP asks nothing but that it opens and closes
+-- it asks that a tunnel opens or closes
 abbrev pub IsPlain : Call → Type 0
 IsPlain (call.Open conn stream actor goal) = ⊤
 IsPlain (call.Close tunnel) = ⊤
@@ -104,3 +107,47 @@ AskGives actor old asked new stands s (Err refused) =
 abbrev pub HearGives : Core → Core → Reply → Result Heard NoMemory → Type 0
 HearGives old new said (Ok h) = (h.opened ≡ opened_by said) × MayHear old new said (Ok h.note)
 HearGives old new said (Err refused) = MayHear old new said (Err refused)
+
+-- ---- the book is asked for addresses or ways
+
+-- of this tunnel
+abbrev pub IsFor : ℕ → Call → Type 0
+IsFor of (call.Open conn stream actor goal) = ⊥
+IsFor of (call.Assign tunnel asked) = tunnel ≡ of
+IsFor of (call.Advertise tunnel ranges) = tunnel ≡ of
+IsFor of (call.Close tunnel) = ⊥
+
+-- What the book said after these entries and wrote then, and what the tunnel is told. Where the call found no place, the tunnel
+-- was closed, and is told that.
+pub record AskOk (actor : ℕ) (old : Seen) (asked : Call) (told : Reply) (new : Seen) : Type 0 where
+  pub book : History
+  pub sees : Sees old book
+  pub said : Reply
+  pub is : IsAnswer old.config book asked said
+  pub told_is : told ≡ (asked_by book actor asked said).reply
+  pub wrote : new.entries ≡ (asked_by book actor asked said).book
+  pub same : IsSame old new
+
+-- the note of the connection behind what the tunnel was told
+pub record Told (actor : ℕ) (old : Seen) (asked : Call) (new : Seen) (stands : Conn → Type 0) (s : Conn) (said : Note) : Type 0 where
+  pub told : Reply
+  pub asks : AskOk actor old asked told new
+  pub t : Conn
+  pub does : done s (Replied told) ≡ Some (said, t)
+  pub stands_for : stands t
+
+-- it was refused memory as it heard that, which isn't that its tunnel closed
+pub record ToldNot (actor : ℕ) (old : Seen) (asked : Call) (new : Seen) (stands : Conn → Type 0) (s : Conn) : Type 0 where
+  pub told : Reply
+  pub asks : AskOk actor old asked told new
+  pub open_is : told ≢ reply.Closed
+  pub stands_for : stands (heard s told)
+
+abbrev pub TellGives : ℕ → Seen → Call → Seen → (Conn → Type 0) → Conn → Result Note NoMemory → Type 0
+TellGives actor old asked new stands s (Ok said) = Told actor old asked new stands s said
+TellGives actor old asked new stands s (Err refused) = (CallGives actor old asked (Err refused) new × stands (starved s)) ⊎ ToldNot actor old asked new stands s
+
+-- what the tunnel is to be told, or that the book was refused memory
+abbrev pub SettleGives : ℕ → Seen → Call → Result Reply NoMemory → Seen → Type 0
+SettleGives actor old asked (Ok told) new = AskOk actor old asked told new
+SettleGives actor old asked (Err refused) new = CallGives actor old asked (Err refused) new

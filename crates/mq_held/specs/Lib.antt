@@ -4,3 +4,4 @@ pub mod Ready
 pub mod Frames
 pub mod Seats
 pub mod Answers
+pub mod Packets

@@ -6,11 +6,14 @@ mod bind;
 mod datagrams;
 mod frame;
 mod held;
+mod judge;
+mod push;
 mod read;
 mod ready;
 mod receive;
 mod seats;
 mod send;
+mod tell;
 #[cfg(test)]
 mod tests;
 mod went;

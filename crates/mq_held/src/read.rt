@@ -1,6 +1,5 @@
 //! The link is read.
 ghost use Rattle.std.specs.Prelude.{◌≡◌, length};
-ghost use Rattle.mq_addr.specs.declared.kind.Kind.TheVariants as kind;
 ghost use Rattle.mq_machine.specs.State as machine;
 ghost use Rattle.mq_conn.specs.Conns.{IsConn};
 ghost use Rattle.mq_held.specs.Links.{calls_of, ReadGives};
@@ -13,11 +12,10 @@ use mq_talk::{End, Note};
 use mq_wire::NoMemory;
 
 impl<L: Link> Held<L> {
-    /// Reads once, where it can take bytes, to the front of a buffer of 16,384 bytes. Its template for UDP tunnels is one of
-    /// that kind.
+    /// Reads once, where it can take bytes, to the front of a buffer of 16,384 bytes.
     pub fn read(&mut self, setup: &Setup, buffer: &mut [u8]) -> Result<Went, NoMemory>
         requires { length buffer.old ≡ 16384 }
-        ensures gives { (s : machine.Conn) → IsConn self.old.conn s → s.number ≡ self.old.number → setup.now.udp.kind ≡ kind.Udp
+        ensures gives { (s : machine.Conn) → IsConn self.old.conn s → s.number ≡ self.old.number
             → ReadGives setup.now (calls_of L.holds L.past L.counts self.old.link self.new.link) (IsConn self.new.conn) s result }
         ensures rest { self.new ≡ record self.old { conn = self.new.conn; link = self.new.link } }
         ensures size { length buffer.new ≡ length buffer.old }

@@ -7,3 +7,4 @@ pub mod Quiets
 pub mod Samples
 mod Frames
 pub mod Lawful
+pub mod Placing

@@ -1,5 +1,5 @@
 -- An actor that has no turn is quiet.
-use Rattle.std.proofs.Common.{arith, ◌≡◌, ℕ, Bool, true, false, not, inl, inr, ◌+◌, ◌==◌, List, [], ◌∷◌, Option, Some, None, refl, sym, ap, subst, ◌∙◌, slice_get, length, nat_lt, take}
+use Rattle.std.proofs.Common.{arith, ◌≡◌, ℕ, Bool, true, false, not, inl, inr, ◌==◌, List, [], ◌∷◌, Option, Some, None, refl, sym, ap, subst, ◌∙◌, slice_get, length, nat_lt, take}
 use Rattle.std.specs.Prelude.{find, is_some, cond, ◌&&◌, ◌||◌, option_map, option_and_then, unwrap_or, ◌⊎◌, nat_le, if◌then◌else◌}
 use Rattle.mq_outside.specs.Nets.{Arrival}
 use Rattle.mq_outside.specs.declared.PortPut.TheVariants as put

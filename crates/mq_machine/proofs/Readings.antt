@@ -16,13 +16,14 @@ use Rattle.mq_talk.specs.declared.goal.Goal.{Goal}
 use Rattle.mq_target.specs.declared.target.Matched.{Matched}
 use Rattle.mq_target.specs.declared.target.Matched.TheVariants.{No, Bad, Yes}
 use Rattle.mq_target.specs.Laws.{HasOneReading}
+use Rattle.mq_target.specs.Template.{IsTemplate}
 use Rattle.mq_machine.specs.declared.act.StreamAct.{StreamAct}
 use Rattle.mq_machine.specs.declared.act.Due.{Due}
 use Rattle.mq_machine.specs.declared.setup.Setup.{Setup}
 use Rattle.mq_machine.specs.Http2 as request
 use Rattle.mq_machine.specs.Settle.{settle}
 use Rattle.mq_machine.specs.State.{Conn, Stream, Tunnel, Front, Head, OverHttp1, OverHttp2, kind_of}
-use Rattle.mq_machine.specs.Reading.{Meaning, Leads, Refused, decided, MatchedMeans, PathMeans, StreamEvent, Request, Malformed, Content, Reset, ConnectionError, EndsWith, BytesAsk, has_values, payload_count, acts_of, then_acts, on_stream, mark_of, stream_of, ContentAsks, EventAsks, EventsAsk, content_of, StepBrings, HeadBrings, KindMeans, EventBrings, EventsBring, FramesBring, Opening, Part, Whole, Other, opening_of, OtherBrings, OpeningBrings, Brings, TookNext}
+use Rattle.mq_machine.specs.Reading.{Meaning, Leads, Refused, decided, MatchedMeans, template_of, PathMeans, StreamEvent, Request, Malformed, Content, Reset, ConnectionError, EndsWith, BytesAsk, has_values, payload_count, acts_of, then_acts, on_stream, mark_of, stream_of, ContentAsks, EventAsks, EventsAsk, content_of, StepBrings, HeadBrings, KindMeans, EventBrings, EventsBring, FramesBring, Opening, Part, Whole, Other, opening_of, OtherBrings, OpeningBrings, Brings, TookNext}
 use Rattle.mq_machine.specs.Laws.{IsToldSetup}
 
 -- what is known of the readers
@@ -88,12 +89,17 @@ one_matched known setup No a b x y = x ∙ sym y
 one_matched known setup Bad a b x y = x ∙ sym y
 one_matched known setup (Yes target) a b x y = x.2 ∙ ap decided (known.decision setup.policy target x.0 y.0 x.1 y.1) ∙ sym y.2
 
+-- each kind has a template that a text tells
+told_kind : (setup : Setup) → IsToldSetup setup → (kind : Kind) → (text : List ℕ) × IsTemplate text (template_of setup kind)
+told_kind setup told kind.Udp = (told.udp_text, told.udp)
+told_kind setup told kind.Ip = (told.ip_text, told.ip)
+
 one_meaning : Known → (setup : Setup) → IsToldSetup setup → (kind : Kind) (path : List ℕ) (a b : Meaning) → PathMeans setup kind path a → PathMeans setup kind path b → a ≡ b
-one_meaning known setup told kind.Udp path a b x y =
+one_meaning known setup told kind path a b x y =
+    let text = told_kind setup told kind in
     let P : Matched → Type 0 = λ m. MatchedMeans setup m b in
-    let same = known.reading told.udp_text setup.udp path x.0 y.0 told.udp x.1 y.1 in
+    let same = known.reading text.0 (template_of setup kind) path x.0 y.0 text.1 x.1 y.1 in
     one_matched known setup x.0 a b x.2 (subst P (sym same) y.2)
-one_meaning known setup told kind.Ip path a b x y = x ∙ sym y
 
 one_head : Known → (setup : Setup) → IsToldSetup setup → (before bytes : List ℕ) (step : HeadStep) (e f : List StreamEvent) (a b : Front)
     → StepBrings setup before bytes step e a → StepBrings setup before bytes step f b → (e ≡ f) × (a ≡ b)

@@ -2,6 +2,7 @@
 use Rattle.std.specs.Prelude.{codes}
 use Rattle.std.proofs.Common.{◌≡◌, ℕ, true, false, List, [], ◌∷◌, ◌++◌, Some, None, refl}
 use Rattle.mq_addr.specs.declared.addr.Addr.TheVariants.{V4}
+use Rattle.mq_addr.specs.declared.range.Flow.{Flow}
 use Rattle.mq_head.specs.Answers.{refusal_text}
 use Rattle.mq_outside.specs.Nets.{net_of}
 use Rattle.mq_outside.specs.declared.PortPut.TheVariants as put
@@ -19,7 +20,7 @@ use Rattle.mq_machine.specs.declared.act.StreamAct.TheVariants as stream
 use Rattle.mq_machine.specs.declared.act.Due.{Due}
 use Rattle.mq_machine.specs.declared.act.Due.TheVariants as due
 use Rattle.mq_machine.specs.State.{Net, Worker, Shared, Conn, new_conn, Tunnel, Packet, OverHttp1, new_link}
-use Rattle.mq_machine.specs.Want.{Ask, Over, Said, Bound, Replied, Put, want_of}
+use Rattle.mq_machine.specs.Want.{Ask, Push, Over, Said, Bound, Replied, Judged, Pushed, Put, want_of}
 use Rattle.mq_machine.specs.Done.{done}
 use Rattle.mq_machine.specs.Shared.{new_port}
 use Rattle.mq_machine.specs.Steps.{framed, failed, finished}
@@ -27,7 +28,8 @@ use Rattle.mq_machine.specs.declared.setup.Setup.{Setup}
 use Rattle.mq_talk.specs.declared.place.Parcel.{Parcel}
 use Rattle.mq_talk.specs.declared.place.Origin.TheVariants as origin
 use Rattle.mq_talk.specs.declared.place.Place.TheVariants as place
-use Rattle.mq_machine.specs.Reading.{Part, Whole, Other, opening_of, preface}
+use Rattle.mq_talk.specs.declared.place.Verdict.TheVariants as verdict
+use Rattle.mq_machine.specs.Reading.{Part, Whole, Other, goal_act, opening_of, preface}
 use Rattle.mq_machine.specs.Turn.{Act, Frame, try_of, Offers, Of, turn_of, WorkerTurn, SendNext, pump_try, PumpTurn}
 
 abbrev to_there : Goal
@@ -98,6 +100,36 @@ ends = refl
 then_closes : done (record waiting { is_finished = true; due = due.Do (act.OfStream 0 (stream.Close why.End)) ∷ [] }) (Replied reply.Closed)
     ≡ Some (note.Closed 0 why.End 1, record (new_conn 0 0) { front = OverHttp1; is_finished = true; ending = Some end.Done })
 then_closes = refl
+
+-- ---- a tunnel for IP packets
+
+abbrev to_all : Goal
+to_all = goal.Ip None None
+
+-- it opens without a port
+opens : goal_act 0 to_all ≡ act.Open 0 to_all
+opens = refl
+
+abbrev reaching : List Due → Conn
+reaching acts = record (new_conn 0 0) { front = OverHttp1; due = acts; tunnels = record { id = 0; stream = 0; goal = to_all; waiting = [] } ∷ [] }
+
+abbrev passing : List Due
+passing = due.Do (act.OfStream 0 (stream.Push 4 place.Net (69 ∷ []))) ∷ []
+
+-- a packet that passes by the book of two entries is pushed next, and one that doesn't is dropped
+passes : (flow : Flow) → done (reaching (due.Do (act.OfStream 0 (stream.Packet 4 (69 ∷ []) flow)) ∷ [])) (Judged (verdict.Pass place.Net) 2)
+    ≡ Some (note.Passed (source.Tunnel 0) 4 2 place.Net, reaching passing)
+passes flow = refl
+
+wants_push : want_of (reaching passing) ≡ Push (record { from = origin.Tunnel 0; n = 4; to = place.Net; packet = 69 ∷ [] })
+wants_push = refl
+
+no_route : (flow : Flow) → done (reaching (due.Do (act.OfStream 0 (stream.Packet 4 (69 ∷ []) flow)) ∷ [])) (Judged verdict.NoRoute 2)
+    ≡ Some (note.Dropped (source.Tunnel 0) 4 cause.NoRoute, reaching [])
+no_route flow = refl
+
+inbox_full : done (reaching passing) (Pushed false) ≡ Some (note.Dropped (source.Tunnel 0) 4 cause.InboxFull, reaching [])
+inbox_full = refl
 
 -- ---- turns
 

@@ -8,7 +8,7 @@ use Rattle.mq_machine.specs.declared.setup.Setup.{Setup}
 use Rattle.mq_machine.specs.State.{Conn, Port, Held, Orders, Worker, Pump, Shared, State, Stream, Front, Head, OverHttp1, OverHttp2, tunnel_of}
 use Rattle.mq_h2.specs.State as http2
 use Rattle.mq_machine.specs.Want.{Want, Say, Bind, Ask, Judge, Push, Send, Over, Answer, Said, Bound, Replied, Judged, Pushed, Put, want_of}
-use Rattle.std.specs.Prelude.{◌+◌, nat_lt}
+use Rattle.std.specs.Prelude.{nat_lt}
 use Rattle.std.specs.Bool.{MatchBool}
 use Rattle.mq_addr.specs.declared.range.Flow.{Flow}
 use Rattle.mq_talk.specs.declared.book.Call.{Call}

@@ -14,6 +14,7 @@ use Rattle.mq_outside.specs.Counts.{last_count, risen, risen_by, LinkCounts, Por
 use Rattle.mq_outside.specs.Nets.{NetHolds, net_of}
 use Rattle.mq_outside.specs.Ports.{PortHolds, empty_port, PortsHolds, next_port, ports_behind}
 use Rattle.mq_machine.specs.State.{Tunnel, Link, new_link, Port, Offer, Held, Worker, Pump, Orders, Shared, owed, held_of}
+use Rattle.mq_machine.specs.Placing.{ArePlaced}
 use Rattle.mq_machine.specs.Shared.{at_port}
 use Rattle.mq_machine.specs.Want.{Want, Nothing, Send, Answer, Bound, Replied, want_of}
 use Rattle.mq_machine.specs.Steps.{can_read, framed}
@@ -112,17 +113,20 @@ with_prepared o answer w = w
 
 -- ---- what is shared
 
--- What is shared before and after a step fits what office and mail tell, and what was ordered. The office has then seen the book
--- that the step left.
-pub record Meets (orders : Orders) (old new : Sight) (sh after : Shared) : Type 0 where
-  pub config : sh.config ≡ old.seen.config
-  pub same : IsSame old.seen new.seen
-  pub book : Sees old.seen sh.book
-  pub wrote : new.seen.entries ≡ after.book
-  pub boxes : IsTold old.boxes sh.boxes
+-- What is shared before and after a step fits what an office had seen and what a mail told, and what was ordered. The office has
+-- then seen the book that the step left.
+pub record Shares (old new : Seen) (mail mail_after : Option (List (List Parcel))) (orders : Orders) (sh after : Shared) : Type 0 where
+  pub config : sh.config ≡ old.config
+  pub same : IsSame old new
+  pub book : Sees old sh.book
+  pub wrote : new.entries ≡ after.book
+  pub boxes : IsTold mail sh.boxes
   pub count : length sh.boxes ≡ sh.config.workers + 1
-  pub boxes_after : IsTold new.boxes after.boxes
+  pub boxes_after : IsTold mail_after after.boxes
   pub orders_are : sh.orders ≡ orders
+
+abbrev pub Meets : Orders → Sight → Sight → Shared → Shared → Type 0
+Meets orders old new sh after = Shares old.seen new.seen old.boxes new.boxes orders sh after
 
 -- what the inbox had when it was tried, which is what sh has where the mail tells
 abbrev pub WasInbox : Option (List (List Parcel)) → ℕ → List Parcel → Type 0
@@ -217,12 +221,13 @@ pub record IsOpen (book : List Entry) (actor tunnel conn stream : ℕ) (goal : G
   pub live : is_live book tunnel ≡ true
 
 -- The worker's tunnels are those that are live by what its office has seen, and every number that it ever used was seen. There
--- is an inbox for each worker, and one for the pump.
+-- is an inbox for each worker, and one for the pump, and each packet that is to be pushed has its own among them.
 pub record Known (sight : Sight) (w : Worker) : Type 0 where
   pub id : w.id < sight.seen.config.workers
   pub pump : w.setup.pump ≡ sight.seen.config.workers
   pub tunnels : (tunnel conn stream : ℕ) (goal : Goal) → HasTunnel w tunnel conn stream goal ↔ IsOpen sight.seen.entries w.id tunnel conn stream goal
   pub last : All (λ (h : Held). h.conn.next_tunnel ≤ length sight.seen.entries) w.conns
+  pub places : All (λ (h : Held). ArePlaced sight.seen.config.workers h.conn.due) w.conns
   pub boxes : (boxes : List (List Parcel)) → sight.boxes ≡ Some boxes → length boxes ≡ sight.seen.config.workers + 1
 
 -- ---- what a step writes

@@ -1,4 +1,4 @@
--- What holds of each connection that the machine leads to, whose tunnels are of the kinds that are served.
+-- What holds of each connection that the machine leads to.
 use Rattle.std.specs.Prelude.{◌≡◌, ◌≢◌, ℕ, ◌+◌, ◌≤◌, ◌==◌, Bool, true, false, List, [], ◌∷◌, drop, find, if◌then◌else◌, Option, Some, None, option_map}
 use Rattle.std.specs.List.{AllByRecursion, list_any}
 use Rattle.std.specs.Option.{is_some}
@@ -14,6 +14,7 @@ use Rattle.mq_talk.specs.declared.note.End.{End}
 use Rattle.mq_talk.specs.declared.note.From.{From}
 use Rattle.mq_talk.specs.declared.note.Note.{Note}
 use Rattle.mq_talk.specs.declared.note.Why.TheVariants as why
+use Rattle.mq_talk.specs.Mails.{IsPacket}
 use Rattle.mq_machine.specs.declared.act.Act.TheVariants as act
 use Rattle.mq_machine.specs.declared.act.StreamAct.{StreamAct}
 use Rattle.mq_machine.specs.declared.act.StreamAct.TheVariants as stream
@@ -40,10 +41,6 @@ IsOfIp kind.Ip = Unit {0}
 abbrev pub IsUdp : Goal → Type 0
 IsUdp goal = IsOfUdp (kind_of goal)
 
--- Tunnels for IP packets aren't served yet.
-abbrev pub IsServed : Goal → Type 0
-IsServed = IsUdp
-
 -- a tunnel is live on this stream
 abbrev pub has_on : List Tunnel → ℕ → Bool
 has_on ts id = is_some (find (λ (t : Tunnel). t.stream == id) ts)
@@ -59,8 +56,8 @@ with_one id kind live other = if id == other then Some kind else live other
 -- what the data stream of a tunnel of this kind may ask for, or its packet's verdict: a push comes of that alone
 abbrev pub IsAsked : Kind → StreamAct → Type 0
 IsAsked kind (stream.Payload n payload) = IsOfUdp kind
-IsAsked kind (stream.Packet n packet flow) = IsOfIp kind
-IsAsked kind (stream.Push n to packet) = IsOfIp kind
+IsAsked kind (stream.Packet n packet flow) = IsOfIp kind × IsPacket packet
+IsAsked kind (stream.Push n to packet) = IsOfIp kind × IsPacket packet
 IsAsked kind (stream.Drop n cause) = Unit {0}
 IsAsked kind (stream.Assign asked) = IsOfIp kind
 IsAsked kind (stream.Advertise ranges) = IsOfIp kind
@@ -76,7 +73,7 @@ IsAskedOf (Some kind) a = IsAsked kind a
 abbrev pub Follows : (ℕ → Option Kind) → List Due → Type 0
 Follows live [] = Unit {0}
 Follows live (due.Do (act.Bind id goal) ∷ rest) = (live id ≡ None) × IsUdp goal × Follows (with_one id (kind_of goal) live) rest
-Follows live (due.Do (act.Open id goal) ∷ rest) = (live id ≡ None) × IsServed goal × Follows (with_one id (kind_of goal) live) rest
+Follows live (due.Do (act.Open id goal) ∷ rest) = (live id ≡ None) × Follows (with_one id (kind_of goal) live) rest
 Follows live (due.Do (act.Refuse id status rule) ∷ rest) = Follows live rest
 Follows live (due.Do (act.Reset id code) ∷ rest) = Follows live rest
 Follows live (due.Do (act.OfStream id a) ∷ rest) = IsAskedOf (live id) a × Follows live rest
@@ -233,8 +230,6 @@ pub record Loose (e : Option End) (ds : List Due) (ts : List Tunnel) (ss : List 
   pub seated : AreSeated e ts ds ss
   pub alone : Alone ts
   pub numbered : AreNumbered e ts
-  pub served : AllByRecursion (λ (t : Tunnel). IsServed t.goal) ts
-  pub asked : AllByRecursion (λ (s : Stream). IsServed s.goal) ss
   pub front : Fits f e ds ts ss
 
 -- before the end of an act: marks may be in front
@@ -253,7 +248,7 @@ pub record StaysLawful : Type 0 where
   pub answers : (c d : Conn) (answer : Answer) (note : Note) → IsLawful c → IsFresh c.tunnels answer → done c answer ≡ Some (note, d) → IsLawful d
   pub frames : (c d : Conn) (note : Note) → IsLawful c → framed c ≡ Some (note, d) → IsLawful d
   pub writes : (c : Conn) (count : ℕ) → IsLawful c → IsLawful (wrote c count).1
-  pub reads : (setup : Setup) (c d : Conn) (bytes : List ℕ) → setup.udp.kind ≡ kind.Udp → IsLawful c → TookNext setup c bytes d → IsLawful d
+  pub reads : (setup : Setup) (c d : Conn) (bytes : List ℕ) → IsLawful c → TookNext setup c bytes d → IsLawful d
   pub finishes : (c : Conn) (inside : Bool) → IsLawful c → can_read c ≡ true → IsLawful (finished c inside).1
   pub gives_up : (why : End) (c : Conn) → IsLawful c → IsLawful (given_up why c)
   pub queues : (c : Conn) (t : Tunnel) (from : From) (n : ℕ) (packet : List ℕ) → IsLawful c → IsLawful (settled_note (queued c t from n packet)).1

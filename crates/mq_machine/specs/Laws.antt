@@ -102,10 +102,12 @@ IsToldStep = (orders : Orders) (old new : Sight) (boxes : List (List Parcel)) (s
     → TellsAll old.outside s → HasTold new.outside t → old.seen.is_whole ≡ true → old.boxes ≡ Some boxes
     → StepGives orders old new s result t → PlainGives orders old new boxes s result t
 
--- the template of tunnels for UDP is one that a text tells
+-- its templates are ones that texts tell
 pub record IsToldSetup (setup : Setup) : Type 0 where
   pub udp_text : List ℕ
   pub udp : IsTemplate udp_text setup.udp
+  pub ip_text : List ℕ
+  pub ip : IsTemplate ip_text setup.ip
 
 -- a read brings one thing, by a setup whose templates are ones that texts tell
 abbrev pub BringsOnce : Type 0

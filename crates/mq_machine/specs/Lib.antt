@@ -14,3 +14,4 @@ pub mod Acting
 pub mod Cores
 pub mod Laws
 pub mod Lawful
+pub mod Placing

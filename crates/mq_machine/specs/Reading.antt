@@ -28,6 +28,7 @@ use Rattle.mq_talk.specs.declared.note.Why.TheVariants as why
 use Rattle.mq_talk.specs.declared.place.Cause.TheVariants as cause
 use Rattle.mq_target.specs.declared.target.Matched.{Matched}
 use Rattle.mq_target.specs.declared.target.Matched.TheVariants.{No, Bad, Yes}
+use Rattle.mq_target.specs.declared.template.Template.{Template}
 use Rattle.mq_target.specs.Matching.{Matches}
 use Rattle.mq_machine.specs.declared.act.Act.{Act}
 use Rattle.mq_machine.specs.declared.act.Act.TheVariants as act
@@ -60,10 +61,14 @@ MatchedMeans setup No meaning = meaning ≡ Refused 404 0
 MatchedMeans setup Bad meaning = meaning ≡ Refused 400 0
 MatchedMeans setup (Yes target) meaning = (decision : Decision) × Decides setup.policy target decision × (meaning ≡ decided decision)
 
--- What a path of this kind comes to. Tunnels for IP packets aren't served yet.
+-- the template of a kind's requests (RFC 9298, section 2; RFC 9484, section 3)
+abbrev pub template_of : Setup → Kind → Template
+template_of setup kind.Udp = setup.udp
+template_of setup kind.Ip = setup.ip
+
+-- what a path of this kind comes to
 abbrev pub PathMeans : Setup → Kind → List ℕ → Meaning → Type 0
-PathMeans setup kind.Udp path meaning = (matched : Matched) × Matches setup.udp path matched × MatchedMeans setup matched meaning
-PathMeans setup kind.Ip path meaning = meaning ≡ Refused 501 0
+PathMeans setup kind path meaning = (matched : Matched) × Matches (template_of setup kind) path matched × MatchedMeans setup matched meaning
 
 -- What the request of a kind comes to, or one for no tunnel.
 abbrev pub KindMeans : Setup → Option Kind → List ℕ → Meaning → Type 0

@@ -145,6 +145,11 @@ queued c t from n packet =
     then (note.Dropped from n cause.QueueFull, c)
     else (note.Queued from n t.id, with_waiting t.id (record { what = Packet from n packet; capsule = capsule_text (datagram packet); framed = 0 }) c)
 
+-- A packet that came through an inbox goes on with its hop limit lowered, where that can be.
+abbrev pub passed_on : Conn → Tunnel → From → ℕ → Option (List ℕ) → Note × Conn
+passed_on c t from n None = (note.Dropped from n cause.HopLimit, c)
+passed_on c t from n (Some packet) = settled_note (queued c t from n packet)
+
 -- ---- receives
 
 -- the port of a live tunnel has a datagram, or fails

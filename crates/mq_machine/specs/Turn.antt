@@ -30,7 +30,7 @@ use Rattle.mq_machine.specs.State.{Conn, Tunnel, Link, Port, Net, Held, Offer, W
 use Rattle.mq_machine.specs.Want.{Want, Nothing, Say, Bind, Ask, Judge, Push, Send, Over, Answer, Said, want_of}
 use Rattle.mq_machine.specs.Done.{done}
 use Rattle.mq_machine.specs.Shared.{Answers, PortsAnswer, ports_after, port_of, at_port, inbox_of, pushing, Ordered}
-use Rattle.mq_machine.specs.Steps.{can_read, framed, wrote, finished, failed, settled_note, queued, can_receive, received, port_received, port_failed}
+use Rattle.mq_machine.specs.Steps.{can_read, framed, wrote, finished, failed, passed_on, can_receive, received, port_received, port_failed}
 use Rattle.mq_machine.specs.Reading.{TookNext, EndsThere}
 
 -- ---- what a connection can do
@@ -256,13 +256,9 @@ source_of origin.Net = source.Net
 
 -- a packet that came through the inbox waits in its tunnel
 abbrev pub came_to : Held → Tunnel → Parcel → Note × Held
-came_to h t parcel = by_packet (onward parcel.packet) where
+came_to h t parcel = with_note (passed_on h.conn t (source_of parcel.from) parcel.n (onward parcel.packet)) where
   with_note : Note × Conn → Note × Held
   with_note d = (d.0, record h { conn = d.1 })
-
-  by_packet : Option (List ℕ) → Note × Held
-  by_packet None = (note.Dropped (source_of parcel.from) parcel.n cause.HopLimit, h)
-  by_packet (Some packet) = with_note (settled_note (queued h.conn t (source_of parcel.from) parcel.n packet))
 
 abbrev pub tunnel_in : Worker → Place → Option (Held × Tunnel)
 tunnel_in w place.Net = None

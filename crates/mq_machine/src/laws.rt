@@ -1,5 +1,6 @@
 //! Laws of the machine's definitions, each the contract of a function without a body.
 ghost use Rattle.mq_machine.specs.Lawful.{StaysLawful};
+ghost use Rattle.mq_machine.specs.Placing.{StaysPlaced};
 ghost use Rattle.mq_machine.specs.Laws.{StarvesOnce, BringsOnce, IsToldStep, HasOneSilentTurn, IsSilentOrQuiet, HasOneTurn, HasOneWorkerTurn, IsDoneOnce, IsQuietOrTurn, IsTurnOrQuiet, SettlesNothing};
 
 use mq_capsule::is_read_once;
@@ -69,10 +70,15 @@ pub fn starves_once()
     ensures { StarvesOnce }
 {}
 
-/// What holds of each connection is kept by each of its steps. Tunnels for IP packets aren't served yet.
+/// What holds of each connection is kept by each of its steps.
 pub fn stays_lawful()
     ensures { StaysLawful }
 {
     is_asked_once();
     what_is_told_is_held();
 }
+
+/// Each packet that a connection is to push has an inbox, and each of its steps keeps that.
+pub fn stays_placed()
+    ensures { StaysPlaced }
+{}

@@ -29,8 +29,8 @@
 //! nothing is owed. The client's preface leads there; while the bytes of a connection are a part of it, nothing is decided.
 //!
 //! The definitions stand in specs/, in this reading order: State, Want, Http2, Putting, Settle, Done, Shared, Steps, Reading
-//! (what bytes ask for), Turn, Silent; then Lawful (what holds of every connection), Acting (what a step of an actor promises over
-//! any book, inboxes, links and ports, whether they tell what they hold or not) and Laws. A request for IP packets is refused with 501.
+//! (what bytes ask for), Turn, Silent; then Lawful and Placing (what holds of every connection), Acting (what a step of an actor
+//! promises over any book, inboxes, links and ports, whether they tell what they hold or not) and Laws.
 #![tactic(auto)]
 
 mod act;
@@ -42,6 +42,7 @@ pub use act::{Act, Due, StreamAct};
 pub use event::Event;
 pub use laws::{
     brings_once, done_once, one_silent_turn, one_turn, one_worker_turn, quiet_or_turn,
-    settles_nothing, silent_or_quiet, starves_once, stays_lawful, told_step, turn_or_quiet,
+    settles_nothing, silent_or_quiet, starves_once, stays_lawful, stays_placed, told_step,
+    turn_or_quiet,
 };
 pub use setup::Setup;

@@ -51,6 +51,7 @@ push_gives old new to parcel pushed.Taken lt does =
       size = length_empty n;
       was = tt;
       is = tt;
+      tells = refl;
       does = (rw (at_empty n to) refl, refl);
     }
 push_gives old new to parcel (pushed.Full back) lt does =
@@ -64,6 +65,7 @@ push_gives old new to parcel (pushed.Full back) lt does =
       size = length_one n to box;
       was = tt;
       is = tt;
+      tells = refl;
       does = (rw here (le-ltb (length box) 256 long), refl, does.0);
     }
 
@@ -75,6 +77,7 @@ pop_gives old new None lt does =
       size = length_empty n;
       was = tt;
       is = tt;
+      tells = refl;
       does = (at_empty n old.actor, refl);
     }
 pop_gives old new (Some parcel) lt does =
@@ -87,6 +90,7 @@ pop_gives old new (Some parcel) lt does =
       size = length_one n old.actor box;
       was = tt;
       is = tt;
+      tells = refl;
       does = ([], get_one n old.actor box lt, refl, subst P does.1 does.2.parcel);
     }
 

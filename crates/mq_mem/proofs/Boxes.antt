@@ -50,6 +50,7 @@ push_gives items to parcel answer box after within is pushes = record {
   size = refl;
   was = refl;
   is = refl;
+  tells = refl;
   does = push_does items to parcel answer box after within is pushes;
 }
 
@@ -68,5 +69,6 @@ pop_gives items of answer box after within is pops = record {
   size = refl;
   was = refl;
   is = refl;
+  tells = refl;
   does = pop_does items of answer box after within is pops;
 }

@@ -1,5 +1,5 @@
 -- What a network in memory holds: its packets arrived by themselves, since it has no hosts.
-use Rattle.std.specs.Prelude.{false, List, [], map, Option}
+use Rattle.std.specs.Prelude.{false, [], map, Option}
 use Rattle.mq_outside.specs.Nets.{NetHolds, by_itself}
 use Rattle.mq_mem.specs.Links.{tells}
 use Rattle.mq_mem.specs.Ports.{Queue}

@@ -9,6 +9,7 @@ use Rattle.mq_talk.specs.Offices.{Seen}
 use Rattle.mq_machine.specs.declared.setup.Setup.{Setup}
 use Rattle.mq_machine.specs.State.{Held, new_worker}
 use Rattle.mq_machine.specs.Acting.{Outside, Known, HasTunnel, IsOpen}
+use Rattle.mq_machine.specs.Placing.{ArePlaced}
 use Rattle.mq_mem.specs.Links.{Link as LinkOf}
 use Rattle.mq_mem.specs.Ports.{Port as PortOf}
 use Rattle.mq_held.specs.declared.held.Held.{Held as HeldBy}
@@ -56,6 +57,7 @@ module _ (a : Plain) (id : ℕ) (setup : Setup) (stands : IsWorker words.most a.
       pump = pump;
       tunnels = λ tunnel conn stream goal. (λ has. absurd (none_had tunnel conn stream goal has), λ is. absurd (none_open tunnel conn stream goal is));
       last = All-nil (λ (h : Held). h.conn.next_tunnel ≤ length seen.entries);
+      places = All-nil (λ (h : Held). ArePlaced seen.config.workers h.conn.due);
       boxes = λ bs is.
           let same : boxes ≡ bs = cc in
           ap (λ (b : Boxes). length b) (sym same) ∙ size;

@@ -12,8 +12,10 @@ use Rattle.mq_talk.specs.Mails.{Boxes}
 use Rattle.mq_talk.specs.Offices.{Seen}
 use Rattle.mq_machine.specs.State.{Held, Worker}
 use Rattle.mq_machine.specs.Acting.{Outside, IsOpen, IsOwn, Writes, Known}
+use Rattle.mq_machine.specs.Placing.{ArePlaced}
 use Rattle.mq_actor.specs.Steps.{sight}
-use Rattle.mq_actor.proofs.Books.{any_closes, open_onward, open_backward, entry_or_last}
+use Rattle.mq_actor.proofs.Books.{open_onward, open_backward, entry_or_last}
+use Rattle.mq_book.proofs.Onward.{any_closes}
 
 -- a tunnel that one actor opened is closed by no entry of another
 call_beside : (book : History) (k j t : ℕ) (c : Call) (e : Entry) → slice_get book t ≡ Some e → e.actor ≡ j → j ≢ k
@@ -67,7 +69,6 @@ known_beside o n old new boxes after k x known ne whole w config size =
     let longer : length new.entries ≡ length old.entries + length w.own = ap (λ (h : History). length h) wrote ∙ length-append old.entries w.own in
     let workers : new.config.workers ≡ old.config.workers = ap (λ c. c.workers) config in
     let lt = known.id in
-    let N : ℕ → Type 0 = λ m. m ≤ length old.entries in
     record {
       id = omega (arith, lt, workers);
       pump = known.pump ∙ sym workers;
@@ -79,6 +80,7 @@ known_beside o n old new boxes after k x known ne whole w config size =
           );
       last = All-weaker (λ (h : Held). h.conn.next_tunnel ≤ length old.entries) (λ (h : Held). h.conn.next_tunnel ≤ length new.entries)
           (λ h le. omega (arith, le, longer)) x.conns known.last;
+      places = subst (λ (m : ℕ). All (λ (h : Held). ArePlaced m h.conn.due) x.conns) (sym workers) known.places;
       boxes = λ bs is.
           let same : after ≡ bs = cc in
           let was = known.boxes boxes refl in

@@ -139,7 +139,6 @@ module _ (change : Link → Link) (number : ℕ) where
     conns = helds_changed most table r.conns.items w.conns is.conns;
     next = is.next;
     actors = actors_changed w.conns w.id is.actors;
-    udp = is.udp;
     rooms = is.rooms;
     ports = is.ports;
     numbers = is.numbers;

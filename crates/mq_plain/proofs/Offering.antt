@@ -9,7 +9,6 @@ use Rattle.mq_mem.specs.Links.{Link as LinkOf}
 use Rattle.mq_held.specs.declared.held.Held.{Held as HeldBy}
 use Rattle.mq_actor.specs.declared.offer.Offer.{Offer as OfferBy}
 use Rattle.mq_actor.specs.Ended.{numbers_in}
-use Rattle.mq_addr.specs.declared.kind.Kind.TheVariants as kind
 use Rattle.mq_step.specs.Rooms.{HasRooms}
 use Rattle.mq_actor.specs.Holds.{IsWorker, AreHeld, AreOffered, AreDistinct, HaveOwnPorts}
 use Rattle.mq_actor.specs.Seen.{Words}
@@ -100,7 +99,6 @@ serves_still links seen boxes actor a b w x rest same =
         conns = subst (λ (z : Plain). AreHeld words.most z.table.table z.ring.conns.items w.conns) (sym rest) x.stands.conns;
         next = x.stands.next ∙ sym (ap (λ (z : Plain). z.ring.next_seat) rest);
         actors = x.stands.actors;
-        udp = subst (λ (z : Plain). z.ring.setup.udp.kind ≡ kind.Udp) (sym rest) x.stands.udp;
         rooms = subst (λ (z : Plain). HasRooms z.ring.rooms) (sym rest) x.stands.rooms;
         ports = subst (λ (z : Plain). HaveOwnPorts z.ring.conns.items) (sym rest) x.stands.ports;
         numbers = subst (λ (ns : List ℕ). AreDistinct ns) (sym numbers) x.stands.numbers;

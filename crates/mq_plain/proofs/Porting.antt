@@ -22,7 +22,6 @@ use Rattle.mq_actor.specs.Seen.{Words}
 use Rattle.mq_actor.specs.Told.{TellsPort, TellPorts, TellConns, TellsRing}
 use Rattle.mq_actor.proofs.Helds.{held_at}
 use Rattle.mq_actor.proofs.InRing.{at_all}
-use Rattle.mq_actor.proofs.Pointwise.{within}
 use Rattle.mq_actor.proofs.Sighted.{HaveOwnTunnels}
 use Rattle.mq_play.specs.Events.{with_ports, with_held_ports}
 
@@ -169,7 +168,6 @@ module _ {L Q : Type 0} (words : Words L Q) (table : Slab Q) (change : Port → 
     conns = helds_changed r.conns.items w.conns is.conns;
     next = is.next;
     actors = actors_changed w.conns w.id is.actors;
-    udp = is.udp;
     rooms = is.rooms;
     ports = is.ports;
     numbers = is.numbers;

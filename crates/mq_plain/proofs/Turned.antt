@@ -11,6 +11,8 @@ use Rattle.mq_talk.specs.declared.book.Config.{Config}
 use Rattle.mq_talk.specs.declared.book.Entry.{Entry}
 use Rattle.mq_talk.specs.declared.book.Reply.{Reply}
 use Rattle.mq_talk.specs.declared.book.Reply.TheVariants as reply
+use Rattle.mq_talk.specs.declared.goal.Goal.{Goal}
+use Rattle.mq_talk.specs.declared.goal.Goal.TheVariants as goal
 use Rattle.mq_talk.specs.declared.note.Note.{Note}
 use Rattle.mq_talk.specs.declared.note.End.{End}
 use Rattle.mq_talk.specs.declared.place.Parcel.{Parcel}
@@ -33,7 +35,7 @@ use Rattle.mq_actor.proofs.Helds.{at_held}
 use Rattle.mq_actor.proofs.InRing.{at_all}
 use Rattle.mq_actor.proofs.Lists.{found_at}
 use Rattle.mq_actor.proofs.Parcels.{came_ports, found_with, popped_found, popped_none}
-use Rattle.mq_step.specs.Holds.{AreServed, tunnels_of, numbers_of}
+use Rattle.mq_step.specs.Holds.{AreServed, tunnels_of, numbers_of, port_number}
 use Rattle.mq_play.specs.Events.{with_held_ports}
 use Rattle.mq_plain.proofs.Emptied.{PortsApart, PortsFine, ConnsApart, ConnsFine, AreOpened, conns_fine, fine_pushed, fine_replaced, apart_any, apart_found, apart_fine, try_fine, worker_clear, prepared_emptied}
 
@@ -163,13 +165,29 @@ tunnels_apart : (t : ℕ) (us : List Tunnel) → ((j : ℕ) (u : Tunnel) → sli
 tunnels_apart t [] each = tt
 tunnels_apart t (u ∷ us) each = (each zero u refl, tunnels_apart t us (λ j v at. each (suc j) v at))
 
+-- no number is this one
+abbrev NumbersApart : ℕ → List ℕ → Type 0
+NumbersApart t [] = ⊤
+NumbersApart t (n ∷ ns) = (n ≢ t) × NumbersApart t ns
+
+one_apart : (t : ℕ) (g : Goal) (id : ℕ) (ns : List ℕ) → id ≢ t → NumbersApart t ns → NumbersApart t (port_number g id ++ ns)
+one_apart t (goal.Udp addr port) id ns ne apart = (ne, apart)
+one_apart t (goal.Ip area protocol) id ns ne apart = apart
+
+numbers_apart : (t : ℕ) (us : List Tunnel) → TunnelsApart t us → NumbersApart t (numbers_of us)
+numbers_apart t [] apart = tt
+numbers_apart t (u ∷ us) apart = one_apart t u.goal u.id (numbers_of us) apart.0 (numbers_apart t us apart.1)
+
+listed_apart : (more : List ℕ) (t : ℕ) (ns : List ℕ) (ports : List Port) → NumbersApart t ns → ns ≡ tunnels_of ports ++ more → PortsApart t ports
+listed_apart more t ns [] apart same = tt
+listed_apart more t [] (p ∷ ports) apart same = absurd cc
+listed_apart more t (n ∷ ns) (p ∷ ports) apart same =
+    let first : n ≡ p.tunnel = cc in
+    let rest : ns ≡ tunnels_of ports ++ more = cc in
+    (λ e. apart.0 (first ∙ e), listed_apart more t ns ports apart.1 rest)
+
 ports_apart : (more : List ℕ) (t : ℕ) (us : List Tunnel) (ports : List Port) → TunnelsApart t us → numbers_of us ≡ tunnels_of ports ++ more → PortsApart t ports
-ports_apart more t us [] apart same = tt
-ports_apart more t [] (p ∷ ports) apart same = absurd cc
-ports_apart more t (u ∷ us) (p ∷ ports) apart same =
-    let first : u.id ≡ p.tunnel = cc in
-    let rest : numbers_of us ≡ tunnels_of ports ++ more = cc in
-    (λ e. apart.0 (first ∙ e), ports_apart more t us ports apart.1 rest)
+ports_apart more t us ports apart same = listed_apart more t (numbers_of us) ports (numbers_apart t us apart) same
 
 all_apart : (t : ℕ) (us : List Tunnel) (ports : List Port) → TunnelsApart t us → tunnels_of ports ≡ numbers_of us → PortsApart t ports
 all_apart t us ports apart same = ports_apart [] t us ports apart (sym same ∙ sym (append-nil (tunnels_of ports)))

@@ -1,7 +1,6 @@
 //! A worker whose office refuses memory to one call, and one over the inboxes that threads share.
 
 ghost use Rattle.std.specs.Prelude.{◌≡◌, ◌+◌, [], IfOk, List, length};
-ghost use Rattle.mq_addr.specs.declared.kind.Kind.TheVariants as kind;
 ghost use Rattle.mq_talk.specs.Mails.{Boxes};
 ghost use Rattle.mq_talk.specs.Offices.{IsSound, Seen};
 ghost use Rattle.mq_machine.specs.State as machine;
@@ -39,7 +38,7 @@ fn nothing<T: Drop>(alloc: Global) -> Seq<T>
 
 /// What the only worker is set up with.
 fn setup(alloc: Global) -> Result<Setup, NoMemory>
-    ensures { IfOk result (λ s. (s.udp.kind ≡ kind.Udp) × (s.pump ≡ 1)) }
+    ensures { IfOk result (λ s. s.pump ≡ 1) }
 {
     let udp = Template::well_known(alloc, Kind::Udp)?;
     let ip = Template::well_known(alloc, Kind::Ip)?;

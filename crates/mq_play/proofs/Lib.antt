@@ -1,7 +1,7 @@
 pub mod Fates
 pub mod Lists
-pub mod Plain
-pub mod PlainReads
+pub mod Owned
+pub mod Tunnels
 pub mod Lawful
 pub mod Plans
 pub mod Sure

@@ -1,5 +1,5 @@
 pub mod Rises
-pub mod Owners
+pub mod Inboxes
 pub mod Shared
 pub mod Turns
 pub mod Pushing

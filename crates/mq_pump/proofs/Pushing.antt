@@ -7,14 +7,14 @@ use Rattle.mq_talk.specs.declared.note.Note.{Note}
 use Rattle.mq_talk.specs.declared.note.Note.TheVariants.{PushedNote, Dropped}
 use Rattle.mq_talk.specs.declared.place.Cause.TheVariants.{InboxFull}
 use Rattle.mq_talk.specs.declared.place.Parcel.{Parcel}
-use Rattle.mq_talk.specs.Mails.{Boxes, IsTold, box_at, has_room, with_parcel}
+use Rattle.mq_talk.specs.Mails.{Boxes, IsTold, box_at, has_room, inbox_in, with_parcel}
 use Rattle.mq_machine.specs.State as machine
 use Rattle.mq_machine.specs.State.{Shared}
 use Rattle.mq_machine.specs.Shared.{inbox_of}
 use Rattle.mq_machine.specs.Turn.{PushHeld, source_of, parcel_pushed}
 use Rattle.mq_machine.specs.Acting.{PumpSight, PumpSteps, Rose}
 use Rattle.mq_pump.specs.declared.pump.Pump.{Pump}
-use Rattle.mq_pump.specs.Holds.{IsPump, inbox_in}
+use Rattle.mq_pump.specs.Holds.{IsPump}
 use Rattle.mq_pump.specs.Pushes.{Pushes, PushSays}
 use Rattle.mq_pump.proofs.Shared.{told_or, inbox_is, was_box, sharing, meets_by, known_by, same_office, sees_new}
 use Rattle.mq_pump.proofs.Turns.{with_holds, refills, tries_push}

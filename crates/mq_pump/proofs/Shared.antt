@@ -7,12 +7,11 @@ use Rattle.mq_talk.specs.declared.book.Entry.{Entry}
 use Rattle.mq_talk.specs.declared.place.Parcel.{Parcel}
 use Rattle.mq_talk.specs.declared.place.Place.{Place}
 use Rattle.mq_talk.specs.declared.place.Place.TheVariants as place
-use Rattle.mq_talk.specs.Mails.{Boxes, IsTold, box_at}
+use Rattle.mq_talk.specs.Mails.{Boxes, IsTold, box_at, inbox_in}
 use Rattle.mq_talk.specs.Offices.{Seen, Sees, IsSame, IsOfOther}
 use Rattle.mq_machine.specs.State.{Shared, Orders}
 use Rattle.mq_machine.specs.Shared.{inbox_of}
 use Rattle.mq_machine.specs.Acting.{Outside, PumpSight, PumpKnown, Meets, WasInbox, shared_sight}
-use Rattle.mq_pump.specs.Holds.{inbox_in}
 
 -- ---- what isn't told is made up
 

@@ -1,12 +1,12 @@
 -- What a network in memory says of its next receive.
-use Rattle.std.proofs.Common.{◌≡◌, ℕ, ◌==◌, ◌||◌, ◌&&◌, Bool, true, false, not, List, [], ◌∷◌, length, map, nat_lt, Option, Some, None, is_some, refl, sym, ◌∙◌, arith}
+use Rattle.std.proofs.Common.{◌≡◌, ℕ, ◌==◌, ◌||◌, not, List, [], ◌∷◌, length, map, nat_lt, Option, Some, None, is_some, refl, sym, ◌∙◌, arith}
 use Rattle.std.specs.List.{list_any}
 use Rattle.std.proofs.lemmas.Bool.{lt-ltb}
-use Rattle.mq_outside.specs.Nets.{Arrival, by_itself}
+use Rattle.mq_outside.specs.Nets.{by_itself}
 use Rattle.mq_mem.specs.Links.{tells}
 use Rattle.mq_mem.specs.Nets.{net_holds, told_net}
 use Rattle.mq_mem.specs.Ports.{Queue, would_receive}
-use Rattle.mq_pump.specs.Ready.{WouldGive, may_give}
+use Rattle.mq_pump.specs.Ready.{WouldGive}
 
 as_many : (packets : List (List ℕ)) → nat_lt 0 (length packets) ≡ nat_lt 0 (length (map by_itself packets))
 as_many [] = refl

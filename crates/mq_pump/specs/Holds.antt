@@ -3,23 +3,16 @@ use Rattle.std.specs.Prelude.{◌≡◌, ⊤, ℕ, ◌≤◌, length, Option, Ma
 use Rattle.mq_outside.specs.Counts.{PortCounts}
 use Rattle.mq_outside.specs.Nets.{NetHolds}
 use Rattle.mq_talk.specs.declared.place.Parcel.{Parcel}
-use Rattle.mq_talk.specs.declared.place.Place.{Place}
-use Rattle.mq_talk.specs.declared.place.Place.TheVariants as place
-use Rattle.mq_talk.specs.Mails.{Boxes, IsParcel}
+use Rattle.mq_talk.specs.Mails.{Boxes, HasInbox, IsParcel}
 use Rattle.mq_talk.specs.Offices.{Seen}
 use Rattle.mq_machine.specs.State as machine
 use Rattle.mq_machine.specs.Acting.{PumpSight}
 use Rattle.mq_pump.specs.declared.pump.Pump.{Pump}
 
--- the inbox of a place, where so many workers have theirs before the pump's
-abbrev pub inbox_in : ℕ → Place → ℕ
-inbox_in workers (place.Tunnel tunnel actor) = actor
-inbox_in workers place.Net = workers
-
 -- a parcel that may be pushed: there is an inbox for it
 pub record CanGo (workers : ℕ) (parcel : Parcel) : Type 0 where
   pub is : IsParcel parcel
-  pub inbox : inbox_in workers parcel.to ≤ workers
+  pub inbox : HasInbox workers parcel.to
 
 -- one that may be sent
 abbrev pub CanSend : Parcel → Type 0

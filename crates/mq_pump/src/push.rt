@@ -1,10 +1,11 @@
 //! A parcel goes to the inbox of its place.
 ghost use Rattle.std.specs.Prelude.{◌≡◌, ◌+◌};
 ghost use Rattle.mq_machine.specs.Turn.{source_of as source_is};
-ghost use Rattle.mq_pump.specs.Holds.{CanGo, inbox_in};
+ghost use Rattle.mq_talk.specs.Mails.{inbox_in};
+ghost use Rattle.mq_pump.specs.Holds.{CanGo};
 ghost use Rattle.mq_pump.specs.Pushes.{Pushes};
 
-use mq_talk::{Cause, From, Mail, Note, Origin, Parcel, Place, Pushed};
+use mq_talk::{Cause, From, Mail, Note, Origin, Parcel, Pushed};
 
 /// Where a note says that a packet comes from.
 pub fn source_of(origin: Origin) -> From
@@ -13,16 +14,6 @@ pub fn source_of(origin: Origin) -> From
     match origin {
         Origin::Tunnel(tunnel) => From::Tunnel(tunnel),
         Origin::Net => From::Net,
-    }
-}
-
-/// The inbox of a place: the pump's is behind those of so many workers.
-fn inbox_of(workers: u32, to: Place) -> u32
-    ensures { result ≡ inbox_in workers to }
-{
-    match to {
-        Place::Tunnel { actor, .. } => actor,
-        Place::Net => workers,
     }
 }
 
@@ -37,7 +28,7 @@ pub fn push<M: Mail>(workers: u32, parcel: Parcel, mail: &mut M) -> Note
     let from = source_of(parcel.from);
     let n = parcel.n;
     let to = parcel.to;
-    match mail.push(inbox_of(workers, to), parcel) {
+    match mail.push(to.inbox(workers), parcel) {
         Pushed::Taken => Note::PushedNote { from, n, to },
         Pushed::Full(_) => Note::Dropped {
             from,

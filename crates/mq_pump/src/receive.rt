@@ -10,6 +10,7 @@ ghost use Rattle.mq_pump.specs.Sends.{net_seen};
 
 use crate::pump::Pump;
 use crate::ready::NetReady;
+use mq_book::judged_has_inbox;
 use mq_iphdr::check;
 use mq_outside::{PortGot, risen};
 use mq_talk::{Cause, From, Note, Office, Origin, Parcel, Verdict};
@@ -77,6 +78,7 @@ impl<N: NetReady> Pump<N> {
         if packet.as_slice().len() > self.mtu as usize {
             return dropped(n, Cause::TooLong);
         }
+        judged_has_inbox();
         let judged = office.judge(Origin::Net, &view.flow);
         match judged.verdict {
             Verdict::Source => dropped(n, Cause::Source),

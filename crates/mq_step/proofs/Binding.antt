@@ -13,7 +13,7 @@ use Rattle.mq_talk.specs.declared.goal.Goal.TheVariants as goal
 use Rattle.mq_talk.specs.declared.note.Note.{Note}
 use Rattle.mq_talk.specs.declared.note.Note.TheVariants as note
 use Rattle.mq_talk.specs.declared.note.End.{End}
-use Rattle.mq_talk.specs.declared.place.Parcel.{Parcel}
+use Rattle.mq_talk.specs.Mails.{Boxes}
 use Rattle.mq_talk.specs.Offices.{Seen}
 use Rattle.mq_machine.specs.State.{Conn, Tunnel, Held, Port, Orders, Shared}
 use Rattle.mq_machine.specs.Want.{Want, Nothing, Say, Bind, Ask, Over, Answer, Said, Bound, want_of}
@@ -33,8 +33,8 @@ use Rattle.mq_step.specs.Wanted.{MayBind, WantDone, WantWaits, WantStarves, ActG
 use Rattle.mq_step.specs.declared.stepped.Stepped.{Stepped}
 use Rattle.mq_wire.specs.declared.NoMemory.{NoMemory}
 use Rattle.std.specs.Result.{IsErr}
-use Rattle.mq_step.proofs.Filling.{are_filled, are_kept, tunnels_filled, StaysTold, stay_told, filled_told, stays_grow, stays_port, stays_work, none_fails, served_any, served_filled, served_none, alive_served}
-use Rattle.mq_step.proofs.Wanting.{over_is, shared_by, shares_same}
+use Rattle.mq_step.proofs.Filling.{are_filled, are_kept, tunnels_filled, StaysTold, stay_told, filled_told, stays_grow, stays_port, stays_work, none_fails, served_any, served_filled, alive_served}
+use Rattle.mq_step.proofs.Wanting.{Mailed, over_is, shared_by, shares_same}
 use Rattle.mq_step.proofs.Keeping.{no_opens_nil, kept_said, kept_refused, bound_next}
 use Rattle.mq_step.proofs.Cores.{tail_opens, said_alive, bind_alive}
 use Rattle.mq_step.proofs.Standing.{stands, same_apart, bound_none}
@@ -81,12 +81,12 @@ module _ {L Q : Type 0} (most : Q → ℕ) (holds : Q → Option PortHolds) (cou
       subst P (sym x.sees.binds_are) (subst R (sym x.sees_after.binds_are) is)
 
   -- a connection that isn't ending, and wants what takes memory, was refused it
-  pub sinks_alone : (x : Stays most holds counts binds binds_after table after h g o n s) (seen : Seen) (boxes : List (List Parcel)) (orders : Orders) (w : Want) (a : Answer) (asked : Bool) → want_of s.conn ≡ w
+  pub sinks_alone : (x : Stays most holds counts binds binds_after table after h g o n s) (seen : Seen) (m : Mailed seen) (orders : Orders) (w : Want) (a : Answer) (asked : Bool) → want_of s.conn ≡ w
       → ((ports : List Port) → can_do ports w ≡ true) → s.conn.ending ≡ None → g.bound ≡ None → IsConn g.conn (starved s.conn)
-      → Heard asked (ported o idle s) (shared_by seen seen.entries boxes orders) Act a s.conn.tunnels (shared_by seen seen.entries boxes orders) → BindFits o n a
-      → Sinks most after g o n seen seen boxes orders s
-  sinks_alone x seen boxes orders w a asked want can alive bound conn heard_is fits =
-      let sh : Shared = shared_by seen seen.entries boxes orders in
+      → Heard asked (ported o idle s) (shared_by seen seen.entries m.boxes orders) Act a s.conn.tunnels (shared_by seen seen.entries m.boxes orders) → BindFits o n a
+      → Sinks most after g o n seen seen m orders s
+  sinks_alone x seen m orders w a asked want can alive bound conn heard_is fits =
+      let sh : Shared = shared_by seen seen.entries m.boxes orders in
       let u : Held = sunk o s s.conn.tunnels in
       let A : List PortSeat → Type 0 = λ xs. ArePorts most after xs (map (filled_port o idle) s.ports) in
       record {
@@ -100,7 +100,7 @@ module _ {L Q : Type 0} (most : Q → ℕ) (holds : Q → Option PortHolds) (cou
           tunnels = s.conn.tunnels;
           can = ap (λ (v : Want). can_do (ported o idle s).ports v) want ∙ can (ported o idle s).ports;
           alive = alive;
-          shares = shares_same seen seen boxes orders refl;
+          shares = shares_same seen seen m orders refl;
           heard = heard_is;
           binds = fits;
           then = refl;
@@ -115,15 +115,15 @@ module _ {L Q : Type 0} (most : Q → ℕ) (holds : Q → Option PortHolds) (cou
         served_alive d e none served = served_any e s.conn.tunnels s.ports (alive_served d s.conn.tunnels s.ports none served)
 
   -- a bind was answered, or not even that, where memory was refused
-  pub bind_sinks : (x : Stays most holds counts binds binds_after table after h g o n s) (seen : Seen) (boxes : List (List Parcel)) (orders : Orders) (stream : ℕ) (goal : Goal)
-      → want_of s.conn ≡ Bind stream goal → g.bound ≡ None → IsConn g.conn (starved s.conn) → MayBind binds binds_after → Sinks most after g o n seen seen boxes orders s
-  bind_sinks x seen boxes orders stream goal want bound conn (inl same) =
-      sinks_alone x seen boxes orders (Bind stream goal) Said false want (λ ports. refl) (bind_alive h.conn s.conn stream goal x.held.conn want) bound conn (refl, refl, refl)
+  pub bind_sinks : (x : Stays most holds counts binds binds_after table after h g o n s) (seen : Seen) (m : Mailed seen) (orders : Orders) (stream : ℕ) (goal : Goal)
+      → want_of s.conn ≡ Bind stream goal → g.bound ≡ None → IsConn g.conn (starved s.conn) → MayBind binds binds_after → Sinks most after g o n seen seen m orders s
+  bind_sinks x seen m orders stream goal want bound conn (inl same) =
+      sinks_alone x seen m orders (Bind stream goal) Said false want (λ ports. refl) (bind_alive h.conn s.conn stream goal x.held.conn want) bound conn (refl, refl, refl)
       (held_back x same)
-  bind_sinks x seen boxes orders stream goal want bound conn (inr (done, is)) =
-      let sh : Shared = shared_by seen seen.entries boxes orders in
+  bind_sinks x seen m orders stream goal want bound conn (inr (done, is)) =
+      let sh : Shared = shared_by seen seen.entries m.boxes orders in
       let A : Want → Type 0 = λ w. Answers s.conn.actor sh w (Bound done) sh in
-      sinks_alone x seen boxes orders (Bind stream goal) (Bound done) true want (λ ports. refl) (bind_alive h.conn s.conn stream goal x.held.conn want) bound conn
+      sinks_alone x seen m orders (Bind stream goal) (Bound done) true want (λ ports. refl) (bind_alive h.conn s.conn stream goal x.held.conn want) bound conn
       (record {
         tries = refl;
         takes = ap (λ (w : Want). takes_memory w) want;
@@ -138,17 +138,17 @@ module _ {L Q : Type 0} (most : Q → ℕ) (holds : Q → Option PortHolds) (cou
   says_plain : NeedsNoPort n Say Said
   says_plain = record { lives = tt; can = λ ports. refl; ports = λ ports. refl; answers = λ ports. tt; plain = λ h. refl }
 
-  pub says : (x : Stays most holds counts binds binds_after table after h g o n s) (seen : Seen) (boxes : List (List Parcel)) (orders : Orders) (said : Note) (t : Conn) → want_of s.conn ≡ Say
-      → g.bound ≡ h.bound → binds_after ≡ binds → done s.conn Said ≡ Some (said, t) → IsConn g.conn t → Comes most after g o n seen seen boxes orders s said
-  says x seen boxes orders said t want same stays does conn =
-      let sh : Shared = shared_by seen seen.entries boxes orders in
+  pub says : (x : Stays most holds counts binds binds_after table after h g o n s) (seen : Seen) (m : Mailed seen) (orders : Orders) (said : Note) (t : Conn) → want_of s.conn ≡ Say
+      → g.bound ≡ h.bound → binds_after ≡ binds → done s.conn Said ≡ Some (said, t) → IsConn g.conn t → Comes most after g o n seen seen m orders s said
+  says x seen m orders said t want same stays does conn =
+      let sh : Shared = shared_by seen seen.entries m.boxes orders in
       let kept = kept_said s.conn t said (tail_opens h.conn s.conn x.held.conn) does in
       let alive = said_alive h.conn s.conn x.held.conn want in
       let bound : g.bound ≡ None = same ∙ bound_none most table h.ports.items (want_of s.conn) Say h.bound x.held.bound want in
       let served = served_any t.ending s.conn.tunnels s.ports (alive_served s.conn.ending s.conn.tunnels s.ports alive x.held.served) in
       record {
         left_is = left o s t;
-        done_is = want_done o n seen seen boxes orders s Say Said said t sh sh want says_plain does refl (shares_same seen seen boxes orders refl) (held_back x stays);
+        done_is = want_done o n seen seen m.mail m.mail orders s Say Said said t sh sh want says_plain does refl (shares_same seen seen m orders refl) (held_back x stays);
         stands_for = left_stands most table after h g o s t x.held x.keeps x.seats x.number bound served kept conn;
         told_is = left_told most holds counts binds binds_after table after h g o n s t x.held x.keeps x.seats x.sees x.sees_after;
       }
@@ -158,17 +158,17 @@ module _ {L Q : Type 0} (most : Q → ℕ) (holds : Q → Option PortHolds) (cou
   binds_plain : (stream : ℕ) (goal : Goal) (b : Bool) → NeedsNoPort n (Bind stream goal) (Bound b)
   binds_plain stream goal b = record { lives = tt; can = λ ports. refl; ports = λ ports. refl; answers = λ ports. tt; plain = λ h. refl }
 
-  pub binds_not : (x : Stays most holds counts binds binds_after table after h g o n s) (seen : Seen) (boxes : List (List Parcel)) (orders : Orders) (said : Note) (t : Conn) (stream : ℕ) (goal : Goal)
-      → want_of s.conn ≡ Bind stream goal → g.bound ≡ h.bound → Binds false binds binds_after → done s.conn (Bound false) ≡ Some (said, t) → IsConn g.conn t → Comes most after g o n seen seen boxes orders s said
-  binds_not x seen boxes orders said t stream goal want same rises does conn =
-      let sh : Shared = shared_by seen seen.entries boxes orders in
+  pub binds_not : (x : Stays most holds counts binds binds_after table after h g o n s) (seen : Seen) (m : Mailed seen) (orders : Orders) (said : Note) (t : Conn) (stream : ℕ) (goal : Goal)
+      → want_of s.conn ≡ Bind stream goal → g.bound ≡ h.bound → Binds false binds binds_after → done s.conn (Bound false) ≡ Some (said, t) → IsConn g.conn t → Comes most after g o n seen seen m orders s said
+  binds_not x seen m orders said t stream goal want same rises does conn =
+      let sh : Shared = shared_by seen seen.entries m.boxes orders in
       let kept = kept_refused s.conn t said (tail_opens h.conn s.conn x.held.conn) does in
       let alive = (bind_alive h.conn s.conn stream goal x.held.conn want) in
       let bound : g.bound ≡ None = same ∙ bound_none most table h.ports.items (want_of s.conn) (Bind stream goal) h.bound x.held.bound want in
       let served = served_any t.ending s.conn.tunnels s.ports (alive_served s.conn.ending s.conn.tunnels s.ports alive x.held.served) in
       record {
         left_is = left o s t;
-        done_is = want_done o n seen seen boxes orders s (Bind stream goal) (Bound false) said t sh sh want (binds_plain stream goal false) does refl (shares_same seen seen boxes orders refl) (binds_seen x false rises);
+        done_is = want_done o n seen seen m.mail m.mail orders s (Bind stream goal) (Bound false) said t sh sh want (binds_plain stream goal false) does refl (shares_same seen seen m orders refl) (binds_seen x false rises);
         stands_for = left_stands most table after h g o s t x.held x.keeps x.seats x.number bound served kept conn;
         told_is = left_told most holds counts binds binds_after table after h g o n s t x.held x.keeps x.seats x.sees x.sees_after;
       }
@@ -181,12 +181,12 @@ module _ {L Q : Type 0} (most : Q → ℕ) (holds : Q → Option PortHolds) (cou
       let B : Option ℕ → Type 0 = λ b. IsBound most after g.ports.items (Ask (call.Open conn id actor (goal.Udp addr number))) b in
       subst W (sym want) (subst B (sym is) ready)
 
-  pub bind_done : (x : Stays most holds counts binds binds_after table after h g o n s) (seen : Seen) (boxes : List (List Parcel)) (orders : Orders) (said : Note) (t : Conn) (stream number : ℕ) (addr : Addr)
+  pub bind_done : (x : Stays most holds counts binds binds_after table after h g o n s) (seen : Seen) (m : Mailed seen) (orders : Orders) (said : Note) (t : Conn) (stream number : ℕ) (addr : Addr)
       → want_of s.conn ≡ Bind stream (goal.Udp addr number) → PortBound most counts addr table after g.bound binds binds_after → vec_len g.ports < vec_capacity g.ports
-      → done s.conn (Bound true) ≡ Some (said, t) → IsConn g.conn t → Comes most after g o n seen seen boxes orders s said
-  bind_done x seen boxes orders said t stream number addr want was room does conn =
+      → done s.conn (Bound true) ≡ Some (said, t) → IsConn g.conn t → Comes most after g o n seen seen m orders s said
+  bind_done x seen m orders said t stream number addr want was room does conn =
       let goal = goal.Udp addr number in
-      let sh : Shared = shared_by seen seen.entries boxes orders in
+      let sh : Shared = shared_by seen seen.entries m.boxes orders in
       let k = bound_next s.conn t said stream goal want does in
       let alive = bind_alive h.conn s.conn stream goal x.held.conn want in
       let ready : IsReady most after (limit_of addr) was.key g.ports.items = record {
@@ -201,7 +201,7 @@ module _ {L Q : Type 0} (most : Q → ℕ) (holds : Q → Option PortHolds) (cou
       tunnels_filled o idle s.ports ∙ alive_served s.conn.ending s.conn.tunnels s.ports alive x.held.served ∙ sym (ap (λ (ts : List Tunnel). numbers_of ts) k.2) in
       record {
         left_is = left o s t;
-        done_is = want_done o n seen seen boxes orders s (Bind stream goal) (Bound true) said t sh sh want (binds_plain stream goal true) does refl (shares_same seen seen boxes orders refl) (binds_seen x true was.binds_are);
+        done_is = want_done o n seen seen m.mail m.mail orders s (Bind stream goal) (Bound true) said t sh sh want (binds_plain stream goal true) does refl (shares_same seen seen m orders refl) (binds_seen x true was.binds_are);
         stands_for = record {
           conn = conn;
           number = k.0 ∙ x.held.number ∙ sym x.number;
@@ -221,8 +221,8 @@ module _ {L Q : Type 0} (most : Q → ℕ) (holds : Q → Option PortHolds) (cou
 
   -- ---- nothing is wanted, or nothing is left
 
-  pub quiet : (x : Stays most holds counts binds binds_after table after h g o n s) (seen : Seen) → want_of s.conn ≡ Nothing → binds_after ≡ binds → WantWaits o n seen seen s
-  quiet x seen want same =
+  pub quiet : (x : Stays most holds counts binds binds_after table after h g o n s) (seen : Seen) (mail : Option Boxes) → want_of s.conn ≡ Nothing → binds_after ≡ binds → WantWaits o n seen seen mail mail s
+  quiet x seen mail want same =
       let W : Want → Type 0 = λ w. WantWaited o n w in
       record {
         cannot = λ f vain. ap (λ (w : Want). can_do (ported o f s).ports w) want;
@@ -232,13 +232,14 @@ module _ {L Q : Type 0} (most : Q → ℕ) (holds : Q → Option PortHolds) (cou
         works = stays_work o n s.ports (stay x);
         binds = x.sees_after.binds_are ∙ same ∙ sym x.sees.binds_are;
         seen_is = refl;
+        mail_is = refl;
       }
 
-  pub ends : (seen : Seen) (boxes : List (List Parcel)) (orders : Orders) (why : End) (number : ℕ) → want_of s.conn ≡ Over why → s.conn.number ≡ number → n.binds.holds ≡ o.binds.holds
-      → WantDone o n seen seen boxes orders s (note.Ended number why) None
-  ends seen boxes orders why number want same stays =
+  pub ends : (seen : Seen) (m : Mailed seen) (orders : Orders) (why : End) (number : ℕ) → want_of s.conn ≡ Over why → s.conn.number ≡ number → n.binds.holds ≡ o.binds.holds
+      → WantDone o n seen seen m.mail m.mail orders s (note.Ended number why) None
+  ends seen m orders why number want same stays =
       let h_is : Held = ported o idle s in
-      let sh : Shared = shared_by seen seen.entries boxes orders in
+      let sh : Shared = shared_by seen seen.entries m.boxes orders in
       let A : Want → Type 0 = λ w. Answers s.conn.actor sh w Said sh in
       let P : Want → Type 0 = λ w. PortsAnswer h_is.ports w Said in
       record {
@@ -249,7 +250,7 @@ module _ {L Q : Type 0} (most : Q → ℕ) (holds : Q → Option PortHolds) (cou
         became = None;
         calm = λ not_send. refl;
         can = ap (λ (w : Want). can_do h_is.ports w) want;
-        shares = shares_same seen seen boxes orders refl;
+        shares = shares_same seen seen m orders refl;
         faults = none_fails o n idle s.ports idle_works;
         binds = stays;
         next = record {
@@ -261,15 +262,15 @@ module _ {L Q : Type 0} (most : Q → ℕ) (holds : Q → Option PortHolds) (cou
       }
 
   -- a bind, either way
-  pub bind_comes : (x : Stays most holds counts binds binds_after table after h g o n s) (seen : Seen) (boxes : List (List Parcel)) (orders : Orders) (said : Note) (stream number : ℕ) (addr : Addr)
+  pub bind_comes : (x : Stays most holds counts binds binds_after table after h g o n s) (seen : Seen) (m : Mailed seen) (orders : Orders) (said : Note) (stream number : ℕ) (addr : Addr)
       → want_of s.conn ≡ Bind stream (goal.Udp addr number) → vec_len g.ports < vec_capacity g.ports
       → BindGives (IsConn g.conn) (PortBound most counts addr table after g.bound binds binds_after) (NotBound table after h.bound g.bound binds binds_after) s.conn (Ok said)
-      → Comes most after g o n seen seen boxes orders s said
-  bind_comes x seen boxes orders said stream number addr want room (inl gives) = bind_done x seen boxes orders said gives.1.0 stream number addr want gives.0 room gives.1.1 gives.1.2
-  bind_comes x seen boxes orders said stream number addr want room (inr gives) = binds_not x seen boxes orders said gives.1.0 stream (goal.Udp addr number) want gives.0.bound_is gives.0.binds_are gives.1.1 gives.1.2
+      → Comes most after g o n seen seen m orders s said
+  bind_comes x seen m orders said stream number addr want room (inl gives) = bind_done x seen m orders said gives.1.0 stream number addr want gives.0 room gives.1.1 gives.1.2
+  bind_comes x seen m orders said stream number addr want room (inr gives) = binds_not x seen m orders said gives.1.0 stream (goal.Udp addr number) want gives.0.bound_is gives.0.binds_are gives.1.1 gives.1.2
 
 -- memory was refused, whoever said so
-pub err_gives : (o n : Outside) (seen seen_after : Seen) (stands_for : Held → Type 0) (s : Held) (r : Result Stepped NoMemory) → IsErr r
-    → ((boxes : List (List Parcel)) (orders : Orders) → (t : Held) × WantStarves o n seen seen_after boxes orders s t × stands_for t × PortsTold n t.ports) → ActGives o n seen seen_after stands_for s r
-err_gives o n seen seen_after stands_for s (Ok stepped) is gives = absurd cc
-err_gives o n seen seen_after stands_for s (Err refused) is gives = gives
+pub err_gives : (o n : Outside) (seen seen_after : Seen) (mail mail_after : Option Boxes) (stands_for : Held → Type 0) (s : Held) (r : Result Stepped NoMemory) → IsErr r
+    → ((orders : Orders) → (t : Held) × WantStarves o n seen seen_after mail mail_after orders s t × stands_for t × PortsTold n t.ports) → ActGives o n seen seen_after mail mail_after stands_for s r
+err_gives o n seen seen_after mail mail_after stands_for s (Ok stepped) is gives = absurd cc
+err_gives o n seen seen_after mail mail_after stands_for s (Err refused) is gives = gives

@@ -1,12 +1,11 @@
 -- A connection closed a tunnel, whatever its link and its ports hold.
-use Rattle.std.proofs.Common.{◌≡◌, ℕ, List, [], ◌∷◌, ◌++◌, Option, Some, None, MatchOption, refl, sym, subst}
+use Rattle.std.proofs.Common.{◌≡◌, ℕ, [], ◌∷◌, ◌++◌, Option, Some, None, MatchOption, refl, sym, subst}
 use Rattle.slab.specs.Slab.{Slab}
 use Rattle.mq_talk.specs.declared.book.Call.TheVariants as call
 use Rattle.mq_talk.specs.declared.book.Reply.{Reply}
 use Rattle.mq_talk.specs.declared.book.Reply.TheVariants as reply
 use Rattle.mq_talk.specs.declared.book.Entry.{Entry}
 use Rattle.mq_talk.specs.declared.note.Note.{Note}
-use Rattle.mq_talk.specs.declared.place.Parcel.{Parcel}
 use Rattle.mq_talk.specs.Answers.{recorded}
 use Rattle.mq_talk.specs.Offices.{Seen}
 use Rattle.mq_machine.specs.State.{Conn, Held, Orders, Shared}
@@ -17,7 +16,7 @@ use Rattle.mq_conn.specs.Conns.{IsConn}
 use Rattle.mq_held.specs.declared.held.Held.{Held as HeldBy}
 use Rattle.mq_step.specs.Holds.{IsHeld}
 use Rattle.mq_step.specs.Closing.{Closed, Retires}
-use Rattle.mq_step.proofs.Wanting.{shared_by}
+use Rattle.mq_step.proofs.Wanting.{Mailed, shared_by}
 use Rattle.mq_step.proofs.Retiring.{retired_stands}
 use Rattle.mq_step.proofs.Asking.{Closes, closed_only}
 
@@ -28,17 +27,17 @@ closed_does actor seen seen_after s tunnel said t closes =
     subst D (closed_only closes.reply_is seen closes.replied.book tunnel closes.replied.reply_is) closes.does
 
 -- what it closed
-pub closed_is : {L Q : Type 0} (most : Q → ℕ) (table after : Slab Q) (h g : HeldBy L) (actor : ℕ) (seen seen_after : Seen) (boxes : List (List Parcel)) (orders : Orders) (s : Held) (tunnel : ℕ) (said : Note) (t : Conn)
+pub closed_is : {L Q : Type 0} (most : Q → ℕ) (table after : Slab Q) (h g : HeldBy L) (actor : ℕ) (seen seen_after : Seen) (m : Mailed seen) (orders : Orders) (s : Held) (tunnel : ℕ) (said : Note) (t : Conn)
     → IsHeld most table h s → s.conn.actor ≡ actor → want_of s.conn ≡ Ask (call.Close tunnel) → g.number ≡ h.number → Retires table after h.ports.items g.ports.items tunnel → g.bound ≡ None
-    → Closes actor seen seen_after s tunnel said t → IsConn g.conn t → Closed seen seen_after boxes orders (IsHeld most after g) tunnel s said
-closed_is most table after h g actor seen seen_after boxes orders s tunnel said t held mine want number retires bound closes new =
+    → Closes actor seen seen_after s tunnel said t → IsConn g.conn t → Closed seen seen_after m.mail m.mail orders (IsHeld most after g) tunnel s said
+closed_is most table after h g actor seen seen_after m orders s tunnel said t held mine want number retires bound closes new =
     let ok = closes.replied in
     let closed = closed_only closes.reply_is seen ok.book tunnel ok.reply_is in
     let D : Reply → Type 0 = λ r. done s.conn (Replied r) ≡ Some (said, t) in
     let does = subst D closed closes.does in
     let entry : Entry = record { actor = actor; call = call.Close tunnel; reply = reply.Closed } in
-    let sh : Shared = shared_by seen ok.book boxes orders in
-    let sh_after : Shared = shared_by seen (ok.book ++ entry ∷ []) boxes orders in
+    let sh : Shared = shared_by seen ok.book m.boxes orders in
+    let sh_after : Shared = shared_by seen (ok.book ++ entry ∷ []) m.boxes orders in
     let A : Want → Type 0 = λ w. Answers s.conn.actor sh w (Replied reply.Closed) sh_after in
     let B : ℕ → Type 0 = λ who. Asks sh who (call.Close tunnel) reply.Closed sh_after in
     let R : Reply → Type 0 = λ r. seen_after.entries ≡ recorded ok.book actor (call.Close tunnel) r in
@@ -46,7 +45,7 @@ closed_is most table after h g actor seen seen_after boxes orders s tunnel said 
       conn = t;
       sh = sh;
       after = sh_after;
-      shares = record { config = refl; book = ok.sees; wrote = subst R closed ok.seen; same = ok.same; boxes_are = refl; boxes_after = refl; orders_are = refl };
+      shares = record { config = refl; book = ok.sees; wrote = subst R closed ok.seen; same = ok.same; boxes = m.told; count = m.count; boxes_after = m.told; orders_are = refl };
       answers = subst A (sym want) (subst B (sym mine) (record { said = reply.Closed; is = tt; reply_is = refl; after_is = refl }));
       does = does;
       stands_for = λ link o f. retired_stands most table after h g s tunnel said t link o f held want number retires bound does new;

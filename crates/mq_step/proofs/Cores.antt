@@ -1,62 +1,53 @@
 -- What is known of a connection whose core stands for it. Nothing else above the core looks at how it stands: these facts hold
 -- of a connection with any number of tunnels, too.
-use Rattle.std.proofs.Common.{◌≡◌, ◌⊎◌, ℕ, ◌==◌, ◌+◌, cond, Bool, true, false, nat_le, inl, inr, List, [], ◌∷◌, drop, All, Option, Some, None, refl, sym, ap, ◌∙◌, subst, eqb-true}
-use Rattle.std.specs.Prelude.{find}
-use Rattle.std.specs.List.{AllByRecursion, list_any}
-use Rattle.std.proofs.lemmas.List.Elements.{All-cons, All-nil}
+use Rattle.std.proofs.Common.{◌≡◌, ◌⊎◌, ℕ, ◌==◌, ◌+◌, cond, Bool, true, false, nat_le, inl, inr, List, [], ◌∷◌, drop, Option, Some, None, refl, sym, ap, ◌∙◌, subst, eqb-true, ne_eqb, ◌≢◌}
+use Rattle.std.specs.Prelude.{find, option_map}
+use Rattle.std.specs.List.{list_any}
+use Rattle.mq_addr.specs.declared.addr.Addr.{Addr}
+use Rattle.mq_addr.specs.declared.entry.Asked.{Asked}
 use Rattle.mq_addr.specs.declared.kind.Kind.{Kind}
-use Rattle.mq_addr.specs.declared.kind.Kind.TheVariants as kind
+use Rattle.mq_addr.specs.declared.range.Flow.{Flow}
+use Rattle.mq_addr.specs.declared.range.Range.{Range}
 use Rattle.mq_talk.specs.declared.book.Call.{Call}
 use Rattle.mq_talk.specs.declared.book.Call.TheVariants as call
 use Rattle.mq_talk.specs.declared.goal.Goal.{Goal}
 use Rattle.mq_talk.specs.declared.goal.Goal.TheVariants as goal
 use Rattle.mq_talk.specs.declared.note.End.{End}
+use Rattle.mq_talk.specs.declared.place.Parcel.{Parcel}
+use Rattle.mq_talk.specs.declared.place.Place.{Place}
+use Rattle.mq_talk.specs.Mails.{HasInbox}
 use Rattle.mq_machine.specs.declared.act.Act.TheVariants as act
 use Rattle.mq_machine.specs.declared.act.StreamAct.{StreamAct}
 use Rattle.mq_machine.specs.declared.act.StreamAct.TheVariants as stream
 use Rattle.mq_machine.specs.declared.act.Due.{Due}
 use Rattle.mq_machine.specs.declared.act.Due.TheVariants as due
 use Rattle.mq_machine.specs.Laws.{BeginsWithAct}
-use Rattle.mq_machine.specs.Lawful.{IsUdp, IsServed, IsAsked, IsOver, Alone, Follows, is_open, kind_on, has_on, with_one}
+use Rattle.mq_machine.specs.Lawful.{AreNumbered, IsAsked, IsAskedOf, IsOfUdp, IsOver, Alone, Follows, Numbered, has_number, is_open, kind_on, has_on}
+use Rattle.mq_machine.specs.Placing.{ArePlaced, IsStreamPlaced}
 use Rattle.mq_machine.specs.Settle.{gives_up, passing, settled}
-use Rattle.mq_machine.specs.State.{Conn, Tunnel, owed, kind_of, tunnel_of, tunnel_on, values}
-use Rattle.mq_machine.specs.Want.{Want, Nothing, Say, Bind, Ask, Judge, Push, Send, Over, want_of, want_by, ending_want, over_want, due_want, tunnel_want, most_values}
+use Rattle.mq_machine.specs.State.{Conn, Tunnel, kind_of, owed, tunnel_of, tunnel_on, values}
+use Rattle.mq_machine.specs.Want.{Want, Nothing, Say, Bind, Ask, Judge, Push, Send, Over, want_of, want_by, ending_want, over_want, due_want, stream_want, tunnel_want, most_values}
 use Rattle.mq_machine.specs.Steps.{is_nothing, can_go_on, wrote}
 use Rattle.mq_machine.proofs.Lawful.Idle as lawful
-use Rattle.mq_machine.proofs.Lawful.Lists.{itself, unless_true, never, In, found_in, in_has}
+use Rattle.mq_machine.proofs.Lawful.Lists.{itself, or_false, unless_true, never, In, found_in, in_has, in_number}
 use Rattle.mq_machine.proofs.Settling.{settled_rests}
 use Rattle.mq_conn.specs.declared.conn.Conn.{Conn as Core}
 use Rattle.mq_conn.specs.Wants.{HandsOver}
 use Rattle.mq_conn.specs.Conns.{IsConn}
+use Rattle.mq_held.specs.Answers.{IsFor}
+use Rattle.mq_held.proofs.Streams.{fronted}
+use Rattle.mq_step.specs.Holds.{port_number}
 use Rattle.mq_step.proofs.Keeping.{NoOpens, nothing_due, no_opens_nil, no_opens_cons}
 
 -- ---- openings
 
--- where those that are served are, none of any kind
-none_open : (live : ℕ → Option Kind) (ds : List Due) → Follows live ds → list_any is_open ds ≡ false → NoOpens ds
-none_open live [] f h = no_opens_nil
-none_open live (due.Do (act.Bind id goal) ∷ rest) f h = no_opens_cons _ rest refl (none_open (with_one id (kind_of goal) live) rest f.2 h)
-none_open live (due.Do (act.Open id (goal.Udp addr port)) ∷ rest) f h = absurd cc
-none_open live (due.Do (act.Open id (goal.Ip area protocol)) ∷ rest) f h = absurd f.1
-none_open live (due.Do (act.Refuse id status rule) ∷ rest) f h = no_opens_cons _ rest refl (none_open live rest f h)
-none_open live (due.Do (act.Reset id code) ∷ rest) f h = no_opens_cons _ rest refl (none_open live rest f h)
-none_open live (due.Do (act.OfStream id a) ∷ rest) f h = no_opens_cons _ rest refl (none_open live rest f.1 h)
-none_open live (due.Spend id size ∷ rest) f h = no_opens_cons _ rest refl (none_open live rest f h)
-none_open live (due.Fault code ∷ rest) f h = no_opens_cons _ rest refl (none_open live rest f h)
+none_open : (ds : List Due) → list_any is_open ds ≡ false → NoOpens ds
+none_open [] h = no_opens_nil
+none_open (d ∷ ds) h = let x = or_false (is_open d) (list_any is_open ds) h in no_opens_cons d ds x.0 (none_open ds x.1)
 
-none_behind : (live : ℕ → Option Kind) (ds : List Due) → Follows live ds → list_any is_open (drop 1 ds) ≡ false → NoOpens (drop 1 ds)
-none_behind live [] f h = no_opens_nil
-none_behind live (due.Do (act.Bind id goal) ∷ rest) f h = none_open (with_one id (kind_of goal) live) rest f.2 h
-none_behind live (due.Do (act.Open id goal) ∷ rest) f h = none_open (with_one id (kind_of goal) live) rest f.2 h
-none_behind live (due.Do (act.Refuse id status rule) ∷ rest) f h = none_open live rest f h
-none_behind live (due.Do (act.Reset id code) ∷ rest) f h = none_open live rest f h
-none_behind live (due.Do (act.OfStream id a) ∷ rest) f h = none_open live rest f.1 h
-none_behind live (due.Spend id size ∷ rest) f h = none_open live rest f h
-none_behind live (due.Fault code ∷ rest) f h = none_open live rest f h
-
--- behind what is due first there is no opening
+-- behind what is due first no tunnel for UDP opens
 pub tail_opens : (c : Core) (s : Conn) → IsConn c s → NoOpens (drop 1 s.due)
-tail_opens c s is = none_behind (kind_on s.tunnels) s.due is.lawful.loose.follows is.lawful.loose.opens
+tail_opens c s is = none_open (drop 1 s.due) is.lawful.loose.opens
 
 -- what it wants, by what is due first
 wants_first : (s : Conn) (ds : List Due) → s.ending ≡ None → s.due ≡ ds → want_of s ≡ due_want s ds
@@ -65,14 +56,16 @@ wants_first s ds ending first = ap (λ (e : Option End). want_by s e) ending ∙
 wants_ending : (s : Conn) (why : End) → s.ending ≡ Some why → want_of s ≡ ending_want s why s.tunnels
 wants_ending s why ending = ap (λ (e : Option End). want_by s e) ending
 
--- a connection that wants no opening
-abbrev WantsNoOpen : Conn → Type 0
-WantsNoOpen s = (conn id actor : ℕ) (goal : Goal) → want_of s ≡ Ask (call.Open conn id actor goal) → ⊥
+-- a connection that wants no opening of a tunnel for UDP
+abbrev pub WantsNoOpen : Conn → Type 0
+WantsNoOpen s = (conn id actor : ℕ) (addr : Addr) (port : ℕ) → want_of s ≡ Ask (call.Open conn id actor (goal.Udp addr port)) → ⊥
 
 none_first : (s : Conn) (ds : List Due) → BeginsWithAct ds → NoOpens (drop 1 ds) → s.ending ≡ None → s.due ≡ ds → WantsNoOpen s → NoOpens ds
 none_first s [] begins tail ending first none = no_opens_nil
 none_first s (due.Do (act.Bind id goal) ∷ rest) begins tail ending first none = no_opens_cons _ rest refl tail
-none_first s (due.Do (act.Open id goal) ∷ rest) begins tail ending first none = absurd (none s.number id s.actor goal (wants_first s (due.Do (act.Open id goal) ∷ rest) ending first))
+none_first s (due.Do (act.Open id (goal.Udp addr port)) ∷ rest) begins tail ending first none =
+    absurd (none s.number id s.actor addr port (wants_first s (due.Do (act.Open id (goal.Udp addr port)) ∷ rest) ending first))
+none_first s (due.Do (act.Open id (goal.Ip area protocol)) ∷ rest) begins tail ending first none = no_opens_cons _ rest refl tail
 none_first s (due.Do (act.Refuse id status rule) ∷ rest) begins tail ending first none = no_opens_cons _ rest refl tail
 none_first s (due.Do (act.Reset id code) ∷ rest) begins tail ending first none = no_opens_cons _ rest refl tail
 none_first s (due.Do (act.OfStream id a) ∷ rest) begins tail ending first none = no_opens_cons _ rest refl tail
@@ -83,85 +76,9 @@ none_by : (s : Conn) (e : Option End) → IsOver e s.due → BeginsWithAct s.due
 none_by s None over begins tail ending none = none_first s s.due begins tail ending refl none
 none_by s (Some why) over begins tail ending none = subst NoOpens (sym over) no_opens_nil
 
--- a connection that wants no opening has none due
-pub none_opens : (c : Core) (s : Conn) → IsConn c s → ((conn id actor : ℕ) (goal : Goal) → want_of s ≡ Ask (call.Open conn id actor goal) → ⊥) → NoOpens s.due
+-- so none is due
+pub none_opens : (c : Core) (s : Conn) → IsConn c s → WantsNoOpen s → NoOpens s.due
 none_opens c s is none = none_by s s.ending is.lawful.loose.over is.lawful.settled (tail_opens c s is) refl none
-
--- ---- its wants
-
-abbrev pub IsUdpCall : Call → Type 0
-IsUdpCall (call.Open conn id actor goal) = IsUdp goal
-IsUdpCall (call.Close tunnel) = Unit {0}
-IsUdpCall (call.Assign tunnel asked) = ⊥
-IsUdpCall (call.Advertise tunnel ranges) = ⊥
-
--- a want of a tunnel for UDP
-abbrev pub IsUdpWant : Want → Type 0
-IsUdpWant Nothing = Unit {0}
-IsUdpWant Say = Unit {0}
-IsUdpWant (Bind id goal) = IsUdp goal
-IsUdpWant (Ask asked) = IsUdpCall asked
-IsUdpWant (Judge tunnel n flow) = ⊥
-IsUdpWant (Push parcel) = ⊥
-IsUdpWant (Send tunnel n payload) = Unit {0}
-IsUdpWant (Over why) = Unit {0}
-
--- it hands no list over to the book
-pub hands_none : (w : Want) → IsUdpWant w → HandsOver w → ⊥
-hands_none Nothing udp hands = hands
-hands_none Say udp hands = hands
-hands_none (Bind id goal) udp hands = hands
-hands_none (Ask (call.Open conn id names goal)) udp hands = hands
-hands_none (Ask (call.Assign tunnel asked)) udp hands = udp
-hands_none (Ask (call.Advertise tunnel ranges)) udp hands = udp
-hands_none (Ask (call.Close tunnel)) udp hands = hands
-hands_none (Judge tunnel n flow) udp hands = hands
-hands_none (Push parcel) udp hands = hands
-hands_none (Send tunnel n payload) udp hands = hands
-hands_none (Over why) udp hands = hands
-
-over_udp : (why : End) (bytes : List ℕ) → IsUdpWant (over_want why bytes)
-over_udp why [] = tt
-over_udp why (b ∷ bytes) = by_case (gives_up why) where
-  by_case : (g : Bool) → IsUdpWant (cond g (Over why) Nothing)
-  by_case true = tt
-  by_case false = tt
-
-ending_udp : (s : Conn) (why : End) (ts : List Tunnel) → IsUdpWant (ending_want s why ts)
-ending_udp s why [] = over_udp why (owed s)
-ending_udp s why (t ∷ ts) = tt
-
-tunnel_udp : (o : Option Tunnel) (a : StreamAct) → IsAsked kind.Udp a → IsUdpWant (tunnel_want o a)
-tunnel_udp None a h = tt
-tunnel_udp (Some t) (stream.Payload n payload) h = tt
-tunnel_udp (Some t) (stream.Packet n packet flow) h = h
-tunnel_udp (Some t) (stream.Push n to packet) h = h
-tunnel_udp (Some t) (stream.Drop n cause) h = tt
-tunnel_udp (Some t) (stream.Assign asked) h = absurd h
-tunnel_udp (Some t) (stream.Advertise ranges) h = h
-tunnel_udp (Some t) (stream.Close why) h = tt
-
--- tunnels for UDP alone are served
-abbrev AreServed : List Tunnel → Type 0
-AreServed ts = AllByRecursion (λ (t : Tunnel). IsServed t.goal) ts
-
-due_udp : (s : Conn) (ds : List Due) → AreServed s.tunnels → Follows (kind_on s.tunnels) ds → IsUdpWant (due_want s ds)
-due_udp s [] all h = tt
-due_udp s (due.Do (act.Bind id goal) ∷ rest) all h = h.1
-due_udp s (due.Do (act.Open id goal) ∷ rest) all h = h.1
-due_udp s (due.Do (act.Refuse id status rule) ∷ rest) all h = tt
-due_udp s (due.Do (act.Reset id code) ∷ rest) all h = tt
-due_udp s (due.Do (act.OfStream id a) ∷ rest) all h = tunnel_udp (tunnel_on s id) a (lawful.served_asked s.tunnels id a all h.0)
-due_udp s (due.Spend id size ∷ rest) all h = tt
-due_udp s (due.Fault code ∷ rest) all h = tt
-
-udp_by : (s : Conn) (e : Option End) → AreServed s.tunnels → Follows (kind_on s.tunnels) s.due → IsUdpWant (want_by s e)
-udp_by s None all h = due_udp s s.due all h
-udp_by s (Some why) all h = ending_udp s why s.tunnels
-
--- its wants are those of tunnels for UDP
-pub udp_want : (c : Core) (s : Conn) → IsConn c s → IsUdpWant (want_of s)
-udp_want c s is = udp_by s s.ending is.lawful.loose.served is.lawful.loose.follows
 
 over_asks_nothing : (why : End) (bytes : List ℕ) (asked : Call) → over_want why bytes ≡ Ask asked → ⊥
 over_asks_nothing why [] asked w = cc
@@ -274,29 +191,35 @@ close_live c s tunnel is w = looked_up s tunnel (closes_by s s.ending tunnel is.
 
 -- ---- a send
 
-tunnel_sends : (s : Conn) (on : ℕ) (x : Option Tunnel) (a : StreamAct) (tunnel n : ℕ) (payload : List ℕ) → tunnel_on s on ≡ x → tunnel_want x a ≡ Send tunnel n payload → HasTunnel s tunnel
-tunnel_sends s on None a tunnel n payload is w = absurd cc
-tunnel_sends s on (Some u) (stream.Payload k bytes) tunnel n payload is w = on_live s on u tunnel is cc
-tunnel_sends s on (Some u) (stream.Packet k packet flow) tunnel n payload is w = absurd cc
-tunnel_sends s on (Some u) (stream.Push k to packet) tunnel n payload is w = absurd cc
-tunnel_sends s on (Some u) (stream.Drop k cause) tunnel n payload is w = absurd cc
-tunnel_sends s on (Some u) (stream.Assign asked) tunnel n payload is w = by_case (nat_le most_values (values u)) w
-  where
-    by_case : (b : Bool) → cond b (Ask (call.Close u.id)) (Ask (call.Assign u.id asked)) ≡ Send tunnel n payload → HasTunnel s tunnel
-    by_case true e = absurd cc
-    by_case false e = absurd cc
-tunnel_sends s on (Some u) (stream.Advertise ranges) tunnel n payload is w = absurd cc
-tunnel_sends s on (Some u) (stream.Close why) tunnel n payload is w = absurd cc
+-- a payload goes to the port of its tunnel, which is for UDP
+send_of : (t : Tunnel) (a : StreamAct) (tunnel n : ℕ) (payload : List ℕ) (kind : Kind) → stream_want t a ≡ Send tunnel n payload → IsAsked kind a → (t.id ≡ tunnel) × IsOfUdp kind
+send_of t (stream.Payload k bytes) tunnel n payload kind w asked = (cc, asked)
+send_of t (stream.Packet k packet flow) tunnel n payload kind w asked = absurd cc
+send_of t (stream.Push k to packet) tunnel n payload kind w asked = absurd cc
+send_of t (stream.Drop k cause) tunnel n payload kind w asked = absurd cc
+send_of t (stream.Assign list) tunnel n payload kind w asked = absurd (by_case (nat_le most_values (values t)) w) where
+  by_case : (b : Bool) → cond b (Ask (call.Close t.id)) (Ask (call.Assign t.id list)) ≡ Send tunnel n payload → ⊥
+  by_case true e = cc
+  by_case false e = cc
+send_of t (stream.Advertise ranges) tunnel n payload kind w asked = absurd cc
+send_of t (stream.Close why) tunnel n payload kind w asked = absurd cc
 
-due_sends : (s : Conn) (ds : List Due) (tunnel n : ℕ) (payload : List ℕ) → Follows (kind_on s.tunnels) ds → due_want s ds ≡ Send tunnel n payload → HasTunnel s tunnel
-due_sends s [] tunnel n payload h w = absurd cc
-due_sends s (due.Do (act.Bind on g) ∷ rest) tunnel n payload h w = absurd cc
-due_sends s (due.Do (act.Open on g) ∷ rest) tunnel n payload h w = absurd cc
-due_sends s (due.Do (act.Refuse on status rule) ∷ rest) tunnel n payload h w = absurd cc
-due_sends s (due.Do (act.Reset on code) ∷ rest) tunnel n payload h w = absurd cc
-due_sends s (due.Do (act.OfStream on a) ∷ rest) tunnel n payload h w = tunnel_sends s on (tunnel_on s on) a tunnel n payload refl w
-due_sends s (due.Spend on size ∷ rest) tunnel n payload h w = absurd cc
-due_sends s (due.Fault code ∷ rest) tunnel n payload h w = absurd cc
+-- the look-up of a number finds the one tunnel that has it
+number_finds : (ts : List Tunnel) (t : Tunnel) → Numbered ts → In t ts → find (λ (u : Tunnel). u.id == t.id) ts ≡ Some t
+number_finds [] t numbered i = absurd i
+number_finds (v ∷ vs) t numbered (inl e) =
+    ap {B = Option Tunnel} (λ (b : Bool). cond b (Some v) (find (λ (u : Tunnel). u.id == t.id) vs)) (ap (λ (u : Tunnel). u.id == t.id) e ∙ itself t.id) ∙ ap {B = Option Tunnel} (λ (u : Tunnel). Some u) e
+number_finds (v ∷ vs) t numbered (inr i) =
+    let other : v.id ≢ t.id = λ same. let e : true ≡ false = sym (ap (has_number vs) same ∙ in_number vs t i) ∙ numbered.0 in cc in
+    ap {B = Option Tunnel} (λ (b : Bool). cond b (Some v) (find (λ (u : Tunnel). u.id == t.id) vs)) (ne_eqb v.id t.id other) ∙ number_finds vs t numbered.1 i
+
+pub numbered_by : (e : Option End) (ts : List Tunnel) → e ≡ None → AreNumbered e ts → Numbered ts
+numbered_by None ts alive numbered = numbered
+numbered_by (Some why) ts alive numbered = absurd cc
+
+udp_number : (g : Goal) (id : ℕ) → IsOfUdp (kind_of g) → port_number g id ≡ id ∷ []
+udp_number (goal.Udp addr port) id udp = refl
+udp_number (goal.Ip area protocol) id udp = absurd udp
 
 -- an ending connection sends, says and binds nothing
 abbrev IsEndingWant : Want → Type 0
@@ -323,18 +246,18 @@ ending_ends s why (t ∷ ts) = tt
 ends_not : (s : Conn) (why : End) (w : Want) → ending_want s why s.tunnels ≡ w → IsEndingWant w
 ends_not s why w is = subst IsEndingWant is (ending_ends s why s.tunnels)
 
-sends_by : (s : Conn) (e : Option End) (tunnel n : ℕ) (payload : List ℕ) → s.ending ≡ e → Follows (kind_on s.tunnels) s.due → want_by s e ≡ Send tunnel n payload
-    → HasTunnel s tunnel × (s.ending ≡ None)
-sends_by s None tunnel n payload ending h w = (due_sends s s.due tunnel n payload h w, ending)
-sends_by s (Some why) tunnel n payload ending h w = absurd (ends_not s why (Send tunnel n payload) w)
-
--- and so is one to whose port it sends, which it does only while it isn't ending
+-- a tunnel to whose port it sends is one of its own, for UDP, and it isn't ending
 pub send_live : (c : Core) (s : Conn) (tunnel n : ℕ) (payload : List ℕ) → IsConn c s → want_of s ≡ Send tunnel n payload
-    → (t : Tunnel) × (tunnel_of s tunnel ≡ Some t) × (s.ending ≡ None)
+    → (t : Tunnel) × (tunnel_of s tunnel ≡ Some t) × (s.ending ≡ None) × (port_number t.goal t.id ≡ t.id ∷ [])
 send_live c s tunnel n payload is w =
-    let a = sends_by s s.ending tunnel n payload refl is.lawful.loose.follows w in
-    let at = looked_up s tunnel a.0 in
-    (at.0, at.1, a.1)
+    let f = fronted s (Send tunnel n payload) w tt in
+    let F : List Due → Type 0 = λ ds. Follows (kind_on s.tunnels) ds in
+    let K : Option Kind → Type 0 = λ o. IsAskedOf o f.a in
+    let kind_is : kind_on s.tunnels f.id ≡ Some (kind_of f.t.goal) = ap (λ (o : Option Tunnel). option_map (λ (u : Tunnel). kind_of u.goal) o) f.on in
+    let of = send_of f.t f.a tunnel n payload (kind_of f.t.goal) f.wants (subst K kind_is (subst F f.due_is is.lawful.loose.follows).0) in
+    let there = (found_in (λ (u : Tunnel). u.stream == f.id) s.tunnels f.t f.on).1 in
+    let found = number_finds s.tunnels f.t (numbered_by s.ending s.tunnels f.alive is.lawful.loose.numbered) there in
+    (f.t, ap (λ (k : ℕ). find (λ (u : Tunnel). u.id == k) s.tunnels) (sym of.0) ∙ found, f.alive, udp_number f.t.goal f.t.id of.1)
 
 -- ---- what it does while it isn't ending
 
@@ -351,6 +274,102 @@ bind_by s (Some why) id goal ending w = absurd (ends_not s why (Bind id goal) w)
 
 pub bind_alive : (c : Core) (s : Conn) (id : ℕ) (goal : Goal) → IsConn c s → want_of s ≡ Bind id goal → s.ending ≡ None
 bind_alive c s id goal is w = bind_by s s.ending id goal refl w
+
+-- ---- a tunnel for IP packets
+
+-- a verdict is asked for a packet of a live tunnel
+pub judge_live : (s : Conn) (tunnel n : ℕ) (flow : Flow) → want_of s ≡ Judge tunnel n flow → (t : Tunnel) × (tunnel_of s tunnel ≡ Some t)
+judge_live s tunnel n flow w =
+    let f = fronted s (Judge tunnel n flow) w tt in
+    looked_up s tunnel (on_live s f.id f.t tunnel f.on (judge_of f.t f.a tunnel n flow f.wants)) where
+      judge_of : (t : Tunnel) (a : StreamAct) (tunnel n : ℕ) (flow : Flow) → stream_want t a ≡ Judge tunnel n flow → t.id ≡ tunnel
+      judge_of t (stream.Payload m payload) tunnel n flow is = absurd cc
+      judge_of t (stream.Packet m packet on) tunnel n flow is = cc
+      judge_of t (stream.Push m to packet) tunnel n flow is = absurd cc
+      judge_of t (stream.Drop m cause) tunnel n flow is = absurd cc
+      judge_of t (stream.Assign asked) tunnel n flow is = by_case (nat_le most_values (values t)) is where
+        by_case : (b : Bool) → cond b (Ask (call.Close t.id)) (Ask (call.Assign t.id asked)) ≡ Judge tunnel n flow → t.id ≡ tunnel
+        by_case true e = absurd cc
+        by_case false e = absurd cc
+      judge_of t (stream.Advertise ranges) tunnel n flow is = absurd cc
+      judge_of t (stream.Close why) tunnel n flow is = absurd cc
+
+-- addresses and ways are asked for a live tunnel
+assign_of : (t : Tunnel) (a : StreamAct) (tunnel : ℕ) (list : List Asked) → stream_want t a ≡ Ask (call.Assign tunnel list) → t.id ≡ tunnel
+assign_of t (stream.Payload m payload) tunnel list is = absurd cc
+assign_of t (stream.Packet m packet flow) tunnel list is = absurd cc
+assign_of t (stream.Push m to packet) tunnel list is = absurd cc
+assign_of t (stream.Drop m cause) tunnel list is = absurd cc
+assign_of t (stream.Assign asked) tunnel list is = by_case (nat_le most_values (values t)) is where
+  by_case : (b : Bool) → cond b (Ask (call.Close t.id)) (Ask (call.Assign t.id asked)) ≡ Ask (call.Assign tunnel list) → t.id ≡ tunnel
+  by_case true e = absurd cc
+  by_case false e = cc
+assign_of t (stream.Advertise ranges) tunnel list is = absurd cc
+assign_of t (stream.Close why) tunnel list is = absurd cc
+
+advertise_of : (t : Tunnel) (a : StreamAct) (tunnel : ℕ) (list : List Range) → stream_want t a ≡ Ask (call.Advertise tunnel list) → t.id ≡ tunnel
+advertise_of t (stream.Payload m payload) tunnel list is = absurd cc
+advertise_of t (stream.Packet m packet flow) tunnel list is = absurd cc
+advertise_of t (stream.Push m to packet) tunnel list is = absurd cc
+advertise_of t (stream.Drop m cause) tunnel list is = absurd cc
+advertise_of t (stream.Assign asked) tunnel list is = by_case (nat_le most_values (values t)) is where
+  by_case : (b : Bool) → cond b (Ask (call.Close t.id)) (Ask (call.Assign t.id asked)) ≡ Ask (call.Advertise tunnel list) → t.id ≡ tunnel
+  by_case true e = absurd cc
+  by_case false e = absurd cc
+advertise_of t (stream.Advertise ranges) tunnel list is = cc
+advertise_of t (stream.Close why) tunnel list is = absurd cc
+
+pub tell_live : (s : Conn) (asked : Call) (tunnel : ℕ) → IsFor tunnel asked → want_of s ≡ Ask asked → (t : Tunnel) × (tunnel_of s tunnel ≡ Some t)
+tell_live s (call.Open conn id actor goal) tunnel of w = absurd of
+tell_live s (call.Close on) tunnel of w = absurd of
+tell_live s (call.Assign on list) tunnel of w =
+    let f = fronted s (Ask (call.Assign on list)) w tt in
+    looked_up s tunnel (on_live s f.id f.t tunnel f.on (assign_of f.t f.a on list f.wants ∙ of))
+tell_live s (call.Advertise on list) tunnel of w =
+    let f = fronted s (Ask (call.Advertise on list)) w tt in
+    looked_up s tunnel (on_live s f.id f.t tunnel f.on (advertise_of f.t f.a on list f.wants ∙ of))
+
+-- and such a connection isn't ending
+pub tell_alive : (s : Conn) (asked : Call) (tunnel : ℕ) → IsFor tunnel asked → want_of s ≡ Ask asked → s.ending ≡ None
+tell_alive s (call.Open conn id actor goal) tunnel of w = absurd of
+tell_alive s (call.Close on) tunnel of w = absurd of
+tell_alive s (call.Assign on list) tunnel of w = (fronted s (Ask (call.Assign on list)) w tt).alive
+tell_alive s (call.Advertise on list) tunnel of w = (fronted s (Ask (call.Advertise on list)) w tt).alive
+
+pub hands_alive : (s : Conn) (w : Want) → want_of s ≡ w → HandsOver w → s.ending ≡ None
+hands_alive s Nothing w hands = absurd hands
+hands_alive s Say w hands = absurd hands
+hands_alive s (Bind id goal) w hands = absurd hands
+hands_alive s (Ask (call.Open conn id actor goal)) w hands = absurd hands
+hands_alive s (Ask (call.Close on)) w hands = absurd hands
+hands_alive s (Ask (call.Assign on list)) w hands = tell_alive s (call.Assign on list) on refl w
+hands_alive s (Ask (call.Advertise on list)) w hands = tell_alive s (call.Advertise on list) on refl w
+hands_alive s (Judge tunnel n flow) w hands = absurd hands
+hands_alive s (Push parcel) w hands = absurd hands
+hands_alive s (Send tunnel n payload) w hands = absurd hands
+hands_alive s (Over why) w hands = absurd hands
+
+-- what it pushes is due first
+push_placed : (t : Tunnel) (a : StreamAct) (workers : ℕ) (parcel : Parcel) → IsStreamPlaced workers a → stream_want t a ≡ Push parcel → HasInbox workers parcel.to
+push_placed t (stream.Payload m payload) workers parcel placed is = absurd cc
+push_placed t (stream.Packet m packet flow) workers parcel placed is = absurd cc
+push_placed t (stream.Push m to packet) workers parcel placed is =
+    let same : to ≡ parcel.to = cc in
+    let P : Place → Type 0 = λ p. HasInbox workers p in subst P same placed
+push_placed t (stream.Drop m cause) workers parcel placed is = absurd cc
+push_placed t (stream.Assign asked) workers parcel placed is = absurd (by_case (nat_le most_values (values t)) is) where
+  by_case : (b : Bool) → cond b (Ask (call.Close t.id)) (Ask (call.Assign t.id asked)) ≡ Push parcel → ⊥
+  by_case true e = cc
+  by_case false e = cc
+push_placed t (stream.Advertise ranges) workers parcel placed is = absurd cc
+push_placed t (stream.Close why) workers parcel placed is = absurd cc
+
+-- and goes to an inbox that there is
+pub push_has : (s : Conn) (workers : ℕ) (parcel : Parcel) → ArePlaced workers s.due → want_of s ≡ Push parcel → HasInbox workers parcel.to
+push_has s workers parcel places w =
+    let f = fronted s (Push parcel) w tt in
+    let P : List Due → Type 0 = λ ds. ArePlaced workers ds in
+    push_placed f.t f.a workers parcel (subst P f.due_is places).0 f.wants
 
 -- ---- a failure
 
@@ -370,9 +389,9 @@ gives_up_wants s why fails ending =
 
 -- ---- what it does beside its wants
 
--- a connection that wants to close its tunnel has no opening due
+-- a connection that wants to close its tunnel has no such opening due
 pub close_opens : (c : Core) (s : Conn) (tunnel : ℕ) → IsConn c s → want_of s ≡ Ask (call.Close tunnel) → NoOpens s.due
-close_opens c s tunnel is w = none_opens c s is (λ conn id actor goal e. let f : Ask (call.Close tunnel) ≡ Ask (call.Open conn id actor goal) = sym w ∙ e in cc)
+close_opens c s tunnel is w = none_opens c s is (λ conn id actor addr port e. let f : Ask (call.Close tunnel) ≡ Ask (call.Open conn id actor (goal.Udp addr port)) = sym w ∙ e in cc)
 
 -- where it wants nothing, nothing is due
 pub idle_due : (c : Core) (s : Conn) → IsConn c s → is_nothing (want_of s) ≡ true → s.due ≡ []
@@ -433,20 +452,12 @@ alone_on (u ∷ us) t alone (inr i) =
 pub own_stream : (c : Core) (s : Conn) (id : ℕ) (t : Tunnel) → IsConn c s → tunnel_of s id ≡ Some t → tunnel_on s t.stream ≡ Some t
 own_stream c s id t is at = alone_on s.tunnels t is.lawful.loose.alone (found_in (λ (x : Tunnel). x.id == id) s.tunnels t at).1
 
-udp_kind : (g : Goal) → IsUdp g → kind_of g ≡ kind.Udp
-udp_kind (goal.Udp addr port) is = refl
-udp_kind (goal.Ip area protocol) is = absurd is
-
-udp_all : (ts : List Tunnel) → AllByRecursion (λ (t : Tunnel). IsUdp t.goal) ts → All (λ (t : Tunnel). kind_of t.goal ≡ kind.Udp) ts
-udp_all [] h = All-nil (λ (t : Tunnel). kind_of t.goal ≡ kind.Udp)
-udp_all (t ∷ ts) h = All-cons (λ (u : Tunnel). kind_of u.goal ≡ kind.Udp) t ts (udp_kind t.goal h.0) (udp_all ts h.1)
-
--- they are for UDP
-pub udp_tunnels : (c : Core) (s : Conn) → IsConn c s → All (λ (t : Tunnel). kind_of t.goal ≡ kind.Udp) s.tunnels
-udp_tunnels c s is = udp_all s.tunnels is.lawful.loose.served
-
 -- ---- whose it is
 
 -- a core stands for connections of one actor alone
 pub same_actor : (c : Core) (s t : Conn) → IsConn c s → IsConn c t → s.actor ≡ t.actor
 same_actor c s t x y = ap (λ (z : Conn). z.actor) x.stands.is ∙ sym (ap (λ (z : Conn). z.actor) y.stands.is)
+
+-- and so are their tunnels
+pub same_tunnels : (c : Core) (s t : Conn) → IsConn c s → IsConn c t → s.tunnels ≡ t.tunnels
+same_tunnels c s t x y = ap (λ (z : Conn). z.tunnels) x.stands.is ∙ sym (ap (λ (z : Conn). z.tunnels) y.stands.is)

@@ -5,21 +5,21 @@ use Rattle.mq_outside.specs.Counts.{PortCounts}
 use Rattle.mq_outside.specs.Ports.{PortHolds}
 use Rattle.mq_talk.specs.declared.note.Note.{Note}
 use Rattle.mq_talk.specs.declared.note.End.{End}
-use Rattle.mq_talk.specs.declared.place.Parcel.{Parcel}
+use Rattle.mq_talk.specs.Mails.{Boxes}
 use Rattle.mq_talk.specs.Offices.{Seen}
 use Rattle.mq_machine.specs.State.{Conn, Tunnel, Held, Port, Orders, Shared}
 use Rattle.mq_machine.specs.Want.{Want, Answer, want_of}
 use Rattle.mq_machine.specs.Done.{done}
 use Rattle.mq_machine.specs.Shared.{Answers, PortsAnswer, ports_after}
 use Rattle.mq_machine.specs.Turn.{can_do}
-use Rattle.mq_machine.specs.Acting.{Outside, BindFits, PortsTold, Binder}
+use Rattle.mq_machine.specs.Acting.{Shares, Outside, BindFits, PortsTold, Binder}
 use Rattle.mq_conn.specs.Conns.{IsConn}
 use Rattle.mq_held.specs.declared.held.Held.{Held as HeldBy}
 use Rattle.mq_held.specs.declared.held.PortSeat.{PortSeat}
 use Rattle.mq_held.specs.Answers.{KeepsPorts}
 use Rattle.mq_step.specs.Holds.{ArePorts, AreServed, IsHeld}
 use Rattle.mq_step.specs.Sights.{SeesPorts, SeesTable, filled_port, idle}
-use Rattle.mq_step.specs.Wanted.{Shares, WantDone, ported, with_prepared}
+use Rattle.mq_step.specs.Wanted.{WantDone, ported, with_prepared}
 use Rattle.mq_step.proofs.Filling.{are_filled, are_kept, stay_told, filled_told, FailsNot, none_fails, served_filled}
 use Rattle.mq_step.proofs.Wanting.{IsNotOver, acted_is}
 use Rattle.mq_step.proofs.Keeping.{Kept}
@@ -40,10 +40,10 @@ idle_works = record { sends = λ tunnel. refl; receives = λ tunnel. refl }
 abbrev pub left : Outside → Held → Conn → Held
 left o s t = record (ported o idle s) { conn = t }
 
-pub want_done : (o n : Outside) (seen seen_after : Seen) (boxes : List (List Parcel)) (orders : Orders) (s : Held) (w : Want) (a : Answer) (said : Note) (t : Conn) (sh sh_after : Shared)
-    → want_of s.conn ≡ w → NeedsNoPort n w a → done s.conn a ≡ Some (said, t) → Answers s.conn.actor sh w a sh_after → Shares seen seen_after boxes orders sh sh_after → BindFits o n a
-    → WantDone o n seen seen_after boxes orders s said (Some (left o s t))
-want_done o n seen seen_after boxes orders s w a said t sh sh_after want needs is answers shares binds =
+pub want_done : (o n : Outside) (seen seen_after : Seen) (mail mail_after : Option Boxes) (orders : Orders) (s : Held) (w : Want) (a : Answer) (said : Note) (t : Conn) (sh sh_after : Shared)
+    → want_of s.conn ≡ w → NeedsNoPort n w a → done s.conn a ≡ Some (said, t) → Answers s.conn.actor sh w a sh_after → Shares seen seen_after mail mail_after orders sh sh_after → BindFits o n a
+    → WantDone o n seen seen_after mail mail_after orders s said (Some (left o s t))
+want_done o n seen seen_after mail mail_after orders s w a said t sh sh_after want needs is answers shares binds =
     let h : Held = ported o idle s in
     let A : Want → Type 0 = λ v. Answers s.conn.actor sh v a sh_after in
     let P : Want → Type 0 = λ v. PortsAnswer h.ports v a in

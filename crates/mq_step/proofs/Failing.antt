@@ -7,7 +7,7 @@ use Rattle.mq_talk.specs.declared.book.Reply.{Reply}
 use Rattle.mq_talk.specs.declared.book.Reply.TheVariants as reply
 use Rattle.mq_talk.specs.declared.note.Note.{Note}
 use Rattle.mq_talk.specs.declared.note.End.TheVariants as end
-use Rattle.mq_talk.specs.Mails.{IsTold}
+use Rattle.mq_talk.specs.Mails.{Boxes, IsTold}
 use Rattle.mq_talk.specs.Offices.{Seen}
 use Rattle.mq_machine.specs.declared.setup.Setup.{Setup}
 use Rattle.mq_machine.specs.State.{Conn, Link, Held, Port, Shared}
@@ -94,17 +94,17 @@ became_link h a n (Some b) t o is then =
 -- ---- the step
 
 -- what the connection did then is what the try does
-pub failed_gives : (setup : Setup) (tries : Tries) (vain : InVain) (try : Try) (o n : Outside) (seen seen_after : Seen) (stands_for : Held → Type 0) (s : Held) (found link : Link) (r : Result Stepped NoMemory)
+pub failed_gives : (setup : Setup) (tries : Tries) (vain : InVain) (try : Try) (o n : Outside) (seen seen_after : Seen) (mail mail_after : Option Boxes) (stands_for : Held → Type 0) (s : Held) (found link : Link) (r : Result Stepped NoMemory)
     → first_of tries (filled o (on_link found) s) ≡ Some try → vain (on_link found)
     → ((sh after : Shared) (answer : Answer) (note : Note) (became : Option Held) → ActNext (ported o idle (fallen s link)) sh answer note became after → TryNext setup (filled o (on_link found) s) sh try answer note became after)
     → (o.link s.conn.number ≡ None → (filled o (on_link found) s).link.read_fails || (filled o (on_link found) s).link.write_fails ≡ true
     → Rose (o.link_counts s.conn.number).faults (n.link_counts s.conn.number).faults)
     → ((t : Held) → stands_for t → t.link ≡ link → IsTold (n.link t.conn.number) t.link)
-    → ActGives o n seen seen_after stands_for (fallen s link) r → Gives setup tries vain o n seen seen_after stands_for s r
-failed_gives setup tries vain try o n seen seen_after stands_for s found link (Ok Quiet) is vain_is next_is faults told gives =
+    → ActGives o n seen seen_after mail mail_after stands_for (fallen s link) r → Gives setup tries vain o n seen seen_after mail mail_after stands_for s r
+failed_gives setup tries vain try o n seen seen_after mail mail_after stands_for s found link (Ok Quiet) is vain_is next_is faults told gives =
     let e : true ≡ false = sym (can_then s.conn (ported o idle (fallen s link)).ports) ∙ gives.0.cannot idle (λ tunnel. (refl, refl)) in absurd cc
-failed_gives setup tries vain try o n seen seen_after stands_for s found link (Ok (Did note)) is vain_is next_is faults told gives = λ boxes orders.
-    let d = gives boxes orders in
+failed_gives setup tries vain try o n seen seen_after mail mail_after stands_for s found link (Ok (Did note)) is vain_is next_is faults told gives = λ orders.
+    let d = gives orders in
     let x = d.1 in
     let calm = x.calm (no_send s.conn) in
     let N : Found → Type 0 = λ f. ActNext (ported o f (fallen s link)) x.sh x.answer note x.became x.after in
@@ -129,8 +129,8 @@ failed_gives setup tries vain try o n seen seen_after stands_for s found link (O
       },
       (d.2, record { link = told d.0 d.2 same; ports = d.3 }),
     )
-failed_gives setup tries vain try o n seen seen_after stands_for s found link (Ok (Ended note)) is vain_is next_is faults told gives = λ boxes orders.
-    let x = gives boxes orders in
+failed_gives setup tries vain try o n seen seen_after mail mail_after stands_for s found link (Ok (Ended note)) is vain_is next_is faults told gives = λ orders.
+    let x = gives orders in
     let calm = x.calm (no_send s.conn) in
     let N : Found → Type 0 = λ f. ActNext (ported o f (fallen s link)) x.sh x.answer note x.became x.after in
     let F : Found → Type 0 = λ f. PortsFit o n (ported o f (fallen s link)).ports in
@@ -149,5 +149,5 @@ failed_gives setup tries vain try o n seen seen_after stands_for s found link (O
       next = next_is x.sh x.after x.answer note x.became (subst N calm x.next);
       then = x.then;
     }
-failed_gives setup tries vain try o n seen seen_after stands_for s found link (Err refused) is vain_is next_is faults told gives = λ boxes orders.
-    let e = (gives boxes orders).1.alive in absurd cc
+failed_gives setup tries vain try o n seen seen_after mail mail_after stands_for s found link (Err refused) is vain_is next_is faults told gives = λ orders.
+    let e = (gives orders).1.alive in absurd cc

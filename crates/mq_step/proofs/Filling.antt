@@ -1,11 +1,14 @@
 -- Ports that are filled with what was told or found, and the tables that they stand in.
 use Rattle.std.proofs.Common.{◌≡◌, ◌⊎◌, inl, inr, ℕ, ◌==◌, Bool, true, false, not, List, [], ◌∷◌, ◌++◌, map, All, slice_get, Option, Some, None, refl, sym, ap, subst, ◌∙◌}
 use Rattle.std.specs.Prelude.{◌||◌, filter, is_some}
-use Rattle.std.proofs.lemmas.List.{map-append}
+use Rattle.std.proofs.lemmas.List.{append-nil}
+use Rattle.std.proofs.lemmas.List.Concat.{flat_map-append}
 use Rattle.std.proofs.lemmas.List.Elements.{All-cons, All-head, All-tail, All-nil}
 use Rattle.slab.specs.Slab.{Slab, get}
 use Rattle.mq_outside.specs.Counts.{PortCounts}
 use Rattle.mq_outside.specs.Ports.{PortHolds}
+use Rattle.mq_talk.specs.declared.goal.Goal.{Goal}
+use Rattle.mq_talk.specs.declared.goal.Goal.TheVariants as goal
 use Rattle.mq_talk.specs.declared.note.End.{End}
 use Rattle.mq_talk.specs.Mails.{IsTold}
 use Rattle.mq_machine.specs.State.{Port, Tunnel}
@@ -15,7 +18,7 @@ use Rattle.mq_held.specs.declared.held.PortSeat.{PortSeat}
 use Rattle.mq_held.specs.Answers.{KeepsPorts}
 use Rattle.mq_step.proofs.Counting.{port_same}
 use Rattle.mq_step.proofs.Places.{at_all, others_of, left_ports, left_numbers, others_last}
-use Rattle.mq_step.specs.Holds.{IsPort, ArePorts, AreServed, tunnels_of, numbers_of}
+use Rattle.mq_step.specs.Holds.{IsPort, ArePorts, AreServed, port_number, tunnels_of, numbers_of}
 use Rattle.mq_step.specs.Sights.{Found, PortGrows, SeesPort, SeesPorts, port_if, filled_port, PortFits, PortsFit}
 
 -- ---- what a seat and a port have in common
@@ -197,8 +200,10 @@ served_filled o f e tunnels ports served = served_same e tunnels ports (map (fil
 
 -- a tunnel opened, and there was no memory to say so
 pub served_last : (why : End) (tunnels : List Tunnel) (t : Tunnel) (ports : List Port) → tunnels_of ports ≡ numbers_of tunnels → AreServed (Some why) (tunnels ++ t ∷ []) ports
-served_last why tunnels t ports is =
-    inr (t.id, map-append (λ (u : Tunnel). u.id) tunnels (t ∷ []) ∙ ap (λ (ns : List ℕ). ns ++ t.id ∷ []) (sym is))
+served_last why tunnels t ports is = by_goal t.goal (flat_map-append (λ (u : Tunnel). port_number u.goal u.id) tunnels (t ∷ [])) where
+  by_goal : (g : Goal) → numbers_of (tunnels ++ t ∷ []) ≡ numbers_of tunnels ++ (port_number g t.id ++ []) → AreServed (Some why) (tunnels ++ t ∷ []) ports
+  by_goal (goal.Udp addr port) all = inr (t.id, all ∙ ap (λ (ns : List ℕ). ns ++ t.id ∷ []) (sym is))
+  by_goal (goal.Ip area protocol) all = inl (is ∙ sym (all ∙ append-nil (numbers_of tunnels)))
 
 -- a tunnel closed, and its port is gone
 pub served_without : (e d : Option End) (tunnel : ℕ) (tunnels left : List Tunnel) (ports : List Port) → left ≡ filter (λ (u : Tunnel). not (u.id == tunnel)) tunnels

@@ -2,8 +2,8 @@
 use Rattle.std.proofs.Common.{◌≡◌, ℕ, Bool, true, false, List, map, All, Option, Some, None, refl, sym, ap, subst, ◌∙◌}
 use Rattle.std.specs.Prelude.{◌||◌, option_map, is_some}
 use Rattle.slab.specs.Slab.{Slab}
+use Rattle.mq_talk.specs.declared.goal.Goal.TheVariants as goal
 use Rattle.mq_talk.specs.declared.note.Note.{Note}
-use Rattle.mq_talk.specs.declared.place.Parcel.{Parcel}
 use Rattle.mq_talk.specs.Mails.{IsTold}
 use Rattle.mq_talk.specs.Offices.{Seen}
 use Rattle.mq_machine.specs.declared.setup.Setup.{Setup}
@@ -24,7 +24,7 @@ use Rattle.mq_step.specs.Whole.{link_if, filled, IsAsTold, FaultsFit}
 use Rattle.mq_step.specs.Gives.{Tries, InVain, first_of, Turned, Starved, from_frame, from_write}
 use Rattle.mq_step.specs.Wanted.{SendsWait}
 use Rattle.mq_step.proofs.Filling.{are_filled, are_kept, StaysTold, filled_told, FailsNot, none_fails, served_any, served_filled, alive_served}
-use Rattle.mq_step.proofs.Wanting.{shared_by, shares_same}
+use Rattle.mq_step.proofs.Wanting.{Mailed, shared_by, shares_same}
 use Rattle.mq_step.proofs.Keeping.{NoOpens, framed_keeps, framed_goes_on}
 use Rattle.mq_step.proofs.Cores.{none_opens, go_on_opens}
 use Rattle.mq_step.proofs.Taking.{go_alive, waits_unopened}
@@ -48,7 +48,7 @@ pub still_bound : {L Q : Type 0} (most : Q → ℕ) (table : Slab Q) (h : HeldBy
 still_bound most table h s held wait = waits_bound most table h.ports.items (want_of s.conn) h.bound wait held.bound
 
 pub still_opens : (c : Core) (s : Conn) → IsConn c s → may_wait (want_of s) ≡ true → NoOpens s.due
-still_opens c s is wait = none_opens c s is (λ conn id actor goal want. waits_unopened (want_of s) wait conn id actor goal want)
+still_opens c s is wait = none_opens c s is (λ conn id actor addr port want. waits_unopened (want_of s) wait conn id actor (goal.Udp addr port) want)
 
 -- ---- what is left, and for which state it stands
 
@@ -103,11 +103,11 @@ reaching took = record { took = took; asked = false }
 abbrev pub drained : Outside → Found → Held → List (List ℕ) → Held
 drained o f s pieces = whole o f s (starved s.conn) (record (filled o f s).link { pieces = pieces })
 
-pub drains : (tries : Tries) (vain : InVain) (o n : Outside) (seen : Seen) (boxes : List (List Parcel)) (orders : Orders) (s : Held) (f : Found) (t : Try) (took : Bool) (pieces : List (List ℕ))
+pub drains : (tries : Tries) (vain : InVain) (o n : Outside) (seen : Seen) (m : Mailed seen) (orders : Orders) (s : Held) (f : Found) (t : Try) (took : Bool) (pieces : List (List ℕ))
     → vain f → first_of tries (filled o f s) ≡ Some t → (t ≡ Act → s.conn.ending ≡ None) → Leaves took t (filled o f s).link.pieces pieces → n.binds.holds ≡ o.binds.holds
-    → Starved tries vain o n seen seen boxes orders s (drained o f s pieces)
-drains tries vain o n seen boxes orders s f t took pieces vain_is is alive leaves same =
-    let sh : Shared = shared_by seen seen.entries boxes orders in
+    → Starved tries vain o n seen seen m.mail m.mail orders s (drained o f s pieces)
+drains tries vain o n seen m orders s f t took pieces vain_is is alive leaves same =
+    let sh : Shared = shared_by seen seen.entries m.boxes orders in
     record {
       found = f;
       vain_is = vain_is;
@@ -119,7 +119,7 @@ drains tries vain o n seen boxes orders s f t took pieces vain_is is alive leave
       pieces = pieces;
       tunnels = s.conn.tunnels;
       is = is;
-      shares = shares_same seen seen boxes orders refl;
+      shares = shares_same seen seen m orders refl;
       alive = alive;
       leaves = leaves;
       heard = (refl, refl, refl);
@@ -129,11 +129,11 @@ drains tries vain o n seen boxes orders s f t took pieces vain_is is alive leave
 
 -- ---- a frame
 
-pub frame_done : (setup : Setup) (o n : Outside) (seen : Seen) (boxes : List (List Parcel)) (orders : Orders) (s : Held) (said : Note) (t : Conn) → framed s.conn ≡ Some (said, t) → n.binds.holds ≡ o.binds.holds
-    → Turned setup from_frame SendsWait o n seen seen boxes orders s said (Some (whole o idle s t (filled o idle s).link))
-frame_done setup o n seen boxes orders s said t is same =
+pub frame_done : (setup : Setup) (o n : Outside) (seen : Seen) (m : Mailed seen) (orders : Orders) (s : Held) (said : Note) (t : Conn) → framed s.conn ≡ Some (said, t) → n.binds.holds ≡ o.binds.holds
+    → Turned setup from_frame SendsWait o n seen seen m.mail m.mail orders s said (Some (whole o idle s t (filled o idle s).link))
+frame_done setup o n seen m orders s said t is same =
     let h : Held = filled o idle s in
-    let sh : Shared = shared_by seen seen.entries boxes orders in
+    let sh : Shared = shared_by seen seen.entries m.boxes orders in
     record {
       found = idle;
       vain_is = λ tunnel. (refl, refl);
@@ -143,7 +143,7 @@ frame_done setup o n seen boxes orders s said t is same =
       after = sh;
       became = Some (whole o idle s t h.link);
       is = first_true h Frame (from_write h) (ap (λ (d : Option (Note × Conn)). is_some d) is);
-      shares = shares_same seen seen boxes orders refl;
+      shares = shares_same seen seen m orders refl;
       faults = whole_fits o n idle s refl refl idle_works;
       binds = same;
       next = record { said = refl; is = ap (λ (d : Option (Note × Conn)). option_map (with_conn h) d) is; after_is = refl };

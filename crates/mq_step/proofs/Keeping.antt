@@ -1,5 +1,5 @@
 -- What an answer leaves of a connection: its number, its actor and its tunnels, and whether an opening is due.
-use Rattle.std.proofs.Common.{◌≡◌, ℕ, ◌==◌, ◌+◌, cond, Bool, true, false, not, ◌&&◌, List, [], ◌∷◌, ◌++◌, map, drop, take, length, nat_lt, nat_le, All, Option, Some, None, refl, sym, ap, ◌∙◌, subst}
+use Rattle.std.proofs.Common.{◌≡◌, ℕ, ◌==◌, ◌+◌, cond, Bool, true, false, not, ◌&&◌, List, [], ◌∷◌, ◌++◌, drop, take, length, nat_lt, nat_le, All, Option, Some, None, refl, sym, ap, ◌∙◌, subst}
 use Rattle.std.specs.Prelude.{filter, find, option_map, option_and_then, is_some}
 use Rattle.std.proofs.lemmas.List.Elements.{All-cons, All-head, All-tail, All-nil, All-filter}
 use Rattle.mq_talk.specs.declared.book.Call.{Call}
@@ -7,7 +7,9 @@ use Rattle.mq_talk.specs.declared.book.Call.TheVariants as call
 use Rattle.mq_talk.specs.declared.book.Reply.TheVariants as reply
 use Rattle.mq_addr.specs.declared.range.Range.{Range}
 use Rattle.mq_capsule.specs.Writing.{capsule_text, datagram}
+use Rattle.mq_addr.specs.declared.addr.Addr.{Addr}
 use Rattle.mq_talk.specs.declared.goal.Goal.{Goal}
+use Rattle.mq_talk.specs.declared.goal.Goal.TheVariants as goal
 use Rattle.mq_talk.specs.declared.note.End.{End}
 use Rattle.mq_talk.specs.declared.note.From.{From}
 use Rattle.mq_talk.specs.declared.note.Note.{Note}
@@ -15,6 +17,8 @@ use Rattle.mq_talk.specs.declared.note.Note.TheVariants as note
 use Rattle.mq_talk.specs.declared.note.Why.{Why}
 use Rattle.mq_talk.specs.declared.note.Why.TheVariants as reason
 use Rattle.mq_talk.specs.declared.place.Cause.TheVariants as cause
+use Rattle.mq_talk.specs.declared.place.Verdict.{Verdict}
+use Rattle.mq_talk.specs.declared.place.Verdict.TheVariants as verdict
 use Rattle.mq_outside.specs.declared.PortPut.{PortPut}
 use Rattle.mq_outside.specs.declared.PortPut.TheVariants as put
 use Rattle.mq_machine.specs.declared.act.Act.{Act}
@@ -26,16 +30,17 @@ use Rattle.mq_machine.specs.declared.act.Due.TheVariants as due
 use Rattle.mq_machine.specs.Putting.{Putting, first_of, putting}
 use Rattle.mq_machine.specs.Settle.{settle, settled, passing, spending, gives_up}
 use Rattle.mq_machine.specs.State.{Conn, Tunnel, Waiting, Packet, Front, Head, OverHttp1, OverHttp2, owed, values, kind_of, tunnel_on}
-use Rattle.mq_machine.specs.Lawful.{is_opening}
-use Rattle.mq_machine.specs.Want.{Nothing, Bind, Ask, Over, Answer, Said, Bound, Replied, Put, want_of, want_by, ending_want, over_want, due_want, act_want, tunnel_want, most_values}
+use Rattle.mq_machine.specs.Lawful.{is_open}
+use Rattle.mq_machine.specs.Want.{Nothing, Bind, Ask, Over, Answer, Said, Bound, Replied, Judged, Pushed, Put, want_of, want_by, ending_want, over_want, due_want, act_want, tunnel_want, most_values}
 use Rattle.mq_machine.specs.Done.{Done, closing, done, done_by, due_done, act_done, tunnel_done, ending_done, first_waiting, is_on, waits, with_waiting, closed, dropped, sent}
 use Rattle.mq_machine.specs.Steps.{settled_note, is_nothing, is_ending, can_go_on, most_owed, can_frame, tunnels_from, framed, framed_front, framed_by, framing, frame_size, whole_note, next_framed, set_waiting, wrote, finished, finish_by, queued, port_failed}
 use Rattle.mq_machine.proofs.Settling.{settled_rests}
+use Rattle.mq_step.specs.Holds.{numbers_of, port_number}
 
--- ---- openings that are due
+-- ---- openings that are due, of tunnels for UDP
 
 abbrev pub IsNoOpen : Due → Type 0
-IsNoOpen d = is_opening d ≡ false
+IsNoOpen d = is_open d ≡ false
 
 abbrev pub NoOpens : List Due → Type 0
 NoOpens ds = All IsNoOpen ds
@@ -43,7 +48,7 @@ NoOpens ds = All IsNoOpen ds
 pub no_opens_nil : NoOpens []
 no_opens_nil = All-nil IsNoOpen
 
-pub no_opens_cons : (d : Due) (ds : List Due) → is_opening d ≡ false → NoOpens ds → NoOpens (d ∷ ds)
+pub no_opens_cons : (d : Due) (ds : List Due) → is_open d ≡ false → NoOpens ds → NoOpens (d ∷ ds)
 no_opens_cons d ds isnt none = All-cons IsNoOpen d ds isnt none
 
 pub no_opens_tail : (ds : List Due) → NoOpens ds → NoOpens (drop 1 ds)
@@ -51,7 +56,7 @@ no_opens_tail [] none = none
 no_opens_tail (d ∷ ds) none = All-tail IsNoOpen d ds none
 
 -- of what is left once nothing more is asked of a stream
-no_opens_without : (id : ℕ) (ds : List Due) → NoOpens ds → NoOpens (filter (λ d. not (is_on id d)) ds)
+pub no_opens_without : (id : ℕ) (ds : List Due) → NoOpens ds → NoOpens (filter (λ d. not (is_on id d)) ds)
 no_opens_without id ds none = All-filter (λ d. not (is_on id d)) IsNoOpen ds none
 
 -- The answer leaves number, actor and tunnels, and no opening is due behind it.
@@ -83,14 +88,14 @@ settles x opens = settled_kept x (passing x.due x) (passing_kept x.due x x refl 
 
 -- ---- what is true of the connection behind an answer
 
-abbrev Each : (Conn → Type 0) → Done → Type 0
+abbrev pub Each : (Conn → Type 0) → Done → Type 0
 Each P None = Unit {0}
 Each P (Some d) = P d.1
 
-each_at : (P : Conn → Type 0) (o : Done) (n : Note) (t : Conn) → Each P o → o ≡ Some (n, t) → P t
+pub each_at : (P : Conn → Type 0) (o : Done) (n : Note) (t : Conn) → Each P o → o ≡ Some (n, t) → P t
 each_at P o n t each is = let Q : Done → Type 0 = λ x. Each P x in subst Q is each
 
-each_settled : (P : Conn → Type 0) (o : Done) → ((x : Conn) → P x → P (settle x)) → Each P o → Each P (option_map settled_note o)
+pub each_settled : (P : Conn → Type 0) (o : Done) → ((x : Conn) → P x → P (settle x)) → Each P o → Each P (option_map settled_note o)
 each_settled P None goes each = tt
 each_settled P (Some d) goes each = goes d.1 each
 
@@ -251,6 +256,80 @@ kept_full c t n entries live opens is =
     let said : Answer = Replied (reply.HistoryFull entries live) in
     each_at (Kept c) (done c said) n t (each_settled (Kept c) (done_by c c.ending said) (settle_kept c) (by_full c c.ending entries live opens)) is
 
+-- ---- a packet was judged, or pushed
+
+ending_none_judged : (c : Conn) (ts : List Tunnel) (said : Verdict) (at : ℕ) → Each (Kept c) (ending_done c ts (Judged said at))
+ending_none_judged c [] said at = tt
+ending_none_judged c (t ∷ ts) said at = tt
+
+tunnel_judged : (c : Conn) (rest : List Due) (o : Option Tunnel) (a : StreamAct) (said : Verdict) (at : ℕ) → NoOpens rest → Each (Kept c) (tunnel_done (record c { due = rest }) o a (Judged said at))
+tunnel_judged c rest None a said at opens = tt
+tunnel_judged c rest (Some t) (stream.Payload n payload) said at opens = tt
+tunnel_judged c rest (Some t) (stream.Packet n packet flow) (verdict.Pass to) at opens =
+    record { number = refl; actor = refl; tunnels = refl; opens = no_opens_cons (due.Do (act.OfStream t.stream (stream.Push n to packet))) rest refl opens }
+tunnel_judged c rest (Some t) (stream.Packet n packet flow) verdict.Source at opens = record { number = refl; actor = refl; tunnels = refl; opens = opens }
+tunnel_judged c rest (Some t) (stream.Packet n packet flow) verdict.NoRoute at opens = record { number = refl; actor = refl; tunnels = refl; opens = opens }
+tunnel_judged c rest (Some t) (stream.Push n to packet) said at opens = tt
+tunnel_judged c rest (Some t) (stream.Drop n cause) said at opens = tt
+tunnel_judged c rest (Some t) (stream.Assign asked) said at opens = tt
+tunnel_judged c rest (Some t) (stream.Advertise ranges) said at opens = tt
+tunnel_judged c rest (Some t) (stream.Close why) said at opens = tt
+
+act_judged : (c : Conn) (rest : List Due) (a : Act) (said : Verdict) (at : ℕ) → NoOpens rest → Each (Kept c) (act_done (record c { due = rest }) a (Judged said at))
+act_judged c rest (act.Bind id goal) said at opens = tt
+act_judged c rest (act.Open id goal) said at opens = tt
+act_judged c rest (act.Refuse id status rule) said at opens = tt
+act_judged c rest (act.Reset id code) said at opens = tt
+act_judged c rest (act.OfStream id a) said at opens = tunnel_judged c rest (tunnel_on c id) a said at opens
+
+due_judged : (c : Conn) (ds : List Due) (said : Verdict) (at : ℕ) → NoOpens (drop 1 ds) → Each (Kept c) (due_done c ds (Judged said at))
+due_judged c [] said at opens = tt
+due_judged c (due.Do a ∷ rest) said at opens = act_judged c rest a said at opens
+due_judged c (due.Spend id size ∷ rest) said at opens = tt
+due_judged c (due.Fault code ∷ rest) said at opens = tt
+
+by_judged : (c : Conn) (e : Option End) (said : Verdict) (at : ℕ) → NoOpens (drop 1 c.due) → Each (Kept c) (done_by c e (Judged said at))
+by_judged c None said at opens = due_judged c c.due said at opens
+by_judged c (Some why) said at opens = ending_none_judged c c.tunnels said at
+
+pub kept_judged : (c t : Conn) (n : Note) (said : Verdict) (at : ℕ) → NoOpens (drop 1 c.due) → done c (Judged said at) ≡ Some (n, t) → Kept c t
+kept_judged c t n said at opens is = each_at (Kept c) (done c (Judged said at)) n t (each_settled (Kept c) (done_by c c.ending (Judged said at)) (settle_kept c) (by_judged c c.ending said at opens)) is
+
+ending_none_pushed : (c : Conn) (ts : List Tunnel) (taken : Bool) → Each (Kept c) (ending_done c ts (Pushed taken))
+ending_none_pushed c [] taken = tt
+ending_none_pushed c (t ∷ ts) taken = tt
+
+tunnel_pushed : (c : Conn) (rest : List Due) (o : Option Tunnel) (a : StreamAct) (taken : Bool) → NoOpens rest → Each (Kept c) (tunnel_done (record c { due = rest }) o a (Pushed taken))
+tunnel_pushed c rest None a taken opens = tt
+tunnel_pushed c rest (Some t) (stream.Payload n payload) taken opens = tt
+tunnel_pushed c rest (Some t) (stream.Packet n packet flow) taken opens = tt
+tunnel_pushed c rest (Some t) (stream.Push n to packet) true opens = record { number = refl; actor = refl; tunnels = refl; opens = opens }
+tunnel_pushed c rest (Some t) (stream.Push n to packet) false opens = record { number = refl; actor = refl; tunnels = refl; opens = opens }
+tunnel_pushed c rest (Some t) (stream.Drop n cause) taken opens = tt
+tunnel_pushed c rest (Some t) (stream.Assign asked) taken opens = tt
+tunnel_pushed c rest (Some t) (stream.Advertise ranges) taken opens = tt
+tunnel_pushed c rest (Some t) (stream.Close why) taken opens = tt
+
+act_pushed : (c : Conn) (rest : List Due) (a : Act) (taken : Bool) → NoOpens rest → Each (Kept c) (act_done (record c { due = rest }) a (Pushed taken))
+act_pushed c rest (act.Bind id goal) taken opens = tt
+act_pushed c rest (act.Open id goal) taken opens = tt
+act_pushed c rest (act.Refuse id status rule) taken opens = tt
+act_pushed c rest (act.Reset id code) taken opens = tt
+act_pushed c rest (act.OfStream id a) taken opens = tunnel_pushed c rest (tunnel_on c id) a taken opens
+
+due_pushed : (c : Conn) (ds : List Due) (taken : Bool) → NoOpens (drop 1 ds) → Each (Kept c) (due_done c ds (Pushed taken))
+due_pushed c [] taken opens = tt
+due_pushed c (due.Do a ∷ rest) taken opens = act_pushed c rest a taken opens
+due_pushed c (due.Spend id size ∷ rest) taken opens = tt
+due_pushed c (due.Fault code ∷ rest) taken opens = tt
+
+by_pushed : (c : Conn) (e : Option End) (taken : Bool) → NoOpens (drop 1 c.due) → Each (Kept c) (done_by c e (Pushed taken))
+by_pushed c None taken opens = due_pushed c c.due taken opens
+by_pushed c (Some why) taken opens = ending_none_pushed c c.tunnels taken
+
+pub kept_pushed : (c t : Conn) (n : Note) (taken : Bool) → NoOpens (drop 1 c.due) → done c (Pushed taken) ≡ Some (n, t) → Kept c t
+kept_pushed c t n taken opens is = each_at (Kept c) (done c (Pushed taken)) n t (each_settled (Kept c) (done_by c c.ending (Pushed taken)) (settle_kept c) (by_pushed c c.ending taken opens)) is
+
 -- ---- what is wanted
 
 tunnel_wants_no_open : (o : Option Tunnel) (a : StreamAct) (conn id actor : ℕ) (goal : Goal) → tunnel_want o a ≡ Ask (call.Open conn id actor goal) → ⊥
@@ -277,23 +356,28 @@ ending_wants_no_open : (c : Conn) (why : End) (ts : List Tunnel) (conn id actor 
 ending_wants_no_open c why [] conn id actor goal w = over_asks_nothing why (owed c) (call.Open conn id actor goal) w
 ending_wants_no_open c why (t ∷ ts) conn id actor goal w = cc
 
-due_no_open : (c : Conn) (ds : List Due) (conn id actor : ℕ) (goal : Goal) → NoOpens ds → due_want c ds ≡ Ask (call.Open conn id actor goal) → ⊥
-due_no_open c [] conn id actor goal opens w = cc
-due_no_open c (due.Do (act.Bind on g) ∷ rest) conn id actor goal opens w = cc
-due_no_open c (due.Do (act.Open on g) ∷ rest) conn id actor goal opens w = let e = All-head IsNoOpen (due.Do (act.Open on g)) rest opens in cc
-due_no_open c (due.Do (act.Refuse on status rule) ∷ rest) conn id actor goal opens w = cc
-due_no_open c (due.Do (act.Reset on code) ∷ rest) conn id actor goal opens w = cc
-due_no_open c (due.Do (act.OfStream on a) ∷ rest) conn id actor goal opens w = tunnel_wants_no_open (tunnel_on c on) a conn id actor goal w
-due_no_open c (due.Spend on size ∷ rest) conn id actor goal opens w = cc
-due_no_open c (due.Fault code ∷ rest) conn id actor goal opens w = cc
+-- an opening of a tunnel for UDP that is wanted is due
+abbrev opens_udp : ℕ → ℕ → ℕ → Addr → ℕ → Call
+opens_udp conn id actor addr port = call.Open conn id actor (goal.Udp addr port)
 
-by_no_open : (c : Conn) (e : Option End) (conn id actor : ℕ) (goal : Goal) → NoOpens c.due → want_by c e ≡ Ask (call.Open conn id actor goal) → ⊥
-by_no_open c None conn id actor goal opens w = due_no_open c c.due conn id actor goal opens w
-by_no_open c (Some why) conn id actor goal opens w = ending_wants_no_open c why c.tunnels conn id actor goal w
+due_no_open : (c : Conn) (ds : List Due) (conn id actor : ℕ) (addr : Addr) (port : ℕ) → NoOpens ds → due_want c ds ≡ Ask (opens_udp conn id actor addr port) → ⊥
+due_no_open c [] conn id actor addr port opens w = cc
+due_no_open c (due.Do (act.Bind on g) ∷ rest) conn id actor addr port opens w = cc
+due_no_open c (due.Do (act.Open on (goal.Udp a p)) ∷ rest) conn id actor addr port opens w = let e = All-head IsNoOpen (due.Do (act.Open on (goal.Udp a p))) rest opens in cc
+due_no_open c (due.Do (act.Open on (goal.Ip area protocol)) ∷ rest) conn id actor addr port opens w = cc
+due_no_open c (due.Do (act.Refuse on status rule) ∷ rest) conn id actor addr port opens w = cc
+due_no_open c (due.Do (act.Reset on code) ∷ rest) conn id actor addr port opens w = cc
+due_no_open c (due.Do (act.OfStream on a) ∷ rest) conn id actor addr port opens w = tunnel_wants_no_open (tunnel_on c on) a conn id actor (goal.Udp addr port) w
+due_no_open c (due.Spend on size ∷ rest) conn id actor addr port opens w = cc
+due_no_open c (due.Fault code ∷ rest) conn id actor addr port opens w = cc
 
--- where no opening is due, none is wanted
-pub no_open : (c : Conn) (conn id actor : ℕ) (goal : Goal) → NoOpens c.due → want_of c ≡ Ask (call.Open conn id actor goal) → ⊥
-no_open c conn id actor goal opens w = by_no_open c c.ending conn id actor goal opens w
+by_no_open : (c : Conn) (e : Option End) (conn id actor : ℕ) (addr : Addr) (port : ℕ) → NoOpens c.due → want_by c e ≡ Ask (opens_udp conn id actor addr port) → ⊥
+by_no_open c None conn id actor addr port opens w = due_no_open c c.due conn id actor addr port opens w
+by_no_open c (Some why) conn id actor addr port opens w = ending_wants_no_open c why c.tunnels conn id actor (goal.Udp addr port) w
+
+-- where no opening of a tunnel for UDP is due, none is wanted
+pub no_open : (c : Conn) (conn id actor : ℕ) (addr : Addr) (port : ℕ) → NoOpens c.due → want_of c ≡ Ask (opens_udp conn id actor addr port) → ⊥
+no_open c conn id actor addr port opens w = by_no_open c c.ending conn id actor addr port opens w
 
 -- ---- a port is bound
 
@@ -496,15 +580,11 @@ closed_ends c t n does is =
 
 -- ---- what a connection does beside its wants
 
--- the numbers of its tunnels
-abbrev pub numbers_of : List Tunnel → List ℕ
-numbers_of ts = map (λ (u : Tunnel). u.id) ts
-
--- It leaves number, actor and the tunnels' numbers, and no opening is due behind it.
+-- It leaves number, actor and the numbers of tunnels for UDP, and no opening is due behind it.
 abbrev pub IsKept : Conn → Conn → Type 0
-IsKept c t = (t.number ≡ c.number) × (t.actor ≡ c.actor) × NoOpens t.due × (map (λ (u : Tunnel). u.id) t.tunnels ≡ map (λ (u : Tunnel). u.id) c.tunnels)
+IsKept c t = (t.number ≡ c.number) × (t.actor ≡ c.actor) × NoOpens t.due × (numbers_of t.tunnels ≡ numbers_of c.tunnels)
 
-settle_is_kept : (c x : Conn) → IsKept c x → IsKept c (settle x)
+pub settle_is_kept : (c x : Conn) → IsKept c x → IsKept c (settle x)
 settle_is_kept c x kept =
     let k = settles x kept.2 in
     (k.number ∙ kept.0, k.actor ∙ kept.1, k.opens, ap numbers_of k.tunnels ∙ kept.3)
@@ -514,14 +594,14 @@ set_numbers on ws [] = refl
 set_numbers on ws (t ∷ ts) = same (t.stream == on) (set_numbers on ws ts) where
   same : (b : Bool) → numbers_of (set_waiting on ws ts) ≡ numbers_of ts → numbers_of (cond b (record t { waiting = ws } ∷ ts) (t ∷ set_waiting on ws ts)) ≡ numbers_of (t ∷ ts)
   same true rest = refl
-  same false rest = ap (λ (ids : List ℕ). t.id ∷ ids) rest
+  same false rest = ap (λ (ids : List ℕ). port_number t.goal t.id ++ ids) rest
 
-waits_numbers : (id : ℕ) (w : Waiting) (ts : List Tunnel) → numbers_of (waits id w ts) ≡ numbers_of ts
+pub waits_numbers : (id : ℕ) (w : Waiting) (ts : List Tunnel) → numbers_of (waits id w ts) ≡ numbers_of ts
 waits_numbers id w [] = refl
 waits_numbers id w (t ∷ ts) = same (t.id == id) (waits_numbers id w ts) where
   same : (b : Bool) → numbers_of (waits id w ts) ≡ numbers_of ts → numbers_of (cond b (record t { waiting = t.waiting ++ w ∷ [] } ∷ ts) (t ∷ waits id w ts)) ≡ numbers_of (t ∷ ts)
   same true rest = refl
-  same false rest = ap (λ (ids : List ℕ). t.id ∷ ids) rest
+  same false rest = ap (λ (ids : List ℕ). port_number t.goal t.id ++ ids) rest
 
 -- bytes put
 framing_kept : (c : Conn) (put : Putting) (ts : List Tunnel) (next : ℕ) → NoOpens c.due → numbers_of ts ≡ numbers_of c.tunnels
@@ -552,7 +632,7 @@ next_kept c (Some t) opens = front_kept c t t.waiting opens
 
 -- a frame
 pub framed_keeps : (c t : Conn) (n : Note) → NoOpens c.due → framed c ≡ Some (n, t)
-    → (t.number ≡ c.number) × (t.actor ≡ c.actor) × NoOpens t.due × (map (λ (u : Tunnel). u.id) t.tunnels ≡ map (λ (u : Tunnel). u.id) c.tunnels)
+    → (t.number ≡ c.number) × (t.actor ≡ c.actor) × NoOpens t.due × (numbers_of t.tunnels ≡ numbers_of c.tunnels)
 framed_keeps c t n opens is =
     let o : Done = option_and_then (λ (u : Tunnel). framed_front c u u.waiting) (next_framed c) in
     each_at (IsKept c) (framed c) n t (each_settled (IsKept c) o (settle_is_kept c) (next_kept c (next_framed c) opens)) is

@@ -15,6 +15,7 @@ pub mod Opening
 pub mod Refusing
 pub mod Sending
 pub mod Binding
+pub mod Telling
 pub mod Taking
 pub mod Trying
 pub mod Framing

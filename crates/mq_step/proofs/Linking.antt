@@ -6,7 +6,6 @@ use Rattle.std.proofs.lemmas.List.Elements.{All-cons, All-nil}
 use Rattle.mq_outside.specs.Counts.{risen, LinkCounts}
 use Rattle.mq_outside.specs.Links.{taken_of, room_left}
 use Rattle.mq_talk.specs.declared.note.Note.{Note}
-use Rattle.mq_talk.specs.declared.place.Parcel.{Parcel}
 use Rattle.mq_talk.specs.Mails.{IsTold}
 use Rattle.mq_talk.specs.Offices.{Seen}
 use Rattle.mq_machine.specs.declared.setup.Setup.{Setup}
@@ -22,7 +21,7 @@ use Rattle.mq_step.specs.Whole.{link_if, filled}
 use Rattle.mq_step.specs.Gives.{Turned, from_read, from_write}
 use Rattle.mq_step.specs.Wanted.{SendsWait}
 use Rattle.mq_step.proofs.Filling.{none_fails}
-use Rattle.mq_step.proofs.Wanting.{shared_by, shares_same}
+use Rattle.mq_step.proofs.Wanting.{Mailed, shared_by, shares_same}
 use Rattle.mq_step.proofs.Counting.{rose_risen, risen_grows, same_grows, link_same, port_same}
 use Rattle.mq_step.proofs.Trying.{first_true, PortBetween, Between}
 use Rattle.mq_step.proofs.Framing.{whole, fits_link}
@@ -143,13 +142,13 @@ written o s found =
     let link : Link = link_if (o.link s.conn.number) found in
     record link { room = room_left link.room (taken_of link.room (length (owed s.conn))) }
 
-pub write_does_turn : (setup : Setup) (o n : Outside) (c : Calls) (seen : Seen) (boxes : List (List Parcel)) (orders : Orders) (s : Held) (said : Note) (t : Conn) → LinkSeen o c s → (d : WriteDoes c s.conn said t) → n.binds.holds ≡ o.binds.holds
-    → Turned setup from_write SendsWait o n seen seen boxes orders s said (Some (whole o (on_link (roomy d.link.room)) s t (written o s (roomy d.link.room))))
-write_does_turn setup o n c seen boxes orders s said t sees d same =
+pub write_does_turn : (setup : Setup) (o n : Outside) (c : Calls) (seen : Seen) (m : Mailed seen) (orders : Orders) (s : Held) (said : Note) (t : Conn) → LinkSeen o c s → (d : WriteDoes c s.conn said t) → n.binds.holds ≡ o.binds.holds
+    → Turned setup from_write SendsWait o n seen seen m.mail m.mail orders s said (Some (whole o (on_link (roomy d.link.room)) s t (written o s (roomy d.link.room))))
+write_does_turn setup o n c seen m orders s said t sees d same =
     let f : Found = on_link (roomy d.link.room) in
     let h : Held = filled o f s in
     let x = took_some o c s said t sees d in
-    let sh : Shared = shared_by seen seen.entries boxes orders in
+    let sh : Shared = shared_by seen seen.entries m.boxes orders in
     let u : Held = whole o f s t (written o s (roomy d.link.room)) in
     let count : write_count h ≡ taken_of d.link.room (length (owed s.conn)) = ap (λ (r : Option ℕ). taken_of r (length (owed s.conn))) x.room in
     let does : wrote s.conn (write_count h) ≡ (said, t) = ap (λ (k : ℕ). wrote s.conn k) count ∙ d.does in
@@ -166,7 +165,7 @@ write_does_turn setup o n c seen boxes orders s said t sees d same =
       after = sh;
       became = Some u;
       is = first_true h Write (from_read h) (both_true (nat_lt 0 (length (owed s.conn))) (h.link.write_fails || has_room_for h.link.room) (owes_some s.conn d.some) room);
-      shares = shares_same seen seen boxes orders refl;
+      shares = shares_same seen seen m orders refl;
       faults = record {
         link = λ none is. fits_link (o.link s.conn.number) (roomy d.link.room) (Rose (o.link_counts s.conn.number).faults (n.link_counts s.conn.number).faults) refl refl none is;
         ports = none_fails o n f s.ports (record { sends = λ tunnel. refl; receives = λ tunnel. refl });

@@ -11,7 +11,7 @@ use Rattle.mq_outside.specs.Ports.{PortHolds}
 use Rattle.mq_talk.specs.declared.note.Note.{Note}
 use Rattle.mq_talk.specs.declared.note.End.{End}
 use Rattle.mq_talk.specs.declared.note.End.TheVariants as end
-use Rattle.mq_talk.specs.Mails.{IsTold}
+use Rattle.mq_talk.specs.Mails.{Boxes, IsTold}
 use Rattle.mq_talk.specs.Offices.{Seen}
 use Rattle.mq_machine.specs.declared.setup.Setup.{Setup}
 use Rattle.mq_machine.specs.State.{Conn, Tunnel, Link, new_link, Held, owed}
@@ -24,6 +24,7 @@ use Rattle.mq_held.specs.declared.held.Held.{Held as HeldBy}
 use Rattle.mq_held.specs.declared.held.PortSeat.{PortSeat}
 use Rattle.mq_held.specs.declared.went.Went.TheVariants as went
 use Rattle.mq_held.specs.Links.{Calls, calls_of, WriteGives, WriteWaits, FailsWrite}
+use Rattle.mq_step.proofs.Wanting.{Mailed}
 use Rattle.mq_step.specs.declared.stepped.Stepped.{Stepped}
 use Rattle.mq_step.specs.declared.stepped.Stepped.TheVariants.{Did}
 use Rattle.mq_step.specs.Holds.{ArePorts, AreServed, IsHeld, IsKnown}
@@ -43,10 +44,10 @@ use Rattle.mq_step.proofs.Linking.{on_link, LinkSeen, write_in_vain, write_rose,
 use Rattle.mq_step.proofs.Failing.{failed_gives, fallen}
 
 -- memory was refused, whoever said so
-pub gives_err : (setup : Setup) (tries : Tries) (vain : InVain) (o n : Outside) (seen seen_after : Seen) (stands_for : Held → Type 0) (s : Held) (r : Result Stepped NoMemory) → IsErr r
-    → ((refused : NoMemory) → Gives setup tries vain o n seen seen_after stands_for s (Err refused)) → Gives setup tries vain o n seen seen_after stands_for s r
-gives_err setup tries vain o n seen seen_after stands_for s (Ok stepped) is gives = absurd cc
-gives_err setup tries vain o n seen seen_after stands_for s (Err refused) is gives = gives refused
+pub gives_err : (setup : Setup) (tries : Tries) (vain : InVain) (o n : Outside) (seen seen_after : Seen) (mail mail_after : Option Boxes) (stands_for : Held → Type 0) (s : Held) (r : Result Stepped NoMemory) → IsErr r
+    → ((refused : NoMemory) → Gives setup tries vain o n seen seen_after mail mail_after stands_for s (Err refused)) → Gives setup tries vain o n seen seen_after mail mail_after stands_for s r
+gives_err setup tries vain o n seen seen_after mail mail_after stands_for s (Ok stepped) is gives = absurd cc
+gives_err setup tries vain o n seen seen_after mail mail_after stands_for s (Err refused) is gives = gives refused
 
 -- ---- what stays
 
@@ -80,7 +81,7 @@ fallen_held most table old new s link held wait rest conn =
 pub moved_known : {L Q : Type 0} (most : Q → ℕ) (table : Slab Q) (old new : HeldBy L) (s : Held) (seen : Seen) (actor : ℕ) → IsHeld most table old s → IsKnown seen actor s → may_wait (want_of s.conn) ≡ true
     → new ≡ record old { conn = new.conn; link = new.link } → IsConn new.conn (failed s.conn) → (x : Held) × IsHeld most table new x × IsKnown seen actor x
 moved_known most table old new s seen actor held known wait rest conn =
-    (fallen s s.link, fallen_held most table old new s s.link held wait rest conn, record { sound = known.sound; worker = known.worker; actor_is = known.actor_is; tunnels = known.tunnels })
+    (fallen s s.link, fallen_held most table old new s s.link held wait rest conn, record { sound = known.sound; worker = known.worker; actor_is = known.actor_is; tunnels = known.tunnels; places = tt })
 
 -- what the outside tells of it, once its link was asked in vain
 pub moved_sight : {L Q : Type 0} (link : L → Option Link) (past : L → LinkPast) (counts : L → LinkCounts) (holds : Q → Option PortHolds) (port_counts : Q → PortCounts) (binds : Binder) (table : Slab Q) (old new : HeldBy L)
@@ -125,23 +126,23 @@ module _ {L Q : Type 0} (link : L → Option Link) (past : L → LinkPast) (coun
 
   -- ---- writes
 
-  pub write_starves : (x : Moves link past counts most holds port_counts binds table old new o n s) (setup : Setup) (seen : Seen) (refused : NoMemory)
+  pub write_starves : (x : Moves link past counts most holds port_counts binds table old new o n s) (setup : Setup) (seen : Seen) (m : Mailed seen) (refused : NoMemory)
       → WriteGives (calls_of link past counts old.link new.link) (IsConn new.conn) s.conn (Err refused)
-      → Gives setup from_write SendsWait o n seen seen (IsHeld most table new) s (Err refused)
-  write_starves x setup seen refused gives = λ boxes orders.
+      → Gives setup from_write SendsWait o n seen seen m.mail m.mail (IsHeld most table new) s (Err refused)
+  write_starves x setup seen m refused gives = λ orders.
       let f : Found = on_link new_link in
       let h : Held = filled o f s in
       let can = write_could o (calls_of link past counts old.link new.link) s (seen_link x) gives.0 gives.1 in
       let same : n.link s.conn.number ≡ o.link s.conn.number = link_behind x ∙ gives.2.holds ∙ sym (seen_link x).link in (
         drained o f s h.link.pieces,
-        drains from_write SendsWait o n seen boxes orders s f Write false h.link.pieces (λ tunnel. (refl, refl)) (first_true h Write (from_read h) can) (λ is. absurd cc) refl (same_binds x),
+        drains from_write SendsWait o n seen m orders s f Write false h.link.pieces (λ tunnel. (refl, refl)) (first_true h Write (from_read h) can) (λ is. absurd cc) refl (same_binds x),
         (drained_stands x f h.link.pieces gives.3, whole_told o n f s (starved s.conn) h.link refl (same_link o n s new_link same) (stay_all x)),
       )
 
-  pub wrote_gives : (x : Moves link past counts most holds port_counts binds table old new o n s) (setup : Setup) (seen : Seen) (said : Note)
+  pub wrote_gives : (x : Moves link past counts most holds port_counts binds table old new o n s) (setup : Setup) (seen : Seen) (m : Mailed seen) (said : Note)
       → WriteGives (calls_of link past counts old.link new.link) (IsConn new.conn) s.conn (Ok (went.Did said))
-      → Gives setup from_write SendsWait o n seen seen (IsHeld most table new) s (Ok (Did said))
-  wrote_gives x setup seen said gives = λ boxes orders.
+      → Gives setup from_write SendsWait o n seen seen m.mail m.mail (IsHeld most table new) s (Ok (Did said))
+  wrote_gives x setup seen m said gives = λ orders.
       let c : Calls = calls_of link past counts old.link new.link in
       let d = gives.1 in
       let t : Conn = gives.0 in
@@ -155,7 +156,7 @@ module _ {L Q : Type 0} (link : L → Option Link) (past : L → LinkPast) (coun
       let S : Option End → Type 0 = λ e. AreServed e t.tunnels s.ports in
       let U : List Tunnel → Type 0 = λ ts. AreServed s.conn.ending ts s.ports in (
         whole o f s t (written o s (roomy d.link.room)),
-        write_does_turn setup o n c seen boxes orders s said t (seen_link x) d (same_binds x),
+        write_does_turn setup o n c seen m orders s said t (seen_link x) d (same_binds x),
         (
           whole_stands most table table old new o f s t (written o s (roomy d.link.room)) x.held (none_changed table) (ap (λ h. h.ports.items) x.rest) (ap (λ h. h.number) x.rest) (bound_none x)
               same.number (subst NoOpens (sym same.dues) (still_opens old.conn s.conn x.held.conn x.wait)) (subst S (sym same.ending) (subst U (sym same.tunnels) x.held.served)) gives.2,
@@ -201,13 +202,13 @@ module _ {L Q : Type 0} (link : L → Option Link) (past : L → LinkPast) (coun
       rose_risen (o.link_counts s.conn.number).faults (n.link_counts s.conn.number).faults
       (ap (λ (x : LinkCounts). x.faults) (b ∙ is) ∙ ap (λ (x : LinkCounts). risen x.faults) (sym a))
 
-  pub write_fails_gives : (setup : Setup) (seen seen_after : Seen) (r : Result Stepped NoMemory) → IsHeld most table old s → may_wait (want_of s.conn) ≡ true
+  pub write_fails_gives : (setup : Setup) (seen seen_after : Seen) (mail mail_after : Option Boxes) (r : Result Stepped NoMemory) → IsHeld most table old s → may_wait (want_of s.conn) ≡ true
       → Sees link counts holds port_counts binds table old o → Sees link counts holds port_counts binds_after after fin n
       → new ≡ record old { conn = new.conn; link = new.link } → fin ≡ record new { conn = fin.conn; ports = fin.ports; bound = fin.bound }
       → WriteGives (calls_of link past counts old.link new.link) (IsConn new.conn) s.conn (Ok went.Failed)
-      → ((l : Link) → IsHeld most table new (fallen s l) → ActGives o n seen seen_after (IsHeld most after fin) (fallen s l) r)
-      → Gives setup from_write SendsWait o n seen seen_after (IsHeld most after fin) s r
-  write_fails_gives setup seen seen_after r held wait so sn rest acts gives act_gives =
+      → ((l : Link) → IsHeld most table new (fallen s l) → ActGives o n seen seen_after mail mail_after (IsHeld most after fin) (fallen s l) r)
+      → Gives setup from_write SendsWait o n seen seen_after mail mail_after (IsHeld most after fin) s r
+  write_fails_gives setup seen seen_after mail mail_after r held wait so sn rest acts gives act_gives =
       let c : Calls = calls_of link past counts old.link new.link in
       let f : Found = on_link broken in
       let h : Held = filled o f s in
@@ -216,7 +217,7 @@ module _ {L Q : Type 0} (link : L → Option Link) (past : L → LinkPast) (coun
       let fails = fails_write (o.link s.conn.number) c.after (subst F (sym sl.link) gives.0.fails) in
       let l : Link = record h.link { write_fails = false } in
       let can : can_try h Write ≡ true = both_true (nat_lt 0 (length (owed s.conn))) (h.link.write_fails || has_room_for h.link.room) (owes_some s.conn gives.0.some) (ap (λ (b : Bool). b || has_room_for h.link.room) fails.0) in
-      failed_gives setup from_write SendsWait Write o n seen seen_after (IsHeld most after fin) s broken l r (first_true h Write (from_read h) can) (λ tunnel. (refl, refl))
+      failed_gives setup from_write SendsWait Write o n seen seen_after mail mail_after (IsHeld most after fin) s broken l r (first_true h Write (from_read h) can) (λ tunnel. (refl, refl))
       (λ sh after_sh answer said became next. let W : Bool → Type 0 = λ b. WriteNext b h sh answer said became after_sh in subst W (sym fails.0) next)
       (λ none is. faults_end held rest acts so.of_link sn gives.0.counts)
       (told_end held rest acts sn l fails.1)
@@ -232,15 +233,15 @@ from_read_back o n lc s between asked =
     All-cons (Asked o n s) Read (receives_of s) (read_back o n lc o.port_counts s between (All-head (Asked (mid o lc o.port_counts) n s) Read (receives_of s) asked))
     (receives_back o n lc o.port_counts s s.ports between.ports (All-tail (Asked (mid o lc o.port_counts) n s) Read (receives_of s) asked))
 
-pub write_waits_gives : {L : Type 0} (link : L → Option Link) (past : L → LinkPast) (counts : L → LinkCounts) (o n : Outside) (old new : HeldBy L) (s : Held) (setup : Setup) (seen seen_after : Seen)
+pub write_waits_gives : {L : Type 0} (link : L → Option Link) (past : L → LinkPast) (counts : L → LinkCounts) (o n : Outside) (old new : HeldBy L) (s : Held) (setup : Setup) (seen seen_after : Seen) (mail mail_after : Option Boxes)
     (stands_for : Held → Type 0) (r : Result Stepped NoMemory) → s.conn.number ≡ old.number → SeesLink link counts old o → WriteWaits (calls_of link past counts old.link new.link) s.conn
-    → Gives setup from_read WritesWait (mid o (λ i. counts new.link) o.port_counts) n seen seen_after stands_for s r → Gives setup from_write SendsWait o n seen seen_after stands_for s r
-write_waits_gives link past counts o n old new s setup seen seen_after stands_for r number sees waits gives =
+    → Gives setup from_read WritesWait (mid o (λ i. counts new.link) o.port_counts) n seen seen_after mail mail_after stands_for s r → Gives setup from_write SendsWait o n seen seen_after mail mail_after stands_for s r
+write_waits_gives link past counts o n old new s setup seen seen_after mail mail_after stands_for r number sees waits gives =
     let c : Calls = calls_of link past counts old.link new.link in
     let sl = link_seen link past counts old new o s number sees in
     let lc : ℕ → LinkCounts = λ i. counts new.link in
     let between = write_between o c s sl waits in
-    skip o n lc o.port_counts setup Write from_read WritesWait SendsWait seen seen_after stands_for s r between
+    skip o n lc o.port_counts setup Write from_read WritesWait SendsWait seen seen_after mail mail_after stands_for s r between
     (λ f vain. write_in_vain o c s f sl waits vain.works vain.room) idle_writes (λ f vain. vain.sends)
     (λ grows some. rose_then (o.link_counts s.conn.number).write_waits (counts new.link).write_waits (n.link_counts s.conn.number).write_waits (write_rose o c s sl waits some) grows.link.write_waits)
     (from_read_back o n lc s between) gives

@@ -1,5 +1,5 @@
 -- The receives of a connection, one seat after the other: those before were in vain.
-use Rattle.std.proofs.Common.{◌≡◌, ◌≢◌, ◌⊎◌, inl, inr, ℕ, zero, suc, ◌+◌, ◌<◌, ◌≤◌, ◌&&◌, Bool, true, false, List, [], ◌∷◌, map, length, All, slice_get, nat_lt, Option, Some, None, Result, Ok, Err, refl, sym, ap, subst, ◌∙◌, arith}
+use Rattle.std.proofs.Common.{◌≡◌, ◌≢◌, ◌⊎◌, inl, inr, ℕ, zero, suc, ◌<◌, ◌≤◌, ◌&&◌, Bool, true, false, List, [], ◌∷◌, map, length, All, slice_get, nat_lt, Option, Some, None, Result, Ok, Err, refl, sym, ap, subst, ◌∙◌, arith}
 use Rattle.std.specs.Prelude.{find, if◌then◌else◌, ◌||◌, is_some}
 use Rattle.std.specs.Result.{IsErr}
 use Rattle.std.proofs.lemmas.Bool.{cases_lt}
@@ -9,10 +9,10 @@ use Rattle.mq_wire.specs.declared.NoMemory.{NoMemory}
 use Rattle.mq_outside.specs.Counts.{risen, LinkCounts, PortCounts, no_port_counts}
 use Rattle.mq_outside.specs.Ports.{PortHolds, PortPast}
 use Rattle.mq_talk.specs.declared.note.Note.{Note}
-use Rattle.mq_talk.specs.declared.place.Parcel.{Parcel}
+use Rattle.mq_talk.specs.Mails.{Boxes}
 use Rattle.mq_talk.specs.Offices.{Seen}
 use Rattle.mq_machine.specs.declared.setup.Setup.{Setup}
-use Rattle.mq_machine.specs.State.{Tunnel, Link, Held, Port, Orders, tunnel_of}
+use Rattle.mq_machine.specs.State.{Link, Held, Port, Orders, tunnel_of}
 use Rattle.mq_machine.specs.Turn.{Try, Receive, can_try, can_receive_on}
 use Rattle.mq_machine.specs.Acting.{Outside, Binder, Rose}
 use Rattle.mq_held.specs.Ports.{receive_calls, GivesNone, ReceiveWaits}
@@ -24,13 +24,13 @@ use Rattle.mq_step.specs.declared.stepped.Stepped.TheVariants.{Quiet, Did, Ended
 use Rattle.mq_step.specs.Holds.{IsPort, ArePorts, IsApartFrom, SeatsApart, IsHeld}
 use Rattle.mq_step.specs.Sights.{Found, SeesPort, SeesPorts, port_if, filled_port, idle, PortGrows}
 use Rattle.mq_step.specs.Whole.{SeesLink, Sees, filled}
-use Rattle.mq_step.specs.Gives.{Gives, Asked, Waited, Turned, Starved, ReadsWait, ReceivesWait, first_of, receives_of, receive_alone}
+use Rattle.mq_step.specs.Gives.{Gives, Asked, Waited, Turned, ReadsWait, ReceivesWait, first_of, receives_of, receive_alone}
 use Rattle.mq_step.specs.Vain.{AskedInVain}
-use Rattle.mq_step.proofs.Counting.{rose_risen, risen_grows, same_grows, port_same, link_same, rose_then}
+use Rattle.mq_step.proofs.Counting.{rose_risen, risen_grows, same_grows, port_same, link_same}
 use Rattle.mq_step.proofs.Places.{at_all, all_by, apart_at, seat_port, each_port, port_first}
 use Rattle.mq_step.proofs.Seeing.{there, there_is}
 use Rattle.mq_step.proofs.Trying.{PortBetween, Between, mid, faults_back, binds_back}
-use Rattle.mq_step.proofs.Receiving.{LinkStays, link_stays, link_grows}
+use Rattle.mq_step.proofs.Receiving.{link_stays, link_grows}
 
 -- ---- which ports were asked
 
@@ -272,10 +272,10 @@ module _ {L Q : Type 0} (most : Q → ℕ) (holds : Q → Option PortHolds) (pas
                   by_case (inl (same, is)) = absurd (omega (arith, lt, same))
                   by_case (inr ne) = ne.0
 
-    turned_all : (setup : Setup) (n : Outside) (seen seen_after : Seen) (boxes : List (List Parcel)) (orders : Orders) (said : Note) (t : Option Held)
-        → Turned setup (receive_alone seat.tunnel) (ReceivesWait seat.tunnel) (mid o o.link_counts counts_now) n seen seen_after boxes orders s said t
-        → Turned setup receives_of ReadsWait o n seen seen_after boxes orders s said t
-    turned_all setup n seen seen_after boxes orders said t d = record {
+    turned_all : (setup : Setup) (n : Outside) (seen seen_after : Seen) (mail mail_after : Option Boxes) (orders : Orders) (said : Note) (t : Option Held)
+        → Turned setup (receive_alone seat.tunnel) (ReceivesWait seat.tunnel) (mid o o.link_counts counts_now) n seen seen_after mail mail_after orders s said t
+        → Turned setup receives_of ReadsWait o n seen seen_after mail mail_after orders s said t
+    turned_all setup n seen seen_after mail mail_after orders said t d = record {
       found = d.found;
       vain_is = d.vain_is.reads;
       try = d.try;
@@ -292,14 +292,14 @@ module _ {L Q : Type 0} (most : Q → ℕ) (holds : Q → Option PortHolds) (pas
     }
 
     -- what it gives, all give
-    pub seat_gives : (setup : Setup) (n : Outside) (seen seen_after : Seen) (stand : Held → Type 0) (r : Result Stepped NoMemory) → (r ≡ Ok Quiet → ⊥)
-        → Gives setup (receive_alone seat.tunnel) (ReceivesWait seat.tunnel) (mid o o.link_counts counts_now) n seen seen_after stand s r → Gives setup receives_of ReadsWait o n seen seen_after stand s r
-    seat_gives setup n seen seen_after stand (Ok Quiet) loud gives = absurd (loud refl)
-    seat_gives setup n seen seen_after stand (Ok (Did said)) loud gives = λ boxes orders.
-        let d = gives boxes orders in (d.0, turned_all setup n seen seen_after boxes orders said (Some d.0) d.1, d.2)
-    seat_gives setup n seen seen_after stand (Ok (Ended said)) loud gives = λ boxes orders. turned_all setup n seen seen_after boxes orders said None (gives boxes orders)
-    seat_gives setup n seen seen_after stand (Err refused) loud gives = λ boxes orders.
-        let x = gives boxes orders in
+    pub seat_gives : (setup : Setup) (n : Outside) (seen seen_after : Seen) (mail mail_after : Option Boxes) (stand : Held → Type 0) (r : Result Stepped NoMemory) → (r ≡ Ok Quiet → ⊥)
+        → Gives setup (receive_alone seat.tunnel) (ReceivesWait seat.tunnel) (mid o o.link_counts counts_now) n seen seen_after mail mail_after stand s r → Gives setup receives_of ReadsWait o n seen seen_after mail mail_after stand s r
+    seat_gives setup n seen seen_after mail mail_after stand (Ok Quiet) loud gives = absurd (loud refl)
+    seat_gives setup n seen seen_after mail mail_after stand (Ok (Did said)) loud gives = λ orders.
+        let d = gives orders in (d.0, turned_all setup n seen seen_after mail mail_after orders said (Some d.0) d.1, d.2)
+    seat_gives setup n seen seen_after mail mail_after stand (Ok (Ended said)) loud gives = λ orders. turned_all setup n seen seen_after mail mail_after orders said None (gives orders)
+    seat_gives setup n seen seen_after mail mail_after stand (Err refused) loud gives = λ orders.
+        let x = gives orders in
         let d = x.1 in (
           x.0,
           record {
@@ -325,9 +325,9 @@ module _ {L Q : Type 0} (most : Q → ℕ) (holds : Q → Option PortHolds) (pas
 
   -- ---- all were in vain
 
-  pub all_waited : (link : L → Option Link) (link_counts : L → LinkCounts) (g : HeldBy L) (n : Outside) (seen : Seen) → length h.ports.items ≤ k → g.number ≡ h.number → g.link ≡ h.link
-      → SeesLink link link_counts h o → SeesLink link link_counts g n → SeesPorts holds counts after n h.ports.items → n.binds ≡ o.binds → Waited receives_of o n seen seen s
-  all_waited link link_counts g n seen end number same lo ln sn binds =
+  pub all_waited : (link : L → Option Link) (link_counts : L → LinkCounts) (g : HeldBy L) (n : Outside) (seen : Seen) (mail : Option Boxes) → length h.ports.items ≤ k → g.number ≡ h.number → g.link ≡ h.link
+      → SeesLink link link_counts h o → SeesLink link link_counts g n → SeesPorts holds counts after n h.ports.items → n.binds ≡ o.binds → Waited receives_of o n seen seen mail mail s
+  all_waited link link_counts g n seen mail end number same lo ln sn binds =
       let stay = link_stays link link_counts h g o n number same lo ln in
       record {
         none = first_none (can_try (filled o idle s)) (filled o idle s).ports (λ i q at. none i q at);
@@ -342,6 +342,7 @@ module _ {L Q : Type 0} (most : Q → ℕ) (holds : Q → Option PortHolds) (pas
           binds = binds;
         };
         seen_is = refl;
+        mail_is = refl;
       } where
         G : Port → Type 0
         G p = PortGrows (o.port_counts p.tunnel) (n.port_counts p.tunnel)
@@ -401,7 +402,7 @@ module _ {L Q : Type 0} (most : Q → ℕ) (holds : Q → Option PortHolds) (pas
             subst C (sym p.2) (cannot idle i p.0 p.1 (less i x.0 x.1) (refl, refl))
 
 -- whoever says that memory was refused
-pub err_gives : (setup : Setup) (o n : Outside) (seen seen_after : Seen) (stand : Held → Type 0) (s : Held) (refused : NoMemory) (r : Result Stepped NoMemory) → IsErr r
-    → Gives setup receives_of ReadsWait o n seen seen_after stand s (Err refused) → Gives setup receives_of ReadsWait o n seen seen_after stand s r
-err_gives setup o n seen seen_after stand s refused (Ok stepped) is gives = absurd cc
-err_gives setup o n seen seen_after stand s refused (Err why) is gives = gives
+pub err_gives : (setup : Setup) (o n : Outside) (seen seen_after : Seen) (mail mail_after : Option Boxes) (stand : Held → Type 0) (s : Held) (refused : NoMemory) (r : Result Stepped NoMemory) → IsErr r
+    → Gives setup receives_of ReadsWait o n seen seen_after mail mail_after stand s (Err refused) → Gives setup receives_of ReadsWait o n seen seen_after mail mail_after stand s r
+err_gives setup o n seen seen_after mail mail_after stand s refused (Ok stepped) is gives = absurd cc
+err_gives setup o n seen seen_after mail mail_after stand s refused (Err why) is gives = gives

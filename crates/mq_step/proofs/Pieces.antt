@@ -6,7 +6,6 @@ use Rattle.mq_outside.specs.Counts.{risen, LinkCounts}
 use Rattle.mq_outside.specs.Links.{behind}
 use Rattle.mq_talk.specs.declared.note.Note.{Note}
 use Rattle.mq_talk.specs.declared.note.Note.TheVariants as note
-use Rattle.mq_talk.specs.declared.place.Parcel.{Parcel}
 use Rattle.mq_talk.specs.Mails.{IsTold}
 use Rattle.mq_talk.specs.Offices.{Seen}
 use Rattle.mq_machine.specs.declared.setup.Setup.{Setup}
@@ -21,7 +20,7 @@ use Rattle.mq_step.specs.Sights.{Found, idle_link}
 use Rattle.mq_step.specs.Whole.{link_if, filled}
 use Rattle.mq_step.specs.Gives.{Turned, WritesWait, receives_of, from_read}
 use Rattle.mq_step.proofs.Filling.{none_fails}
-use Rattle.mq_step.proofs.Wanting.{shared_by, shares_same}
+use Rattle.mq_step.proofs.Wanting.{Mailed, shared_by, shares_same}
 use Rattle.mq_step.proofs.Counting.{rose_risen, risen_grows, same_grows, link_same}
 use Rattle.mq_step.proofs.Trying.{first_true, Between}
 use Rattle.mq_step.proofs.Framing.{whole, fits_link}
@@ -115,15 +114,15 @@ read_first o c s piece seen d can =
 pub reads_wait : (link : Link) → link.write_fails ≡ false → link.room ≡ Some 0 → WritesWait (on_link link)
 reads_wait link works room = record { sends = λ tunnel. (refl, refl); works = works; room = room }
 
-pub piece_turn : (setup : Setup) (o n : Outside) (c : Calls) (seen : Seen) (boxes : List (List Parcel)) (orders : Orders) (s : Held) (piece : List ℕ) (t : Conn) → LinkSeen o c s → (d : TakesPiece c piece)
+pub piece_turn : (setup : Setup) (o n : Outside) (c : Calls) (seen : Seen) (m : Mailed seen) (orders : Orders) (s : Held) (piece : List ℕ) (t : Conn) → LinkSeen o c s → (d : TakesPiece c piece)
     → can_read s.conn ≡ true → TookNext setup s.conn piece t → n.binds.holds ≡ o.binds.holds
-    → Turned setup from_read WritesWait o n seen seen boxes orders s (note.Took s.conn.number (length piece))
+    → Turned setup from_read WritesWait o n seen seen m.mail m.mail orders s (note.Took s.conn.number (length piece))
     (Some (whole o (on_link (with_pieces (d.first ∷ d.others))) s t (record (filled o (on_link (with_pieces (d.first ∷ d.others))) s).link { pieces = behind (drop most_read d.first) d.others })))
-piece_turn setup o n c seen boxes orders s piece t sees d can took same =
+piece_turn setup o n c seen m orders s piece t sees d can took same =
     let link : Link = with_pieces (d.first ∷ d.others) in
     let h : Held = filled o (on_link link) s in
     let x = gave_piece o c s piece sees d in
-    let sh : Shared = shared_by seen seen.entries boxes orders in
+    let sh : Shared = shared_by seen seen.entries m.boxes orders in
     let u : Held = whole o (on_link link) s t (record h.link { pieces = behind (drop most_read d.first) d.others }) in
     let said : Note = note.Took s.conn.number (length piece) in
     let T : List ℕ → Type 0 = λ bytes. TookNext setup s.conn bytes t in
@@ -144,7 +143,7 @@ piece_turn setup o n c seen boxes orders s piece t sees d can took same =
       after = sh;
       became = Some u;
       is = first_true h Read (receives_of h) (read_first o c s piece sees d can);
-      shares = shares_same seen seen boxes orders refl;
+      shares = shares_same seen seen m orders refl;
       faults = record {
         link = λ none is. fits_link (o.link s.conn.number) link (Rose (o.link_counts s.conn.number).faults (n.link_counts s.conn.number).faults) refl refl none is;
         ports = none_fails o n (on_link link) s.ports (record { sends = λ tunnel. refl; receives = λ tunnel. refl });
@@ -191,13 +190,13 @@ takes_end false e pieces is = by_case (nat_lt 0 (length pieces)) where
   by_case true = refl
   by_case false = is
 
-pub end_turn : (setup : Setup) (o n : Outside) (c : Calls) (seen : Seen) (boxes : List (List Parcel)) (orders : Orders) (s : Held) (said : Note) (t : Conn) (inside : Bool) → LinkSeen o c s → TakesEnd c
+pub end_turn : (setup : Setup) (o n : Outside) (c : Calls) (seen : Seen) (m : Mailed seen) (orders : Orders) (s : Held) (said : Note) (t : Conn) (inside : Bool) → LinkSeen o c s → TakesEnd c
     → can_read s.conn ≡ true → EndsThere s.conn inside → finished s.conn inside ≡ (said, t) → n.binds.holds ≡ o.binds.holds
-    → Turned setup from_read WritesWait o n seen seen boxes orders s said (Some (whole o (on_link ended_link) s t (filled o (on_link ended_link) s).link))
-end_turn setup o n c seen boxes orders s said t inside sees d can ends does same =
+    → Turned setup from_read WritesWait o n seen seen m.mail m.mail orders s said (Some (whole o (on_link ended_link) s t (filled o (on_link ended_link) s).link))
+end_turn setup o n c seen m orders s said t inside sees d can ends does same =
     let h : Held = filled o (on_link ended_link) s in
     let x = end_over o c s sees d in
-    let sh : Shared = shared_by seen seen.entries boxes orders in
+    let sh : Shared = shared_by seen seen.entries m.boxes orders in
     let u : Held = whole o (on_link ended_link) s t h.link in
     let next : EndNext h said (Some u) = record { inside = inside; ends = ends; is = ap {B = HeldDone} (λ (y : Note × Conn). Some (with_conn h y)) does } in
     let P : List (List ℕ) → Type 0 = λ pieces. TakesNext setup h pieces said (Some u) in
@@ -211,7 +210,7 @@ end_turn setup o n c seen boxes orders s said t inside sees d can ends does same
       after = sh;
       became = Some u;
       is = first_true h Read (receives_of h) (both_true (can_read s.conn) (can_take h.link) can (takes_end h.link.read_fails h.link.is_ended h.link.pieces x.is_ended));
-      shares = shares_same seen seen boxes orders refl;
+      shares = shares_same seen seen m orders refl;
       faults = record {
         link = λ none is. fits_link (o.link s.conn.number) ended_link (Rose (o.link_counts s.conn.number).faults (n.link_counts s.conn.number).faults) refl refl none is;
         ports = none_fails o n (on_link ended_link) s.ports (record { sends = λ tunnel. refl; receives = λ tunnel. refl });

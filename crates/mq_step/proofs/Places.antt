@@ -7,12 +7,14 @@ use Rattle.std.proofs.lemmas.List.Elements.{All-cons, All-head, All-tail, All-ni
 use Rattle.slab.specs.Slab.{Slab}
 use Rattle.mq_talk.specs.declared.note.End.{End}
 use Rattle.mq_talk.specs.Mails.{IsTold}
+use Rattle.mq_talk.specs.declared.goal.Goal.{Goal}
+use Rattle.mq_talk.specs.declared.goal.Goal.TheVariants as goal
 use Rattle.mq_machine.specs.State.{Tunnel, Port}
 use Rattle.mq_machine.specs.Shared.{port_of, at_port, without_port}
 use Rattle.mq_machine.specs.Acting.{Outside, PortsTold, holds_of}
 use Rattle.mq_held.specs.declared.held.PortSeat.{PortSeat}
-use Rattle.mq_held.specs.Seats.{IsSeatOf, HasNoSeat}
-use Rattle.mq_step.specs.Holds.{IsPort, ArePorts, AreServed, IsApartFrom, SeatsApart, tunnels_of, numbers_of}
+use Rattle.mq_held.specs.Seats.{IsSeatOf}
+use Rattle.mq_step.specs.Holds.{IsPort, ArePorts, AreServed, IsApartFrom, SeatsApart, port_number, tunnels_of, numbers_of}
 
 -- ---- lists
 
@@ -140,49 +142,89 @@ later : {Q : Type 0} (most : Q → ℕ) (table : Slab Q) (x : PortSeat) (q : Por
 later most table x q seats ports tunnel m =
     record { place = suc m.place; seat = m.seat; p = m.p; at_seat = m.at_seat; at_port = m.at_port; of_seat = m.of_seat; of_port = m.of_port; is = m.is }
 
--- that of a live tunnel, where each tunnel has its port
-pub mine_of : {Q : Type 0} (most : Q → ℕ) (table : Slab Q) (seats : List PortSeat) (ports : List Port) (ts : List Tunnel) (t : Tunnel) (tunnel : ℕ) → ArePorts most table seats ports
-    → tunnels_of ports ≡ numbers_of ts → find (λ (u : Tunnel). u.id == tunnel) ts ≡ Some t → Mine most table seats ports tunnel
-mine_of most table seats ports [] t tunnel are same at = absurd cc
-mine_of most table seats [] (u ∷ ts) t tunnel are same at = absurd cc
-mine_of most table [] (p ∷ ports) (u ∷ ts) t tunnel are same at = absurd are
-mine_of {Q} most table (x ∷ seats) (p ∷ ports) (u ∷ ts) t tunnel are same at =
-    by_case (cases_eq u.id tunnel) (λ rest there. mine_of most table seats ports ts t tunnel are.1 rest there) where
-      test : Tunnel → Bool
-      test y = y.id == tunnel
+-- ---- the numbers of tunnels for UDP
 
-      by_case : (u.id ≡ tunnel) ⊎ (u.id ≡ tunnel → ⊥) → (tunnels_of ports ≡ numbers_of ts → find (λ (y : Tunnel). y.id == tunnel) ts ≡ Some t → Mine most table seats ports tunnel)
-          → Mine most table (x ∷ seats) (p ∷ ports) tunnel
-      by_case (inl is) more =
-          let first : p.tunnel ≡ u.id = cc in
-          record { place = 0; seat = x; p = p; at_seat = refl; at_port = refl; of_seat = sym are.0.tunnel ∙ first ∙ is; of_port = first ∙ is; is = are.0 }
-      by_case (inr ne) more =
-          let rest : tunnels_of ports ≡ numbers_of ts = cc in
-          let there : find test ts ≡ Some t = sym (ap {B = Option Tunnel} (λ (b : Bool). if b then Some u else find test ts) (ne_eqb u.id tunnel ne)) ∙ at in
-          later most table x p seats ports tunnel (more rest there)
+-- a tunnel that has a port
+abbrev pub HasPort : Tunnel → Type 0
+HasPort t = port_number t.goal t.id ≡ t.id ∷ []
+
+-- the number of a live one is among them
+number_at : (ts : List Tunnel) (t : Tunnel) (tunnel : ℕ) → find (λ (u : Tunnel). u.id == tunnel) ts ≡ Some t → HasPort t
+    → (i : ℕ) × (slice_get (numbers_of ts) i ≡ Some tunnel)
+number_at [] t tunnel at goes = absurd cc
+number_at (u ∷ ts) t tunnel at goes = by_case (cases_eq u.id tunnel) (number_at ts t tunnel) where
+  test : Tunnel → Bool
+  test y = y.id == tunnel
+
+  behind : (g : Goal) (i : ℕ) → slice_get (numbers_of ts) i ≡ Some tunnel → (k : ℕ) × (slice_get (port_number g u.id ++ numbers_of ts) k ≡ Some tunnel)
+  behind (goal.Udp addr port) i there = (suc i, there)
+  behind (goal.Ip area protocol) i there = (i, there)
+
+  by_case : (u.id ≡ tunnel) ⊎ (u.id ≡ tunnel → ⊥) → (find test ts ≡ Some t → HasPort t → (i : ℕ) × (slice_get (numbers_of ts) i ≡ Some tunnel))
+      → (i : ℕ) × (slice_get (numbers_of (u ∷ ts)) i ≡ Some tunnel)
+  by_case (inl is) more =
+      let found : Some u ≡ Some t = sym (ap {B = Option Tunnel} (λ (b : Bool). if b then Some u else find test ts) (eq-eqb u.id tunnel is)) ∙ at in
+      let same : t ≡ u = cc in
+      let here : port_number u.goal u.id ≡ u.id ∷ [] = subst HasPort same goes in
+      (0, ap (λ (ns : List ℕ). slice_get (ns ++ numbers_of ts) 0) here ∙ ap {B = Option ℕ} (λ (n : ℕ). Some n) is)
+  by_case (inr ne) more =
+      let there : find test ts ≡ Some t = sym (ap {B = Option Tunnel} (λ (b : Bool). if b then Some u else find test ts) (ne_eqb u.id tunnel ne)) ∙ at in
+      let r = more there goes in
+      behind u.goal r.0 r.1
+
+-- each of them is that of a live tunnel
+number_found : (ts : List Tunnel) (i n : ℕ) → slice_get (numbers_of ts) i ≡ Some n → (t : Tunnel) × (find (λ (u : Tunnel). u.id == n) ts ≡ Some t) × (t.id ≡ n)
+number_found [] i n at = absurd cc
+number_found (u ∷ ts) i n at = by_goal (λ k there. number_found ts k n there) u.goal i at where
+  test : Tunnel → Bool
+  test y = y.id == n
+
+  Live : Type 0
+  Live = (t : Tunnel) × (find test (u ∷ ts) ≡ Some t) × (t.id ≡ n)
+
+  first : u.id ≡ n → Live
+  first is = (u, ap {B = Option Tunnel} (λ (b : Bool). if b then Some u else find test ts) (eq-eqb u.id n is), is)
+
+  Behind : Type 0
+  Behind = (t : Tunnel) × (find test ts ≡ Some t) × (t.id ≡ n)
+
+  rest : Behind → Live
+  rest r = by_case (cases_eq u.id n) where
+    by_case : (u.id ≡ n) ⊎ (u.id ≡ n → ⊥) → Live
+    by_case (inl is) = first is
+    by_case (inr ne) = (r.0, ap {B = Option Tunnel} (λ (b : Bool). if b then Some u else find test ts) (ne_eqb u.id n ne) ∙ r.1, r.2)
+
+  by_goal : ((k : ℕ) → slice_get (numbers_of ts) k ≡ Some n → Behind) → (g : Goal) (i : ℕ) → slice_get (port_number g u.id ++ numbers_of ts) i ≡ Some n → Live
+  by_goal behind (goal.Udp addr port) zero there = first cc
+  by_goal behind (goal.Udp addr port) (suc i) there = rest (behind i there)
+  by_goal behind (goal.Ip area protocol) i there = rest (behind i there)
+
+-- the seat of the port of this tunnel
+mine_in : {Q : Type 0} (most : Q → ℕ) (table : Slab Q) (seats : List PortSeat) (ports : List Port) (i tunnel : ℕ) → ArePorts most table seats ports
+    → slice_get (tunnels_of ports) i ≡ Some tunnel → Mine most table seats ports tunnel
+mine_in most table seats [] i tunnel are at = absurd cc
+mine_in most table [] (p ∷ ports) i tunnel are at = absurd are
+mine_in most table (x ∷ seats) (p ∷ ports) zero tunnel are at =
+    let first : p.tunnel ≡ tunnel = cc in
+    record { place = 0; seat = x; p = p; at_seat = refl; at_port = refl; of_seat = sym are.0.tunnel ∙ first; of_port = first; is = are.0 }
+mine_in most table (x ∷ seats) (p ∷ ports) (suc i) tunnel are at = later most table x p seats ports tunnel (mine_in most table seats ports i tunnel are.1 at)
+
+-- that of a live tunnel for UDP, where each of these has its port
+pub mine_of : {Q : Type 0} (most : Q → ℕ) (table : Slab Q) (seats : List PortSeat) (ports : List Port) (ts : List Tunnel) (t : Tunnel) (tunnel : ℕ) → ArePorts most table seats ports
+    → tunnels_of ports ≡ numbers_of ts → find (λ (u : Tunnel). u.id == tunnel) ts ≡ Some t → HasPort t → Mine most table seats ports tunnel
+mine_of most table seats ports ts t tunnel are same at goes =
+    let x = number_at ts t tunnel at goes in
+    mine_in most table seats ports x.0 tunnel are (ap (λ (ns : List ℕ). slice_get ns x.0) same ∙ x.1)
 
 -- a tunnel whose port is there is live
+port_number_at : (more : List ℕ) (ports : List Port) (i : ℕ) (p : Port) → slice_get ports i ≡ Some p → slice_get (tunnels_of ports ++ more) i ≡ Some p.tunnel
+port_number_at more [] i p at = absurd cc
+port_number_at more (q ∷ ports) zero p at = let same : q ≡ p = cc in ap {B = Option ℕ} (λ (y : Port). Some y.tunnel) same
+port_number_at more (q ∷ ports) (suc i) p at = port_number_at more ports i p at
+
 live_in : (more : List ℕ) (ports : List Port) (ts : List Tunnel) (i : ℕ) (p : Port) → numbers_of ts ≡ tunnels_of ports ++ more → slice_get ports i ≡ Some p
     → (t : Tunnel) × (find (λ (u : Tunnel). u.id == p.tunnel) ts ≡ Some t) × (t.id ≡ p.tunnel)
-live_in more [] ts i p same at = absurd cc
-live_in more (q ∷ ports) [] i p same at = absurd cc
-live_in more (q ∷ ports) (u ∷ ts) zero p same at =
-    let e : q ≡ p = cc in
-    let first : u.id ≡ q.tunnel = cc in
-    let is : u.id ≡ p.tunnel = first ∙ ap (λ (y : Port). y.tunnel) e in
-    (u, ap {B = Option Tunnel} (λ (b : Bool). if b then Some u else find (λ (y : Tunnel). y.id == p.tunnel) ts) (eq-eqb u.id p.tunnel is), is)
-live_in more (q ∷ ports) (u ∷ ts) (suc i) p same at = by_case (cases_eq u.id p.tunnel) (λ rest. live_in more ports ts i p rest at) where
-  test : Tunnel → Bool
-  test y = y.id == p.tunnel
-
-  by_case : (u.id ≡ p.tunnel) ⊎ (u.id ≡ p.tunnel → ⊥)
-      → (numbers_of ts ≡ tunnels_of ports ++ more → (t : Tunnel) × (find (λ (y : Tunnel). y.id == p.tunnel) ts ≡ Some t) × (t.id ≡ p.tunnel))
-      → (t : Tunnel) × (find (λ (y : Tunnel). y.id == p.tunnel) (u ∷ ts) ≡ Some t) × (t.id ≡ p.tunnel)
-  by_case (inl is) next = (u, ap {B = Option Tunnel} (λ (b : Bool). if b then Some u else find test ts) (eq-eqb u.id p.tunnel is), is)
-  by_case (inr ne) next =
-      let rest : numbers_of ts ≡ tunnels_of ports ++ more = cc in
-      let r = next rest in
-      (r.0, ap {B = Option Tunnel} (λ (b : Bool). if b then Some u else find test ts) (ne_eqb u.id p.tunnel ne) ∙ r.1, r.2)
+live_in more ports ts i p same at = number_found ts i p.tunnel (ap (λ (ns : List ℕ). slice_get ns i) same ∙ port_number_at more ports i p at)
 
 pub live_of : (ports : List Port) (ts : List Tunnel) (i : ℕ) (p : Port) → tunnels_of ports ≡ numbers_of ts → slice_get ports i ≡ Some p
     → (t : Tunnel) × (find (λ (u : Tunnel). u.id == p.tunnel) ts ≡ Some t) × (t.id ≡ p.tunnel)
@@ -436,14 +478,27 @@ left_ports tunnel (p ∷ ports) = by_case (p.tunnel == tunnel) (left_ports tunne
 
 pub left_numbers : (tunnel : ℕ) (ts : List Tunnel) → numbers_of (filter (λ (u : Tunnel). not (u.id == tunnel)) ts) ≡ others_of tunnel (numbers_of ts)
 left_numbers tunnel [] = refl
-left_numbers tunnel (t ∷ ts) = by_case (t.id == tunnel) (left_numbers tunnel ts) where
+left_numbers tunnel (t ∷ ts) = out (t.id == tunnel) ∙ others t.goal (t.id == tunnel) refl (left_numbers tunnel ts) where
   rest : List Tunnel
   rest = filter (λ (u : Tunnel). not (u.id == tunnel)) ts
 
-  by_case : (b : Bool) → numbers_of (filter (λ (u : Tunnel). not (u.id == tunnel)) ts) ≡ others_of tunnel (numbers_of ts)
-      → numbers_of (if not b then t ∷ rest else rest) ≡ (if not b then t.id ∷ others_of tunnel (numbers_of ts) else others_of tunnel (numbers_of ts))
-  by_case true same = same
-  by_case false same = ap (λ (xs : List ℕ). t.id ∷ xs) same
+  -- by its goal
+  either : Goal → Bool → List ℕ
+  either g b = if not b then port_number g t.id ++ numbers_of rest else numbers_of rest
+
+  out : (b : Bool) → numbers_of (if not b then t ∷ rest else rest) ≡ either t.goal b
+  out true = refl
+  out false = refl
+
+  -- the number goes first, or is gone
+  pick : Bool → List ℕ
+  pick b = if not b then t.id ∷ others_of tunnel (numbers_of ts) else others_of tunnel (numbers_of ts)
+
+  others : (g : Goal) (b : Bool) → (t.id == tunnel) ≡ b → numbers_of rest ≡ others_of tunnel (numbers_of ts) → either g b ≡ others_of tunnel (port_number g t.id ++ numbers_of ts)
+  others (goal.Udp addr port) true is same = same ∙ sym (ap pick is)
+  others (goal.Udp addr port) false is same = ap (λ (xs : List ℕ). t.id ∷ xs) same ∙ sym (ap pick is)
+  others (goal.Ip area protocol) true is same = same
+  others (goal.Ip area protocol) false is same = same
 
 -- the last one is left, or not
 pub others_last : (tunnel last : ℕ) (ns : List ℕ)

@@ -11,7 +11,7 @@ use Rattle.mq_talk.specs.declared.book.Call.TheVariants as call
 use Rattle.mq_talk.specs.declared.book.Reply.TheVariants as reply
 use Rattle.mq_talk.specs.declared.note.Note.{Note}
 use Rattle.mq_talk.specs.declared.note.End.{End}
-use Rattle.mq_talk.specs.declared.place.Parcel.{Parcel}
+use Rattle.mq_talk.specs.Mails.{Boxes}
 use Rattle.mq_talk.specs.Offices.{Seen}
 use Rattle.mq_machine.specs.declared.act.StreamAct.TheVariants as stream
 use Rattle.mq_talk.specs.declared.note.Why.TheVariants as why
@@ -64,7 +64,7 @@ fails_then : (holds : PortHolds) → holds.receive_fails ≡ true → may_give h
 fails_then holds fails = ap (λ (b : Bool). b || nat_lt 0 (length holds.arrived)) fails
 
 pub failing_known : (seen : Seen) (actor : ℕ) (s : Held) (t : Tunnel) → IsKnown seen actor s → IsKnown seen actor (failing s t)
-failing_known seen actor s t known = record { sound = known.sound; worker = known.worker; actor_is = known.actor_is; tunnels = known.tunnels }
+failing_known seen actor s t known = record { sound = known.sound; worker = known.worker; actor_is = known.actor_is; tunnels = known.tunnels; places = (tt, known.places) }
 
 -- ---- an outside that tells nothing
 
@@ -109,10 +109,10 @@ module _ {L Q : Type 0} (most : Q → ℕ) (holds : Q → Option PortHolds) (pas
             λ none fails. inr (subst F (sym (ap (λ (z : Port). z.tunnel) port ∙ x.of_port)) faults)
         by_case i y q (inr (ne, other)) = other_fits o n seat.tunnel failing_port q other
 
-  pub failed_done : (x : Live most holds counts table h o s seat) (n : Outside) (setup : Setup) (seen seen_after : Seen) (boxes : List (List Parcel)) (orders : Orders) (said : Note) (stand : Held → Type 0)
-      → FailsReceive (holds x.is.port) → (closed : Closed seen seen_after boxes orders stand seat.tunnel (failing s x.t) said) → n.binds ≡ handed_back (risen (o.port_counts seat.tunnel).faults) o.binds
-      → Turned setup (receive_alone seat.tunnel) (ReceivesWait seat.tunnel) o n seen seen_after boxes orders s said (Some (failed_left o s seat.tunnel closed.conn))
-  failed_done x n setup seen seen_after boxes orders said stand fails closed faults =
+  pub failed_done : (x : Live most holds counts table h o s seat) (n : Outside) (setup : Setup) (seen seen_after : Seen) (mail mail_after : Option Boxes) (orders : Orders) (said : Note) (stand : Held → Type 0)
+      → FailsReceive (holds x.is.port) → (closed : Closed seen seen_after mail mail_after orders stand seat.tunnel (failing s x.t) said) → n.binds ≡ handed_back (risen (o.port_counts seat.tunnel).faults) o.binds
+      → Turned setup (receive_alone seat.tunnel) (ReceivesWait seat.tunnel) o n seen seen_after mail mail_after orders s said (Some (failed_left o s seat.tunnel closed.conn))
+  failed_done x n setup seen seen_after mail mail_after orders said stand fails closed faults =
       let f : Found = found_at seat.tunnel failing_port in
       let here = found_here seat.tunnel failing_port in
       let h_is : Held = filled o f s in
@@ -177,18 +177,18 @@ module _ {L Q : Type 0} (most : Q → ℕ) (holds : Q → Option PortHolds) (pas
     }
 
 -- a close gives nothing else
-pub closes_give : (setup : Setup) (tunnel : ℕ) (o n : Outside) (seen seen_after : Seen) (stand : Held → Type 0) (s closing : Held) (r : Result Stepped NoMemory) → CloseGives seen seen_after stand tunnel closing r
-    → ((said : Note) (boxes : List (List Parcel)) (orders : Orders) → Closed seen seen_after boxes orders stand tunnel closing said
-    → (t : Held) × Turned setup (receive_alone tunnel) (ReceivesWait tunnel) o n seen seen_after boxes orders s said (Some t) × StandsAsTold n stand t)
-    → Gives setup (receive_alone tunnel) (ReceivesWait tunnel) o n seen seen_after stand s r
-closes_give setup tunnel o n seen seen_after stand s closing (Ok (Did said)) gives turns = λ boxes orders. turns said boxes orders (gives boxes orders)
-closes_give setup tunnel o n seen seen_after stand s closing (Ok Quiet) gives turns = absurd gives
-closes_give setup tunnel o n seen seen_after stand s closing (Ok (Ended said)) gives turns = absurd gives
-closes_give setup tunnel o n seen seen_after stand s closing (Err refused) gives turns = absurd gives
+pub closes_give : (setup : Setup) (tunnel : ℕ) (o n : Outside) (seen seen_after : Seen) (mail mail_after : Option Boxes) (stand : Held → Type 0) (s closing : Held) (r : Result Stepped NoMemory) → CloseGives seen seen_after mail mail_after stand tunnel closing r
+    → ((said : Note) (orders : Orders) → Closed seen seen_after mail mail_after orders stand tunnel closing said
+    → (t : Held) × Turned setup (receive_alone tunnel) (ReceivesWait tunnel) o n seen seen_after mail mail_after orders s said (Some t) × StandsAsTold n stand t)
+    → Gives setup (receive_alone tunnel) (ReceivesWait tunnel) o n seen seen_after mail mail_after stand s r
+closes_give setup tunnel o n seen seen_after mail mail_after stand s closing (Ok (Did said)) gives turns = λ orders. turns said orders (gives orders)
+closes_give setup tunnel o n seen seen_after mail mail_after stand s closing (Ok Quiet) gives turns = absurd gives
+closes_give setup tunnel o n seen seen_after mail mail_after stand s closing (Ok (Ended said)) gives turns = absurd gives
+closes_give setup tunnel o n seen seen_after mail mail_after stand s closing (Err refused) gives turns = absurd gives
 
 -- nor does a step that was refused memory
-pub starved_gives : (setup : Setup) (tunnel : ℕ) (o n : Outside) (seen seen_after : Seen) (stand : Held → Type 0) (s : Held) (r : Result Stepped NoMemory) → IsErr r
-    → ((boxes : List (List Parcel)) (orders : Orders) → (t : Held) × Starved (receive_alone tunnel) (ReceivesWait tunnel) o n seen seen_after boxes orders s t × StandsAsTold n stand t)
-    → Gives setup (receive_alone tunnel) (ReceivesWait tunnel) o n seen seen_after stand s r
-starved_gives setup tunnel o n seen seen_after stand s (Ok stepped) is starves = absurd cc
-starved_gives setup tunnel o n seen seen_after stand s (Err refused) is starves = starves
+pub starved_gives : (setup : Setup) (tunnel : ℕ) (o n : Outside) (seen seen_after : Seen) (mail mail_after : Option Boxes) (stand : Held → Type 0) (s : Held) (r : Result Stepped NoMemory) → IsErr r
+    → ((orders : Orders) → (t : Held) × Starved (receive_alone tunnel) (ReceivesWait tunnel) o n seen seen_after mail mail_after orders s t × StandsAsTold n stand t)
+    → Gives setup (receive_alone tunnel) (ReceivesWait tunnel) o n seen seen_after mail mail_after stand s r
+starved_gives setup tunnel o n seen seen_after mail mail_after stand s (Ok stepped) is starves = absurd cc
+starved_gives setup tunnel o n seen seen_after mail mail_after stand s (Err refused) is starves = starves

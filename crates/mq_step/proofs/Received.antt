@@ -1,5 +1,5 @@
 -- A datagram was received, or none was there, or memory was refused.
-use Rattle.std.proofs.Common.{◌≡◌, ◌≢◌, ◌⊎◌, inl, inr, ℕ, zero, suc, ◌+◌, ◌==◌, Bool, true, false, List, [], ◌∷◌, drop, map, length, min, All, slice_get, slice_set, nat_lt, Option, Some, None, refl, sym, ap, subst, ◌∙◌, arith}
+use Rattle.std.proofs.Common.{◌≡◌, ◌≢◌, ◌⊎◌, inl, inr, ℕ, zero, suc, ◌+◌, ◌==◌, Bool, true, false, List, [], ◌∷◌, drop, map, length, min, slice_get, slice_set, nat_lt, Option, Some, None, refl, sym, ap, subst, ◌∙◌, arith}
 use Rattle.std.specs.Prelude.{◌||◌, if◌then◌else◌, option_map}
 use Rattle.std.proofs.lemmas.Bool.{eq-eqb, ne_eqb, lt-ltb}
 use Rattle.std.proofs.lemmas.List.{map-id}
@@ -10,8 +10,7 @@ use Rattle.mq_outside.specs.Ports.{PortHolds, PortPast}
 use Rattle.mq_talk.specs.declared.note.Note.{Note}
 use Rattle.mq_talk.specs.declared.note.End.TheVariants as end
 use Rattle.mq_talk.specs.declared.note.From.TheVariants as source
-use Rattle.mq_talk.specs.declared.place.Parcel.{Parcel}
-use Rattle.mq_talk.specs.Mails.{IsTold}
+use Rattle.mq_talk.specs.Mails.{Boxes, IsTold}
 use Rattle.mq_talk.specs.Offices.{Seen}
 use Rattle.mq_machine.specs.declared.setup.Setup.{Setup}
 use Rattle.mq_machine.specs.State.{Conn, Tunnel, Link, Held, Port, Orders, Shared, tunnel_of}
@@ -33,7 +32,7 @@ use Rattle.mq_step.specs.Gives.{Asked, Waited, Turned, Starved, ReceivesWait, re
 use Rattle.mq_step.proofs.Counting.{rose_risen, risen_grows, same_grows, port_same}
 use Rattle.mq_step.proofs.Filling.{StaysTold, stays_at, told_filled, stays_filled, is_moved, served_any, served_ending, alive_served, are_filled, served_filled}
 use Rattle.mq_step.proofs.Places.{apart_at, one_of, at_port_map, one_here, one_other, one_tunnels, tunnels_map, each_port, are_each, are_set, told_each, apart_set}
-use Rattle.mq_step.proofs.Wanting.{shared_by, shares_same}
+use Rattle.mq_step.proofs.Wanting.{Mailed, shared_by, shares_same}
 use Rattle.mq_step.proofs.Keeping.{IsKept, no_opens_nil, queued_keeps}
 use Rattle.mq_step.proofs.Standing.{stands, same_apart}
 use Rattle.mq_step.proofs.Sending.{mine_seen, found_at, found_here}
@@ -210,9 +209,9 @@ module _ {L Q : Type 0} (most : Q → ℕ) (holds : Q → Option PortHolds) (pas
 
   -- ---- it waits
 
-  pub received_waits : (x : Live most holds counts table h o s seat) (b : Behind most holds counts table after h g o n seat x.is.port) (seen : Seen)
-      → ReceiveWaits (receive_calls holds past counts x.is.port b.now) → n.binds ≡ o.binds → Waited (receive_alone seat.tunnel) o n seen seen s
-  received_waits x b seen w binds =
+  pub received_waits : (x : Live most holds counts table h o s seat) (b : Behind most holds counts table after h g o n seat x.is.port) (seen : Seen) (mail : Option Boxes)
+      → ReceiveWaits (receive_calls holds past counts x.is.port b.now) → n.binds ≡ o.binds → Waited (receive_alone seat.tunnel) o n seen seen mail mail s
+  received_waits x b seen mail w binds =
       let counts_are : n.port_counts seat.tunnel ≡ record (o.port_counts seat.tunnel) { receive_waits = risen (o.port_counts seat.tunnel).receive_waits } =
       b.sees.1 ∙ w.counts ∙ ap (λ (c : PortCounts). record c { receive_waits = risen c.receive_waits }) (sym x.sees.1) in
       let I : ℕ → Type 0 = λ i. PortGrows (o.port_counts i) (n.port_counts i) in
@@ -238,6 +237,7 @@ module _ {L Q : Type 0} (most : Q → ℕ) (holds : Q → Option PortHolds) (pas
           binds = binds;
         };
         seen_is = refl;
+        mail_is = refl;
       } where
         G : Port → Type 0
         G p = PortGrows (o.port_counts p.tunnel) (n.port_counts p.tunnel)
@@ -263,21 +263,21 @@ module _ {L Q : Type 0} (most : Q → ℕ) (holds : Q → Option PortHolds) (pas
 
   -- ---- memory was refused
 
-  pub received_starves : (x : Live most holds counts table h o s seat) (seen : Seen) (boxes : List (List Parcel)) (orders : Orders) → CanGive (holds x.is.port) → n.binds.holds ≡ o.binds.holds
-      → Starved (receive_alone seat.tunnel) (ReceivesWait seat.tunnel) o n seen seen boxes orders s (sunk_then o s seat.tunnel)
-  received_starves x seen boxes orders can same = record {
+  pub received_starves : (x : Live most holds counts table h o s seat) (seen : Seen) (m : Mailed seen) (orders : Orders) → CanGive (holds x.is.port) → n.binds.holds ≡ o.binds.holds
+      → Starved (receive_alone seat.tunnel) (ReceivesWait seat.tunnel) o n seen seen m.mail m.mail orders s (sunk_then o s seat.tunnel)
+  received_starves x seen m orders can same = record {
     found = found_at seat.tunnel (with_one []);
     vain_is = receives_wait seat.tunnel (with_one []) refl refl;
     try = Receive seat.tunnel;
     answer = Said;
-    sh = shared_by seen seen.entries boxes orders;
-    after = shared_by seen seen.entries boxes orders;
+    sh = shared_by seen seen.entries m.boxes orders;
+    after = shared_by seen seen.entries m.boxes orders;
     reached = record { took = false; asked = false };
     pieces = (filled o (found_at seat.tunnel (with_one [])) s).link.pieces;
     tunnels = s.conn.tunnels;
     is = first_is most holds counts table h o s seat x (found_at seat.tunnel (with_one [])) true
         (ap (λ (y : PortHolds). may_give (port_if (holds x.is.port) y)) (found_here seat.tunnel (with_one [])) ∙ gives_one (holds x.is.port) can);
-    shares = shares_same seen seen boxes orders refl;
+    shares = shares_same seen seen m orders refl;
     alive = λ same. absurd cc;
     leaves = refl;
     heard = (refl, refl, refl);
@@ -335,16 +335,16 @@ module _ {L Q : Type 0} (most : Q → ℕ) (holds : Q → Option PortHolds) (pas
       ∙ ap (λ (d : Option (Note × Conn)). option_map (with_conn (put seat.tunnel)) d) (came_is x q datagram tunnel rec)
       ∙ ap {B = HeldDone} (λ (k : Note). Some (k, Some (received_left o s seat x.t datagram))) (sym says)
 
-  pub received_done : (x : Live most holds counts table h o s seat) (b : Behind most holds counts table after h g o n seat x.is.port) (setup : Setup) (seen : Seen) (boxes : List (List Parcel)) (orders : Orders) (datagram : List ℕ) (said : Note)
+  pub received_done : (x : Live most holds counts table h o s seat) (b : Behind most holds counts table after h g o n seat x.is.port) (setup : Setup) (seen : Seen) (m : Mailed seen) (orders : Orders) (datagram : List ℕ) (said : Note)
       → TakesDatagram (receive_calls holds past counts x.is.port b.now) datagram → said ≡ (came s x.t seat.received datagram).0 → n.binds.holds ≡ o.binds.holds
-      → Turned setup (receive_alone seat.tunnel) (ReceivesWait seat.tunnel) o n seen seen boxes orders s said (Some (received_left o s seat x.t datagram))
-  received_done x b setup seen boxes orders datagram said d says same =
+      → Turned setup (receive_alone seat.tunnel) (ReceivesWait seat.tunnel) o n seen seen m.mail m.mail orders s said (Some (received_left o s seat x.t datagram))
+  received_done x b setup seen m orders datagram said d says same =
       let d_is = takes x b datagram d in
       let f : Found = found_at seat.tunnel (with_one datagram) in
       let H : PortHolds = held_then most holds counts table h o s seat x (with_one datagram) in
       let q : Port = holding H x.p in
       let here = found_here seat.tunnel (with_one datagram) in
-      let sh : Shared = shared_by seen seen.entries boxes orders in
+      let sh : Shared = shared_by seen seen.entries m.boxes orders in
       let left : Held = received_left o s seat x.t datagram in
       let P : Option Port → Type 0 = λ p. ReceiveNext p (filled o f s) sh Said said (Some left) sh in
       let R : Bool → Type 0 = λ fails. PortNext fails (filled o f s) q sh Said said (Some left) sh in
@@ -360,7 +360,7 @@ module _ {L Q : Type 0} (most : Q → ℕ) (holds : Q → Option PortHolds) (pas
         became = Some left;
         is = first_is most holds counts table h o s seat x f true
             (ap (λ (y : PortHolds). may_give (port_if (holds x.is.port) y)) here ∙ gives_then H datagram d_is.others d_is.works d_is.arrived);
-        shares = shares_same seen seen boxes orders refl;
+        shares = shares_same seen seen m orders refl;
         faults = none_faults o n s seat.tunnel (with_one datagram) refl refl;
         binds = same;
         next = subst P (sym (port_is most holds counts table h o s seat x f ∙ ap {B = Option Port} (λ (y : PortHolds). Some (holding (port_if (holds x.is.port) y) x.p)) here)) (subst R (sym d_is.works) own);

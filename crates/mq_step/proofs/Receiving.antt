@@ -1,15 +1,15 @@
 -- What a receive of a connection meets: the port of a live tunnel.
 use Rattle.std.proofs.Common.{◌≡◌, ◌≢◌, ◌⊎◌, inl, inr, ℕ, ◌<◌, ◌≤◌, Bool, true, false, ◌&&◌, ◌==◌, List, [], ◌∷◌, length, slice_get, slice_index_or, Option, Some, None, MatchOption, Bor, refl, sym, ap, subst, ◌∙◌}
-use Rattle.std.specs.Prelude.{◌||◌, find, if◌then◌else◌}
+use Rattle.std.specs.Prelude.{◌||◌, if◌then◌else◌}
 use Rattle.std.specs.Option.{is_some, option_copied, IfSome}
 use Rattle.std.specs.List.{HoldsAt}
 use Rattle.std.proofs.lemmas.Option.{slice_get_read}
-use Rattle.std.proofs.lemmas.Bool.{eq-eqb}
 use Rattle.slab.specs.Slab.{Slab}
 use Rattle.mq_outside.specs.Counts.{LinkCounts, PortCounts}
 use Rattle.mq_outside.specs.Ports.{PortHolds}
 use Rattle.mq_talk.specs.declared.book.Call.TheVariants as call
 use Rattle.mq_talk.specs.declared.goal.Goal.{Goal}
+use Rattle.mq_talk.specs.declared.goal.Goal.TheVariants as goal
 use Rattle.mq_talk.specs.declared.note.End.{End}
 use Rattle.mq_talk.specs.Mails.{IsTold}
 use Rattle.mq_machine.specs.State.{Conn, Tunnel, Link, Held, Port, tunnel_of}
@@ -22,7 +22,7 @@ use Rattle.mq_conn.specs.declared.conn.Conn.{Conn as Core}
 use Rattle.mq_held.specs.Ready.{may_give}
 use Rattle.mq_held.specs.declared.held.Held.{Held as HeldBy}
 use Rattle.mq_held.specs.declared.held.PortSeat.{PortSeat}
-use Rattle.mq_step.specs.Holds.{IsPort, ArePorts, AreServed, IsApartFrom, IsBound, IsHeld}
+use Rattle.mq_step.specs.Holds.{IsPort, AreServed, IsApartFrom, IsBound, IsHeld}
 use Rattle.mq_step.specs.Sights.{Found, SeesPorts, port_if, filled_port, idle, idle_link, idle_port, LinkGrows}
 use Rattle.mq_step.specs.Whole.{SeesLink, link_if, filled, FaultsFit}
 use Rattle.mq_step.specs.Gives.{ReceivesWait, first_of, receive_alone}
@@ -50,7 +50,7 @@ waits_opens_not : (w : Want) → may_wait w ≡ true → (conn id actor : ℕ) (
 waits_opens_not w wait conn id actor goal is = let e : true ≡ false = sym wait ∙ ap may_wait is in cc
 
 pub waits_opens : (c : Core) (s : Conn) → IsConn c s → may_wait (want_of s) ≡ true → NoOpens s.due
-waits_opens c s is wait = none_opens c s is (waits_opens_not (want_of s) wait)
+waits_opens c s is wait = none_opens c s is (λ conn id actor addr port want. waits_opens_not (want_of s) wait conn id actor (goal.Udp addr port) want)
 
 -- so no port is bound
 pub waits_bound : {Q : Type 0} (most : Q → ℕ) (table : Slab Q) (seats : List PortSeat) (w : Want) (bound : Option ℕ) → may_wait w ≡ true → IsBound most table seats w bound → bound ≡ None

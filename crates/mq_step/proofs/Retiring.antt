@@ -1,6 +1,5 @@
 -- A tunnel closed: its seat is gone, and its port with it.
-use Rattle.std.proofs.Common.{◌≡◌, ◌≢◌, ◌⊎◌, inl, inr, ℕ, not, ◌==◌, List, map, remove, All, slice_get, Option, Some, None, refl, sym, ap, subst, ◌∙◌}
-use Rattle.std.specs.Prelude.{filter, is_some}
+use Rattle.std.proofs.Common.{◌≡◌, ◌≢◌, ◌⊎◌, inl, inr, ℕ, List, map, remove, slice_get, Option, Some, None, refl, sym, ap, subst, ◌∙◌}
 use Rattle.slab.specs.Slab.{Slab, get}
 use Rattle.mq_outside.specs.Counts.{PortCounts}
 use Rattle.mq_outside.specs.Ports.{PortHolds}
@@ -8,7 +7,7 @@ use Rattle.mq_talk.specs.declared.book.Call.TheVariants as call
 use Rattle.mq_talk.specs.declared.book.Reply.TheVariants as reply
 use Rattle.mq_talk.specs.declared.note.Note.{Note}
 use Rattle.mq_talk.specs.Mails.{IsTold}
-use Rattle.mq_machine.specs.State.{Conn, Tunnel, Link, Held, Port}
+use Rattle.mq_machine.specs.State.{Conn, Link, Held, Port}
 use Rattle.mq_machine.specs.Want.{Ask, Replied, want_of}
 use Rattle.mq_machine.specs.Done.{done}
 use Rattle.mq_machine.specs.Shared.{without_port}

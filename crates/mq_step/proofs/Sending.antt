@@ -1,5 +1,5 @@
 -- A payload went to its port, or waits for it.
-use Rattle.std.proofs.Common.{◌≡◌, ◌≢◌, ◌⊎◌, inl, inr, ℕ, ◌==◌, Bool, true, false, not, ◌&&◌, List, [], ◌∷◌, ◌++◌, map, length, All, slice_get, nat_lt, cond, Option, Some, None, refl, sym, ap, subst, ◌∙◌, arith}
+use Rattle.std.proofs.Common.{◌≡◌, ◌≢◌, ◌⊎◌, inl, inr, ℕ, ◌==◌, Bool, true, false, not, ◌&&◌, List, [], ◌∷◌, ◌++◌, map, length, slice_get, nat_lt, cond, Option, Some, None, refl, sym, ap, subst, ◌∙◌, arith}
 use Rattle.std.specs.Prelude.{option_map, if◌then◌else◌}
 use Rattle.std.proofs.lemmas.Bool.{eq-eqb, ne_eqb}
 use Rattle.std.proofs.lemmas.List.{map-id}
@@ -7,11 +7,11 @@ use Rattle.slab.specs.Slab.{Slab, get}
 use Rattle.mq_outside.specs.Counts.{risen, PortCounts}
 use Rattle.mq_outside.specs.Ports.{PortHolds}
 use Rattle.mq_talk.specs.declared.book.Call.TheVariants as call
-use Rattle.mq_talk.specs.declared.goal.Goal.{Goal}
+use Rattle.mq_talk.specs.declared.goal.Goal.TheVariants as goal
 use Rattle.mq_talk.specs.declared.note.Note.{Note}
-use Rattle.mq_talk.specs.declared.place.Parcel.{Parcel}
 use Rattle.mq_talk.specs.Mails.{IsTold}
 use Rattle.mq_talk.specs.Offices.{Seen}
+use Rattle.mq_talk.specs.Mails.{Boxes}
 use Rattle.mq_machine.specs.State.{Conn, Tunnel, Held, Port, Orders, Shared}
 use Rattle.mq_machine.specs.Want.{Want, Ask, Send, want_of}
 use Rattle.mq_machine.specs.Shared.{Answers, PortsAnswer, put_of, port_of, port_answer, port_sent, at_port}
@@ -26,9 +26,9 @@ use Rattle.mq_step.specs.Sights.{Found, SeesPort, SeesPorts, port_if, filled_por
 use Rattle.mq_step.specs.Wanted.{WantDone, WantWaits, is_send, ported, SendsWait}
 use Rattle.mq_step.proofs.Filling.{StaysTold, stays_at, stays_filled, is_moved, fits_if, served_any, alive_served}
 use Rattle.mq_step.proofs.Places.{at_all, Mine, mine_of, mine_or, KeepsTunnels, tunnels_map, one_of, at_port_map, one_here, one_other, one_tunnels, each_port, each_map, are_each, told_each, port_first}
-use Rattle.mq_step.proofs.Wanting.{acted_is, shared_by, shares_same}
+use Rattle.mq_step.proofs.Wanting.{Mailed, acted_is, shared_by, shares_same}
 use Rattle.mq_step.proofs.Keeping.{kept_put}
-use Rattle.mq_step.proofs.Cores.{send_live, tail_opens, none_opens}
+use Rattle.mq_step.proofs.Cores.{WantsNoOpen, send_live, tail_opens, none_opens}
 use Rattle.mq_step.proofs.Standing.{stands, same_apart, bound_none}
 use Rattle.mq_step.proofs.Counting.{rose_risen, risen_grows, same_grows, port_same}
 
@@ -38,7 +38,7 @@ pub the_mine : {L Q : Type 0} (most : Q → ℕ) (table : Slab Q) (h : HeldBy L)
     → Mine most table h.ports.items s.ports tunnel
 the_mine most table h s tunnel k payload held want =
     let a = send_live h.conn s.conn tunnel k payload held.conn want in
-    mine_of most table h.ports.items s.ports s.conn.tunnels a.0 tunnel held.ports (alive_served s.conn.ending s.conn.tunnels s.ports a.2 held.served) a.1
+    mine_of most table h.ports.items s.ports s.conn.tunnels a.0 tunnel held.ports (alive_served s.conn.ending s.conn.tunnels s.ports a.2 held.served) a.1 a.3
 
 pub same_port : {Q : Type 0} (table : Slab Q) (key : ℕ) (a b : Q) → get table key ≡ Some a → get table key ≡ Some b → a ≡ b
 same_port table key a b x y = some_same a b (sym x ∙ y) where
@@ -183,15 +183,15 @@ module _ {L Q : Type 0} (most : Q → ℕ) (holds : Q → Option PortHolds) (cou
         subst P (sym (ap (λ (z : Port). F d.holds z) port ∙ mine_is x d.holds d.told)) fails
     by_case y q (inr (ne, same)) = other_fits o n tunnel d.holds q ne
 
-  pub sent_done : (seen : Seen) (boxes : List (List Parcel)) (orders : Orders) (x : Sends most holds counts table after h g o n s tunnel k payload) (said : Note) (t : Conn)
+  pub sent_done : (seen : Seen) (m : Mailed seen) (orders : Orders) (x : Sends most holds counts table after h g o n s tunnel k payload) (said : Note) (t : Conn)
       (d : SendDoes (calls holds counts x.one.is.port x.now) x.one.p s.conn payload said t) → n.binds.holds ≡ o.binds.holds
-      → WantDone o n seen seen boxes orders s said (Some (sent_left o s tunnel payload d.holds t))
-  sent_done seen boxes orders x said t d same =
+      → WantDone o n seen seen m.mail m.mail orders s said (Some (sent_left o s tunnel payload d.holds t))
+  sent_done seen m orders x said t d same =
       let h_is : Held = ported o (found_at tunnel d.holds) s in
       let q : Port = holding d.holds x.one.p in
       let w : Want = Send tunnel k payload in
       let first : port_of h_is.ports tunnel ≡ Some q = first_port x (found_at tunnel d.holds) ∙ ap {B = Option Port} (λ (y : Port). Some y) (mine_is x d.holds d.told) in
-      let sh : Shared = shared_by seen seen.entries boxes orders in
+      let sh : Shared = shared_by seen seen.entries m.boxes orders in
       let A : Want → Type 0 = λ v. Answers s.conn.actor sh v (port_answer q) sh in
       let B : Want → Type 0 = λ v. PortsAnswer h_is.ports v (port_answer q) in
       record {
@@ -205,7 +205,7 @@ module _ {L Q : Type 0} (most : Q → ℕ) (holds : Q → Option PortHolds) (cou
             ap (λ (v : Want). can_do h_is.ports v) x.want
             ∙ ap (λ (p : Option Port). not (send_waits p payload)) first
             ∙ ap (λ (b : Bool). not b) d.goes;
-        shares = shares_same seen seen boxes orders refl;
+        shares = shares_same seen seen m orders refl;
         faults = sent_faults x said t d;
         binds = same;
         next = record {
@@ -305,9 +305,9 @@ module _ {L Q : Type 0} (most : Q → ℕ) (holds : Q → Option PortHolds) (cou
       let long : nat_lt q.limit (length payload) ≡ false = ap (λ (l : ℕ). nat_lt l (length payload)) x.one.is.limit ∙ waits.fits in
       ap (λ (v : Want). can_do (ported o f s).ports v) x.want ∙ ap (λ (p : Option Port). not (send_waits p payload)) first ∙ waits_by q.send_waits q.send_fails (nat_lt q.limit (length payload)) w.1 w.0 long
 
-  pub sent_waits : (seen : Seen) (x : Sends most holds counts table after h g o n s tunnel k payload) → SendWaits (calls holds counts x.one.is.port x.now) (most x.one.is.port) payload → n.binds ≡ o.binds
-      → WantWaits o n seen seen s
-  sent_waits seen x waits faults =
+  pub sent_waits : (seen : Seen) (mail : Option Boxes) (x : Sends most holds counts table after h g o n s tunnel k payload) → SendWaits (calls holds counts x.one.is.port x.now) (most x.one.is.port) payload → n.binds ≡ o.binds
+      → WantWaits o n seen seen mail mail s
+  sent_waits seen mail x waits faults =
       let A : Want → Type 0 = λ v. WantWaited o n v in
       record {
         cannot = λ f vain. cannot_send x waits f vain;
@@ -317,6 +317,7 @@ module _ {L Q : Type 0} (most : Q → ℕ) (holds : Q → Option PortHolds) (cou
         works = each_port most table F_is h.ports.items s.ports x.held.ports (λ i y q at_y at_q is. work i y q at_y is (which x i y q at_y at_q is));
         binds = faults;
         seen_is = refl;
+        mail_is = refl;
       } where
         counts_are : n.port_counts tunnel ≡ record (o.port_counts tunnel) { send_waits = risen (o.port_counts tunnel).send_waits }
         counts_are = (behind x).1 ∙ waits.counts ∙ ap (λ (c : PortCounts). record c { send_waits = risen c.send_waits }) (sym (before x).1)
@@ -355,8 +356,8 @@ module _ {L Q : Type 0} (most : Q → ℕ) (holds : Q → Option PortHolds) (cou
 
   pub waits_stands : (x : Sends most holds counts table after h g o n s tunnel k payload) → IsConn g.conn s.conn → IsHeld most after g s
   waits_stands x conn =
-      let none : (conn id actor : ℕ) (goal : Goal) → want_of s.conn ≡ Ask (call.Open conn id actor goal) → ⊥ = λ conn id actor goal e.
-      let f : Send tunnel k payload ≡ Ask (call.Open conn id actor goal) = sym x.want ∙ e in cc in
+      let none : WantsNoOpen s.conn = λ conn id actor addr port e.
+      let f : Send tunnel k payload ≡ Ask (call.Open conn id actor (goal.Udp addr port)) = sym x.want ∙ e in cc in
       let bound : g.bound ≡ None = x.bound ∙ bound_none most table h.ports.items (want_of s.conn) (Send tunnel k payload) h.bound x.held.bound x.want in
       let S : List PortSeat → Type 0 = λ xs. ArePorts most after xs s.ports in
       let P : List Port → Type 0 = λ ps. ArePorts most after h.ports.items ps in

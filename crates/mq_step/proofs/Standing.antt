@@ -5,7 +5,8 @@ use Rattle.std.specs.Vec.{vec_len, vec_capacity}
 use Rattle.slab.specs.Slab.{Slab}
 use Rattle.mq_talk.specs.declared.book.Call.{Call}
 use Rattle.mq_talk.specs.declared.book.Call.TheVariants as call
-use Rattle.mq_talk.specs.declared.goal.Goal.{Goal}
+use Rattle.mq_talk.specs.declared.goal.Goal.TheVariants as goal
+use Rattle.mq_addr.specs.declared.addr.Addr.{Addr}
 use Rattle.std.proofs.lemmas.List.Elements.{All-nil}
 use Rattle.mq_talk.specs.Offices.{IsSound, Seen}
 use Rattle.mq_machine.specs.Acting.{IsOpen}
@@ -24,20 +25,21 @@ IsNoOpening (call.Assign tunnel asked) = ⊤
 IsNoOpening (call.Advertise tunnel ranges) = ⊤
 IsNoOpening (call.Close tunnel) = ⊤
 
--- where no opening is wanted, no port is bound
-none_asked : {Q : Type 0} (most : Q → ℕ) (table : Slab Q) (seats : List PortSeat) (c : Call) → ((conn id actor : ℕ) (goal : Goal) → c ≢ call.Open conn id actor goal)
+-- where no opening of a tunnel for UDP is wanted, no port is bound
+none_asked : {Q : Type 0} (most : Q → ℕ) (table : Slab Q) (seats : List PortSeat) (c : Call) → ((conn id actor : ℕ) (addr : Addr) (port : ℕ) → c ≢ call.Open conn id actor (goal.Udp addr port))
     → IsBound most table seats (Ask c) None
-none_asked most table seats (call.Open conn id actor goal) not = absurd (not conn id actor goal refl)
+none_asked most table seats (call.Open conn id actor (goal.Udp addr port)) not = absurd (not conn id actor addr port refl)
+none_asked most table seats (call.Open conn id actor (goal.Ip area protocol)) not = refl
 none_asked most table seats (call.Assign tunnel asked) not = refl
 none_asked most table seats (call.Advertise tunnel ranges) not = refl
 none_asked most table seats (call.Close tunnel) not = refl
 
-none_wanted : {Q : Type 0} (most : Q → ℕ) (table : Slab Q) (seats : List PortSeat) (w : Want) → ((conn id actor : ℕ) (goal : Goal) → w ≢ Ask (call.Open conn id actor goal))
+none_wanted : {Q : Type 0} (most : Q → ℕ) (table : Slab Q) (seats : List PortSeat) (w : Want) → ((conn id actor : ℕ) (addr : Addr) (port : ℕ) → w ≢ Ask (call.Open conn id actor (goal.Udp addr port)))
     → IsBound most table seats w None
 none_wanted most table seats Nothing not = refl
 none_wanted most table seats Say not = refl
 none_wanted most table seats (Bind stream goal) not = refl
-none_wanted most table seats (Ask c) not = none_asked most table seats c (λ conn id actor goal is. not conn id actor goal (ap Ask is))
+none_wanted most table seats (Ask c) not = none_asked most table seats c (λ conn id actor addr port is. not conn id actor addr port (ap Ask is))
 none_wanted most table seats (Judge tunnel n flow) not = refl
 none_wanted most table seats (Push parcel) not = refl
 none_wanted most table seats (Send tunnel n payload) not = refl
@@ -46,7 +48,7 @@ none_wanted most table seats (Over why) not = refl
 pub unbound : {Q : Type 0} (most : Q → ℕ) (table : Slab Q) (seats : List PortSeat) (c : Conn) (bound : Option ℕ) → NoOpens c.due → bound ≡ None → IsBound most table seats (want_of c) bound
 unbound most table seats c bound none is =
     let P : Option ℕ → Type 0 = λ b. IsBound most table seats (want_of c) b in
-    subst P (sym is) (none_wanted most table seats (want_of c) (λ conn id actor goal want. no_open c conn id actor goal none want))
+    subst P (sym is) (none_wanted most table seats (want_of c) (λ conn id actor addr port want. no_open c conn id actor addr port none want))
 
 none_room : {L : Type 0} (h : HeldBy L) → h.bound ≡ None → HasRoom h
 none_room h is = let P : Option ℕ → Type 0 = λ b. MatchOption b ⊤ (λ key. vec_len h.ports < vec_capacity h.ports) in subst P (sym is) tt
@@ -55,7 +57,7 @@ none_room h is = let P : Option ℕ → Type 0 = λ b. MatchOption b ⊤ (λ key
 pub same_apart : (seats after : List PortSeat) → after ≡ seats → SeatsApart seats → SeatsApart after
 same_apart seats after is apart = subst SeatsApart (sym is) apart
 
--- it stands for a state in which no opening is due
+-- it stands for a state in which no such opening is due
 pub stands : {L Q : Type 0} (most : Q → ℕ) (table : Slab Q) (h : HeldBy L) (t : Held) → IsConn h.conn t.conn → t.conn.number ≡ h.number → ArePorts most table h.ports.items t.ports
     → SeatsApart h.ports.items → AreServed t.conn.ending t.conn.tunnels t.ports → NoOpens t.conn.due → h.bound ≡ None → IsHeld most table h t
 stands most table h t conn number ports apart served opens bound = record {
@@ -88,4 +90,5 @@ new_known seen actor number sound worker = record {
   worker = worker;
   actor_is = refl;
   tunnels = All-nil (λ (t : Tunnel). IsOpen seen.entries actor t.id number t.stream t.goal);
+  places = tt;
 }

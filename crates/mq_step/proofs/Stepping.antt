@@ -1,7 +1,7 @@
 -- A step of a connection: its want, or else a frame, or else what comes behind.
-use Rattle.std.proofs.Common.{◌≡◌, ℕ, ◌≤◌, true, false, List, [], ◌∷◌, length, All, Option, Some, None, Result, Ok, Err, refl, sym, ap, subst, ◌∙◌, arith}
+use Rattle.std.proofs.Common.{◌≡◌, ℕ, true, false, List, [], ◌∷◌, All, Option, Some, None, Result, Ok, Err, refl, sym, ap, subst, ◌∙◌}
 use Rattle.std.specs.Prelude.{is_some}
-use Rattle.mq_talk.specs.Mails.{IsTold}
+use Rattle.mq_talk.specs.Mails.{Boxes, IsTold}
 use Rattle.mq_step.proofs.Counting.{rose_then}
 use Rattle.mq_step.proofs.Places.{at_all}
 use Rattle.mq_step.proofs.Sending.{the_mine}
@@ -13,7 +13,6 @@ use Rattle.mq_outside.specs.Counts.{LinkCounts, PortCounts, no_link_counts, no_p
 use Rattle.mq_outside.specs.Links.{LinkPast}
 use Rattle.mq_outside.specs.Ports.{PortHolds}
 use Rattle.mq_talk.specs.declared.note.Note.{Note}
-use Rattle.mq_talk.specs.declared.place.Parcel.{Parcel}
 use Rattle.mq_talk.specs.Offices.{Seen}
 use Rattle.mq_machine.specs.declared.setup.Setup.{Setup}
 use Rattle.mq_machine.specs.State.{Conn, Link, Held, Port, Orders}
@@ -25,6 +24,7 @@ use Rattle.mq_conn.specs.Conns.{IsConn}
 use Rattle.mq_held.specs.declared.held.Held.{Held as HeldBy}
 use Rattle.mq_held.specs.declared.held.PortSeat.{PortSeat}
 use Rattle.mq_held.specs.Frames.{FrameGives}
+use Rattle.mq_step.proofs.Wanting.{Mailed}
 use Rattle.mq_step.specs.declared.stepped.Stepped.{Stepped}
 use Rattle.mq_step.specs.declared.stepped.Stepped.TheVariants.{Quiet, Did, Ended}
 use Rattle.mq_step.specs.Holds.{ArePorts, IsHeld, IsKnown}
@@ -47,12 +47,12 @@ module _ {L Q : Type 0} (link : L → Option Link) (past : L → LinkPast) (coun
   kept_link x same =
       link_behind link past counts most holds port_counts binds table old new o n s x ∙ ap link same ∙ sym (seen_link link past counts most holds port_counts binds table old new o n s x).link
 
-  pub frame_starves : (x : Moves link past counts most holds port_counts binds table old new o n s) → new.link ≡ old.link → (setup : Setup) (seen : Seen) (refused : NoMemory)
-      → FrameGives (IsConn new.conn) s.conn (Err refused) → Gives setup from_frame SendsWait o n seen seen (IsHeld most table new) s (Err refused)
-  frame_starves x same setup seen refused gives = λ boxes orders.
+  pub frame_starves : (x : Moves link past counts most holds port_counts binds table old new o n s) → new.link ≡ old.link → (setup : Setup) (seen : Seen) (m : Mailed seen) (refused : NoMemory)
+      → FrameGives (IsConn new.conn) s.conn (Err refused) → Gives setup from_frame SendsWait o n seen seen m.mail m.mail (IsHeld most table new) s (Err refused)
+  frame_starves x same setup seen m refused gives = λ orders.
       let h : Held = filled o idle s in (
         drained o idle s h.link.pieces,
-        drains from_frame SendsWait o n seen boxes orders s idle Frame false h.link.pieces (λ tunnel. (refl, refl)) (first_true h Frame (from_write h) gives.0) (λ is. absurd cc) refl
+        drains from_frame SendsWait o n seen m orders s idle Frame false h.link.pieces (λ tunnel. (refl, refl)) (first_true h Frame (from_write h) gives.0) (λ is. absurd cc) refl
             (same_binds link past counts most holds port_counts binds table old new o n s x),
         (
           drained_stands link past counts most holds port_counts binds table old new o n s x idle h.link.pieces gives.1,
@@ -60,25 +60,25 @@ module _ {L Q : Type 0} (link : L → Option Link) (past : L → LinkPast) (coun
         ),
       )
 
-  pub framed_gives : (x : Moves link past counts most holds port_counts binds table old new o n s) → new.link ≡ old.link → (setup : Setup) (seen : Seen) (said : Note)
-      → FrameGives (IsConn new.conn) s.conn (Ok (Some said)) → Gives setup from_frame SendsWait o n seen seen (IsHeld most table new) s (Ok (Did said))
-  framed_gives x same setup seen said gives = λ boxes orders.
+  pub framed_gives : (x : Moves link past counts most holds port_counts binds table old new o n s) → new.link ≡ old.link → (setup : Setup) (seen : Seen) (m : Mailed seen) (said : Note)
+      → FrameGives (IsConn new.conn) s.conn (Ok (Some said)) → Gives setup from_frame SendsWait o n seen seen m.mail m.mail (IsHeld most table new) s (Ok (Did said))
+  framed_gives x same setup seen m said gives = λ orders.
       let t : Conn = gives.0 in
       let h : Held = filled o idle s in
       let held = frame_stands most table old new o s said t x.held x.wait gives.1 (ap (λ y. y.ports.items) x.rest) (ap (λ y. y.number) x.rest) (ap (λ y. y.bound) x.rest) gives.2 in
       let number : t.number ≡ s.conn.number = held.number ∙ ap (λ y. y.number) x.rest ∙ sym x.held.number in (
         whole o idle s t h.link,
-        frame_done setup o n seen boxes orders s said t gives.1 (same_binds link past counts most holds port_counts binds table old new o n s x),
+        frame_done setup o n seen m orders s said t gives.1 (same_binds link past counts most holds port_counts binds table old new o n s x),
         (held, whole_told o n idle s t h.link number (same_link o n s idle_link (kept_link x same)) (stay_all link past counts most holds port_counts binds table old new o n s x)),
       )
 
 same_between : (o : Outside) (s : Held) → Between o o.link_counts o.port_counts s
 same_between o s = between_link o o.link_counts s (link_same (o.link_counts s.conn.number) (o.link_counts s.conn.number) refl) refl
 
-pub frame_waits : (setup : Setup) (o n : Outside) (seen seen_after : Seen) (stands_for : Held → Type 0) (s : Held) (r : Result Stepped NoMemory) → framed s.conn ≡ None
-    → Gives setup from_write SendsWait o n seen seen_after stands_for s r → Gives setup from_frame SendsWait o n seen seen_after stands_for s r
-frame_waits setup o n seen seen_after stands_for s r none gives =
-    skip o n o.link_counts o.port_counts setup Frame from_write SendsWait SendsWait seen seen_after stands_for s r (same_between o s)
+pub frame_waits : (setup : Setup) (o n : Outside) (seen seen_after : Seen) (mail mail_after : Option Boxes) (stands_for : Held → Type 0) (s : Held) (r : Result Stepped NoMemory) → framed s.conn ≡ None
+    → Gives setup from_write SendsWait o n seen seen_after mail mail_after stands_for s r → Gives setup from_frame SendsWait o n seen seen_after mail mail_after stands_for s r
+frame_waits setup o n seen seen_after mail mail_after stands_for s r none gives =
+    skip o n o.link_counts o.port_counts setup Frame from_write SendsWait SendsWait seen seen_after mail mail_after stands_for s r (same_between o s)
     (λ f vain. ap (λ (d : Option (Note × Conn)). is_some d) none) (λ tunnel. (refl, refl)) (λ f vain. vain) (λ grows. none) (λ asked. asked) gives
 
 -- ---- the want
@@ -93,8 +93,8 @@ vain_waits ports (Push parcel) is = absurd cc
 vain_waits ports (Send tunnel k payload) is = refl
 vain_waits ports (Over why) is = absurd cc
 
-pub want_waits : (o n : Outside) (s : Held) (seen seen_after : Seen) → WantWaits o n seen seen_after s → may_wait (want_of s.conn) ≡ true
-want_waits o n s seen seen_after w = vain_waits (ported o idle s).ports (want_of s.conn) (w.cannot idle (λ tunnel. (refl, refl)))
+pub want_waits : (o n : Outside) (s : Held) (seen seen_after : Seen) (mail mail_after : Option Boxes) → WantWaits o n seen seen_after mail mail_after s → may_wait (want_of s.conn) ≡ true
+want_waits o n s seen seen_after mail mail_after w = vain_waits (ported o idle s).ports (want_of s.conn) (w.cannot idle (λ tunnel. (refl, refl)))
 
 -- ---- what the outside tells once a want was in vain
 
@@ -119,17 +119,17 @@ between_ports o n (p ∷ ports) grow work =
     All-cons (PortBetween o n.port_counts) p ports (record { grows = All-head G p ports grow; faults = All-head W p ports work })
     (between_ports o n ports (All-tail G p ports grow) (All-tail W p ports work))
 
-pub want_between : (o n : Outside) (seen seen_after : Seen) (s : Held) → WantWaits o n seen seen_after s → Between o o.link_counts n.port_counts s
-want_between o n seen seen_after s w = record {
+pub want_between : (o n : Outside) (seen seen_after : Seen) (mail mail_after : Option Boxes) (s : Held) → WantWaits o n seen seen_after mail mail_after s → Between o o.link_counts n.port_counts s
+want_between o n seen seen_after mail mail_after s w = record {
   link = link_same (o.link_counts s.conn.number) (o.link_counts s.conn.number) refl;
   link_faults = refl;
   ports = between_ports o n s.ports w.grows w.works;
 }
 
 pub want_sight : {L Q : Type 0} (link : L → Option Link) (link_counts : L → LinkCounts) (most : Q → ℕ) (holds : Q → Option PortHolds) (counts : Q → PortCounts) (binds binds_after : Binder) (table after : Slab Q) (old new : HeldBy L)
-    (o n : Outside) (seen seen_after : Seen) (s : Held) → Sees link link_counts holds counts binds table old o → new.number ≡ old.number → new.link ≡ old.link → IsHeld most after new s
-    → WantWaits o n seen seen_after s → SeesTable holds counts binds_after after new.ports.items n → Sees link link_counts holds counts binds_after after new (mid o o.link_counts n.port_counts)
-want_sight link link_counts most holds counts binds binds_after table after old new o n seen seen_after s sees number same held w sn = record {
+    (o n : Outside) (seen seen_after : Seen) (mail mail_after : Option Boxes) (s : Held) → Sees link link_counts holds counts binds table old o → new.number ≡ old.number → new.link ≡ old.link → IsHeld most after new s
+    → WantWaits o n seen seen_after mail mail_after s → SeesTable holds counts binds_after after new.ports.items n → Sees link link_counts holds counts binds_after after new (mid o o.link_counts n.port_counts)
+want_sight link link_counts most holds counts binds binds_after table after old new o n seen seen_after mail mail_after s sees number same held w sn = record {
   of_link = record {
     link_is = ap o.link number ∙ sees.of_link.link_is ∙ ap link (sym same);
     counts_are = ap o.link_counts number ∙ sees.of_link.counts_are ∙ ap link_counts (sym same);
@@ -168,16 +168,17 @@ want_asked most table h o m n s (Send tunnel k payload) held want asked grow =
     let here = subst I one.of_port (at_all G s.ports grow one.place one.p one.at_port) in
     rose_then (o.port_counts tunnel).send_waits (m.port_counts tunnel).send_waits (n.port_counts tunnel).send_waits asked here.send_waits
 
-pub quiet_gives : {L Q : Type 0} (most : Q → ℕ) (table : Slab Q) (h : HeldBy L) (setup : Setup) (o m n : Outside) (seen seen_mid seen_after : Seen) (stands_for : Held → Type 0) (s : Held) (r : Result Stepped NoMemory)
-    → IsHeld most table h s → WantWaits o m seen seen_mid s → Gives setup from_frame SendsWait (mid o o.link_counts m.port_counts) n seen_mid seen_after stands_for s r
-    → Gives setup tries_of Anything o n seen seen_after stands_for s r
-quiet_gives most table h setup o m n seen seen_mid seen_after stands_for s r held w gives =
-    let between = want_between o m seen seen_mid s w in
-    let S : Seen → Type 0 = λ x. Gives setup from_frame SendsWait (mid o o.link_counts m.port_counts) n x seen_after stands_for s r in
-    skip o n o.link_counts m.port_counts setup Act from_frame SendsWait Anything seen seen_after stands_for s r between
+pub quiet_gives : {L Q : Type 0} (most : Q → ℕ) (table : Slab Q) (h : HeldBy L) (setup : Setup) (o m n : Outside) (seen seen_mid seen_after : Seen) (mail mail_mid mail_after : Option Boxes) (stands_for : Held → Type 0) (s : Held) (r : Result Stepped NoMemory)
+    → IsHeld most table h s → WantWaits o m seen seen_mid mail mail_mid s → Gives setup from_frame SendsWait (mid o o.link_counts m.port_counts) n seen_mid seen_after mail_mid mail_after stands_for s r
+    → Gives setup tries_of Anything o n seen seen_after mail mail_after stands_for s r
+quiet_gives most table h setup o m n seen seen_mid seen_after mail mail_mid mail_after stands_for s r held w gives =
+    let between = want_between o m seen seen_mid mail mail_mid s w in
+    let S : Seen → Type 0 = λ x. Gives setup from_frame SendsWait (mid o o.link_counts m.port_counts) n x seen_after mail_mid mail_after stands_for s r in
+    let M : Option Boxes → Type 0 = λ x. Gives setup from_frame SendsWait (mid o o.link_counts m.port_counts) n seen seen_after x mail_after stands_for s r in
+    skip o n o.link_counts m.port_counts setup Act from_frame SendsWait Anything seen seen_after mail mail_after stands_for s r between
     (λ f vain. w.cannot f vain) (λ tunnel. (refl, refl)) (λ f vain. tt)
     (λ grows. want_asked most table h o m n s (want_of s.conn) held refl w.asked grows.ports)
-    (frame_back o n o.link_counts m.port_counts s between) (subst S w.seen_is gives)
+    (frame_back o n o.link_counts m.port_counts s between) (subst M w.mail_is (subst S w.seen_is gives))
 
 -- ---- the want was done
 
@@ -196,9 +197,9 @@ module _ {L Q : Type 0} (most : Q → ℕ) (after : Slab Q) (new : HeldBy L) (o 
       let R : Link → Type 0 = λ x. IsTold (n.link t.conn.number) x in
       subst R (sym is) (subst P (sym (ap n.link stands_for.number ∙ same)) (told_link (o.link s.conn.number) idle_link))
 
-  turned : (setup : Setup) (seen seen_after : Seen) (boxes : List (List Parcel)) (orders : Orders) (said : Note) (t : Option Held) → WantDone o n seen seen_after boxes orders (linked o s) said t
-      → Turned setup tries_of Anything o n seen seen_after boxes orders s said t
-  turned setup seen seen_after boxes orders said t x = record {
+  turned : (setup : Setup) (seen seen_after : Seen) (mail mail_after : Option Boxes) (orders : Orders) (said : Note) (t : Option Held) → WantDone o n seen seen_after mail mail_after orders (linked o s) said t
+      → Turned setup tries_of Anything o n seen seen_after mail mail_after orders s said t
+  turned setup seen seen_after mail mail_after orders said t x = record {
     found = at_ports x.found;
     vain_is = tt;
     try = Act;
@@ -217,16 +218,16 @@ module _ {L Q : Type 0} (most : Q → ℕ) (after : Slab Q) (new : HeldBy L) (o 
     then = x.then;
   }
 
-  pub act_gives : (setup : Setup) (seen seen_after : Seen) (r : Result Stepped NoMemory) → n.link new.number ≡ o.link s.conn.number → (r ≡ Ok Quiet → ⊥)
-      → ActGives o n seen seen_after (IsHeld most after new) (linked o s) r → Gives setup tries_of Anything o n seen seen_after (IsHeld most after new) s r
-  act_gives setup seen seen_after (Ok Quiet) same loud gives = absurd (loud refl)
-  act_gives setup seen seen_after (Ok (Did said)) same loud gives = λ boxes orders.
-      let d = gives boxes orders in
+  pub act_gives : (setup : Setup) (seen seen_after : Seen) (mail mail_after : Option Boxes) (r : Result Stepped NoMemory) → n.link new.number ≡ o.link s.conn.number → (r ≡ Ok Quiet → ⊥)
+      → ActGives o n seen seen_after mail mail_after (IsHeld most after new) (linked o s) r → Gives setup tries_of Anything o n seen seen_after mail mail_after (IsHeld most after new) s r
+  act_gives setup seen seen_after mail mail_after (Ok Quiet) same loud gives = absurd (loud refl)
+  act_gives setup seen seen_after mail mail_after (Ok (Did said)) same loud gives = λ orders.
+      let d = gives orders in
       let link = became_link (ported o d.1.found (linked o s)) d.1.answer said d.1.became d.0 n d.1.next.is d.1.then in
-      (d.0, turned setup seen seen_after boxes orders said (Some d.0) d.1, (d.2, record { link = linked_told d.0 same d.2 link; ports = d.3 }))
-  act_gives setup seen seen_after (Ok (Ended said)) same loud gives = λ boxes orders. turned setup seen seen_after boxes orders said None (gives boxes orders)
-  act_gives setup seen seen_after (Err refused) same loud gives = λ boxes orders.
-      let d = gives boxes orders in
+      (d.0, turned setup seen seen_after mail mail_after orders said (Some d.0) d.1, (d.2, record { link = linked_told d.0 same d.2 link; ports = d.3 }))
+  act_gives setup seen seen_after mail mail_after (Ok (Ended said)) same loud gives = λ orders. turned setup seen seen_after mail mail_after orders said None (gives orders)
+  act_gives setup seen seen_after mail mail_after (Err refused) same loud gives = λ orders.
+      let d = gives orders in
       let x = d.1 in (
         d.0,
         record {
@@ -284,3 +285,11 @@ known_then seen after actor who s known same mine =
     let P : Seen → Type 0 = λ x. IsKnown x who s in
     let Q : ℕ → Type 0 = λ x. IsKnown seen x s in
     subst P (sym same) (subst Q (sym mine) known)
+
+-- the book keeps its configuration
+pub config_stays : (old new : Outside) (seen seen_after : Seen) (mail mail_after : Option Boxes) (stands : Held → Type 0) (s : Held) (r : Result Stepped NoMemory) → ActGives old new seen seen_after mail mail_after stands s r
+    → seen_after.config ≡ seen.config
+config_stays old new seen seen_after mail mail_after stands s (Ok Quiet) gives = ap (λ (x : Seen). x.config) gives.0.seen_is
+config_stays old new seen seen_after mail mail_after stands s (Ok (Did note)) gives = (gives (record { bind = false })).1.shares.same.config
+config_stays old new seen seen_after mail mail_after stands s (Ok (Ended note)) gives = (gives (record { bind = false })).shares.same.config
+config_stays old new seen seen_after mail mail_after stands s (Err refused) gives = (gives (record { bind = false })).1.shares.same.config

@@ -1,6 +1,7 @@
 -- A read keeps number, actor and tunnels, and what it asks for is no opening. And what is known of a connection that can read.
 use Rattle.std.proofs.Common.{◌≡◌, ℕ, Bool, true, false, not, ◌&&◌, List, [], ◌∷◌, ◌++◌, length, nat_le, All, Option, Some, None, refl, sym, ap, ◌∙◌, subst}
 use Rattle.std.proofs.lemmas.List.Elements.{All-cons, All-head, All-tail, All-nil, All-append}
+use Rattle.mq_addr.specs.declared.addr.Addr.{Addr}
 use Rattle.mq_talk.specs.declared.book.Call.TheVariants as call
 use Rattle.mq_talk.specs.declared.goal.Goal.{Goal}
 use Rattle.mq_talk.specs.declared.goal.Goal.TheVariants as goal
@@ -18,9 +19,8 @@ use Rattle.mq_machine.specs.Steps.{is_nothing, is_ending, can_go_on, can_read, m
 use Rattle.mq_machine.specs.Reading.{TookNext, StreamEvent, Request, Malformed, Content, Reset, ConnectionError, Leads, Refused, EventAsks, EventsAsk, ContentAsks, on_stream, mark_of, goal_act, ended_acts, error_acts, reset_acts, stream_of}
 use Rattle.mq_conn.specs.declared.conn.Conn.{Conn as Core}
 use Rattle.mq_conn.specs.Conns.{IsConn}
-use Rattle.mq_machine.specs.Lawful.{IsUdp}
 use Rattle.mq_step.proofs.Keeping.{Kept, no_open, no_opens_cons, no_opens_nil, nothing_due, finished_keeps}
-use Rattle.mq_step.proofs.Cores.{IsUdpWant, udp_want, none_opens, open_alive, go_on_opens}
+use Rattle.mq_step.proofs.Cores.{WantsNoOpen, none_opens, open_alive, go_on_opens}
 
 -- ---- what a read asks for
 
@@ -114,30 +114,25 @@ passing_same (due.Fault code ∷ rest) x = (refl, refl, refl)
 
 -- ---- what is wanted then
 
-open_bound : (on : ℕ) (g : Goal) → IsUdp g → is_udp_open (due.Do (act.Open on g)) ≡ false → ⊥
-open_bound on (goal.Udp addr port) udp isnt = cc
-open_bound on (goal.Ip area protocol) udp isnt = udp
-
-bound_opens : (x : Conn) (ds : List Due) (conn id actor : ℕ) (g : Goal) → Bounds ds → IsUdp g → due_want x ds ≡ Ask (call.Open conn id actor g) → ⊥
-bound_opens x [] conn id actor g bounds udp w = cc
-bound_opens x (due.Do (act.Bind on h) ∷ rest) conn id actor g bounds udp w = cc
-bound_opens x (due.Do (act.Open on h) ∷ rest) conn id actor g bounds udp w =
-    let same : h ≡ g = cc in
-    open_bound on h (subst IsUdp (sym same) udp) (All-head IsBound (due.Do (act.Open on h)) rest bounds)
-bound_opens x (due.Do (act.Refuse on status rule) ∷ rest) conn id actor g bounds udp w = cc
-bound_opens x (due.Do (act.Reset on code) ∷ rest) conn id actor g bounds udp w = cc
-bound_opens x (due.Do (act.OfStream on a) ∷ rest) conn id actor g bounds udp w =
+bound_opens : (x : Conn) (ds : List Due) (conn id actor : ℕ) (addr : Addr) (port : ℕ) → Bounds ds → due_want x ds ≡ Ask (call.Open conn id actor (goal.Udp addr port)) → ⊥
+bound_opens x [] conn id actor addr port bounds w = cc
+bound_opens x (due.Do (act.Bind on h) ∷ rest) conn id actor addr port bounds w = cc
+bound_opens x (due.Do (act.Open on h) ∷ rest) conn id actor addr port bounds w =
+    let same : h ≡ goal.Udp addr port = cc in
+    let isnt = ap (λ (g : Goal). is_udp_open (due.Do (act.Open on g))) (sym same) ∙ All-head IsBound (due.Do (act.Open on h)) rest bounds in
+    cc
+bound_opens x (due.Do (act.Refuse on status rule) ∷ rest) conn id actor addr port bounds w = cc
+bound_opens x (due.Do (act.Reset on code) ∷ rest) conn id actor addr port bounds w = cc
+bound_opens x (due.Do (act.OfStream on a) ∷ rest) conn id actor addr port bounds w =
     let y : Conn = record x { due = due.Do (act.OfStream on a) ∷ []; ending = None } in
-    no_open y conn id actor g (no_opens_cons (due.Do (act.OfStream on a)) [] refl no_opens_nil) w
-bound_opens x (due.Spend on size ∷ rest) conn id actor g bounds udp w = cc
-bound_opens x (due.Fault code ∷ rest) conn id actor g bounds udp w = cc
+    no_open y conn id actor addr port (no_opens_cons (due.Do (act.OfStream on a)) [] refl no_opens_nil) w
+bound_opens x (due.Spend on size ∷ rest) conn id actor addr port bounds w = cc
+bound_opens x (due.Fault code ∷ rest) conn id actor addr port bounds w = cc
 
--- of a connection, whose openings are for UDP
-wants_bound : (c : Core) (t : Conn) → IsConn c t → Bounds t.due → (conn id actor : ℕ) (g : Goal) → want_of t ≡ Ask (call.Open conn id actor g) → ⊥
-wants_bound c t is bounds conn id actor g w =
-    let alive : t.ending ≡ None = (open_alive c t conn id actor g is w).0 in
-    let udp : IsUdp g = subst IsUdpWant w (udp_want c t is) in
-    bound_opens t t.due conn id actor g bounds udp (ap (λ (e : Option End). want_by t e) (sym alive) ∙ w)
+wants_bound : (c : Core) (t : Conn) → IsConn c t → Bounds t.due → WantsNoOpen t
+wants_bound c t is bounds conn id actor addr port w =
+    let alive : t.ending ≡ None = (open_alive c t conn id actor (goal.Udp addr port) is w).0 in
+    bound_opens t t.due conn id actor addr port bounds (ap (λ (e : Option End). want_by t e) (sym alive) ∙ w)
 
 -- a read keeps number, actor and tunnels, and what it asks for is no opening
 pub took_keeps : (setup : Setup) (c : Core) (s t : Conn) (bytes : List ℕ) → TookNext setup s bytes t → IsConn c t → Kept s t

@@ -4,6 +4,7 @@ use Rattle.std.specs.Prelude.{find, if◌then◌else◌}
 use Rattle.std.proofs.lemmas.List.Elements.{All-cons, All-head, All-tail, All-nil}
 use Rattle.mq_wire.specs.declared.NoMemory.{NoMemory}
 use Rattle.mq_outside.specs.Counts.{risen, LinkCounts, PortCounts}
+use Rattle.mq_talk.specs.Mails.{Boxes}
 use Rattle.mq_talk.specs.Offices.{Seen}
 use Rattle.mq_machine.specs.declared.setup.Setup.{Setup}
 use Rattle.mq_machine.specs.State.{Held, Port}
@@ -118,11 +119,11 @@ module _ (o n : Outside) (lc : ℕ → LinkCounts) (pc : ℕ → PortCounts) whe
 
   -- ---- a try that is in vain goes before
 
-  pub skip : (setup : Setup) (t : Try) (tries : Tries) (vain less : InVain) (seen seen_after : Seen) (stands_for : Held → Type 0) (s : Held) (r : Result Stepped NoMemory)
+  pub skip : (setup : Setup) (t : Try) (tries : Tries) (vain less : InVain) (seen seen_after : Seen) (mail mail_after : Option Boxes) (stands_for : Held → Type 0) (s : Held) (r : Result Stepped NoMemory)
       → Between o lc pc s → ((f : Found) → vain f → can_try (filled o f s) t ≡ false) → vain idle → ((f : Found) → vain f → less f)
       → (Grows (mid o lc pc) n s → Asked o n s t) → (All (Asked (mid o lc pc) n s) (tries s) → All (Asked o n s) (tries s))
-      → Gives setup tries vain (mid o lc pc) n seen seen_after stands_for s r → Gives setup (λ h. t ∷ tries h) less o n seen seen_after stands_for s r
-  skip setup t tries vain less seen seen_after stands_for s (Ok Quiet) between cannot vain_idle weaker asks back gives =
+      → Gives setup tries vain (mid o lc pc) n seen seen_after mail mail_after stands_for s r → Gives setup (λ h. t ∷ tries h) less o n seen seen_after mail mail_after stands_for s r
+  skip setup t tries vain less seen seen_after mail mail_after stands_for s (Ok Quiet) between cannot vain_idle weaker asks back gives =
       let w = gives.0 in (
         record {
           none = first_false (filled o idle s) t (tries (filled o idle s)) (cannot idle vain_idle) ∙ w.none;
@@ -130,11 +131,12 @@ module _ (o n : Outside) (lc : ℕ → LinkCounts) (pc : ℕ → PortCounts) whe
           grows = grows_back s between w.grows;
           told = record { link = w.told.link; ports = w.told.ports; binds = w.told.binds };
           seen_is = w.seen_is;
+          mail_is = w.mail_is;
         },
         gives.1,
       )
-  skip setup t tries vain less seen seen_after stands_for s (Ok (Did note)) between cannot vain_idle weaker asks back gives = λ boxes orders.
-      let d = gives boxes orders in
+  skip setup t tries vain less seen seen_after mail mail_after stands_for s (Ok (Did note)) between cannot vain_idle weaker asks back gives = λ orders.
+      let d = gives orders in
       let x = d.1 in (
         d.0,
         record {
@@ -154,8 +156,8 @@ module _ (o n : Outside) (lc : ℕ → LinkCounts) (pc : ℕ → PortCounts) whe
         },
         d.2,
       )
-  skip setup t tries vain less seen seen_after stands_for s (Ok (Ended note)) between cannot vain_idle weaker asks back gives = λ boxes orders.
-      let x = gives boxes orders in
+  skip setup t tries vain less seen seen_after mail mail_after stands_for s (Ok (Ended note)) between cannot vain_idle weaker asks back gives = λ orders.
+      let x = gives orders in
       record {
         found = x.found;
         vain_is = weaker x.found x.vain_is;
@@ -171,8 +173,8 @@ module _ (o n : Outside) (lc : ℕ → LinkCounts) (pc : ℕ → PortCounts) whe
         next = x.next;
         then = x.then;
       }
-  skip setup t tries vain less seen seen_after stands_for s (Err refused) between cannot vain_idle weaker asks back gives = λ boxes orders.
-      let d = gives boxes orders in
+  skip setup t tries vain less seen seen_after mail mail_after stands_for s (Err refused) between cannot vain_idle weaker asks back gives = λ orders.
+      let d = gives orders in
       let x = d.1 in (
         d.0,
         record {

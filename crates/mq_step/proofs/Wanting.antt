@@ -1,5 +1,5 @@
 -- A connection did what it wants: what that is in the machine's words.
-use Rattle.std.proofs.Common.{◌≡◌, List, [], Option, Some, None, refl, sym, ap, ◌∙◌}
+use Rattle.std.proofs.Common.{◌≡◌, ℕ, zero, suc, ◌+◌, List, [], ◌∷◌, length, Option, Some, None, refl, sym, ap, ◌∙◌}
 use Rattle.std.specs.Prelude.{⊤, option_map}
 use Rattle.std.proofs.lemmas.List.{append-nil}
 use Rattle.std.proofs.lemmas.List.Elements.{All-nil}
@@ -8,13 +8,15 @@ use Rattle.mq_talk.specs.declared.note.Note.TheVariants as note
 use Rattle.mq_talk.specs.declared.note.End.{End}
 use Rattle.mq_talk.specs.declared.place.Parcel.{Parcel}
 use Rattle.mq_talk.specs.declared.book.Entry.{Entry}
+use Rattle.mq_talk.specs.Mails.{Boxes, IsTold}
 use Rattle.mq_talk.specs.Offices.{Seen, Sees, IsOfOther}
 use Rattle.mq_machine.specs.State.{Conn, Held, Orders, Shared}
 use Rattle.mq_machine.specs.Want.{Want, Nothing, Say, Bind, Ask, Judge, Push, Send, Over, Answer, want_of}
 use Rattle.mq_machine.specs.Done.{done}
 use Rattle.mq_machine.specs.Shared.{ports_after}
 use Rattle.mq_machine.specs.Turn.{over_or, acted, with_conn}
-use Rattle.mq_step.specs.Wanted.{Shares}
+use Rattle.mq_machine.specs.Acting.{Shares}
+use Rattle.mq_step.specs.Holds.{HasInboxes}
 
 abbrev pub IsNotOver : Want → Type 0
 IsNotOver Nothing = ⊤
@@ -54,17 +56,48 @@ over_is h why a want = ap (λ (v : Want). over_or h v a) want
 abbrev pub shared_by : Seen → List Entry → List (List Parcel) → Orders → Shared
 shared_by seen book boxes orders = record { config = seen.config; book = book; boxes = boxes; orders = orders }
 
+-- a mail, and inboxes with which what it tells fits
+pub record Mailed (seen : Seen) : Type 0 where
+  pub mail : Option Boxes
+  pub boxes : Boxes
+  pub told : IsTold mail boxes
+  pub count : length boxes ≡ seen.config.workers + 1
+
+-- so many inboxes without a parcel
+no_parcels : ℕ → Boxes
+no_parcels zero = []
+no_parcels (suc n) = [] ∷ no_parcels n
+
+no_parcels_size : (n : ℕ) → length (no_parcels n) ≡ n
+unfolding no_parcels
+no_parcels_size zero = refl
+no_parcels_size (suc n) = ap (λ (k : ℕ). suc k) (no_parcels_size n)
+
+-- inboxes with which that fits
+abbrev Fitting : ℕ → Option Boxes → Type 0
+Fitting count mail = (boxes : Boxes) × IsTold mail boxes × (length boxes ≡ count)
+
+pub fitting : (count : ℕ) (mail : Option Boxes) → ((boxes : Boxes) → mail ≡ Some boxes → length boxes ≡ count) → Fitting count mail
+fitting count None size = (no_parcels count, tt, no_parcels_size count)
+fitting count (Some boxes) size = (boxes, refl, size boxes refl)
+
+abbrev pub mailed : (seen : Seen) (count : ℕ) (mail : Option Boxes) → HasInboxes seen count mail → Mailed seen
+mailed seen count mail has =
+    let f = fitting count mail has.size in
+    record { mail = mail; boxes = f.0; told = f.1; count = f.2 ∙ has.count_is }
+
 pub sees_same : (seen : Seen) → Sees seen seen.entries
 sees_same seen = record { more = []; goes_on = sym (append-nil seen.entries); others = All-nil (IsOfOther seen); whole = λ is. refl }
 
-pub shares_same : (seen seen_after : Seen) (boxes : List (List Parcel)) (orders : Orders) → seen_after ≡ seen
-    → Shares seen seen_after boxes orders (shared_by seen seen.entries boxes orders) (shared_by seen seen.entries boxes orders)
-shares_same seen seen_after boxes orders same = record {
+pub shares_same : (seen seen_after : Seen) (m : Mailed seen) (orders : Orders) → seen_after ≡ seen
+    → Shares seen seen_after m.mail m.mail orders (shared_by seen seen.entries m.boxes orders) (shared_by seen seen.entries m.boxes orders)
+shares_same seen seen_after m orders same = record {
   config = refl;
   book = sees_same seen;
   wrote = ap (λ (x : Seen). x.entries) same;
   same = record { config = ap (λ (x : Seen). x.config) same; whole = ap (λ (x : Seen). x.is_whole) same };
-  boxes_are = refl;
-  boxes_after = refl;
+  boxes = m.told;
+  count = m.count;
+  boxes_after = m.told;
   orders_are = refl;
 }

@@ -1,12 +1,15 @@
 -- For which state of the machine a connection with its link and its ports stands, whatever these hold.
-use Rattle.std.specs.Prelude.{◌≡◌, ◌≢◌, ⊤, ◌⊎◌, ℕ, ◌<◌, ◌≤◌, List, [], ◌∷◌, ◌++◌, map, All, Option, Some, None, MatchOption}
+use Rattle.std.specs.Prelude.{◌≡◌, ◌≢◌, ⊤, ◌⊎◌, ℕ, ◌+◌, ◌<◌, ◌≤◌, List, [], ◌∷◌, ◌++◌, length, flat_map, map, All, Option, Some, None, MatchOption}
 use Rattle.std.specs.Vec.{vec_len, vec_capacity}
 use Rattle.slab.specs.Slab.{Slab, get}
 use Rattle.mq_outside.specs.Ports.{limit_of}
 use Rattle.mq_talk.specs.declared.book.Call.TheVariants as call
+use Rattle.mq_talk.specs.declared.goal.Goal.{Goal}
 use Rattle.mq_talk.specs.declared.goal.Goal.TheVariants as goal
 use Rattle.mq_talk.specs.declared.note.End.{End}
+use Rattle.mq_talk.specs.Mails.{Boxes}
 use Rattle.mq_talk.specs.Offices.{IsSound, Seen}
+use Rattle.mq_machine.specs.Placing.{ArePlaced}
 use Rattle.mq_machine.specs.State.{Tunnel, Port, Held}
 use Rattle.mq_machine.specs.Want.{Want, Nothing, Say, Bind, Ask, Judge, Push, Send, Over, want_of}
 use Rattle.mq_machine.specs.Acting.{IsOpen}
@@ -34,11 +37,17 @@ ArePorts most table (seat ∷ seats) (p ∷ ports) = IsPort most table seat p ×
 abbrev pub tunnels_of : List Port → List ℕ
 tunnels_of ports = map (λ (p : Port). p.tunnel) ports
 
-abbrev pub numbers_of : List Tunnel → List ℕ
-numbers_of tunnels = map (λ (t : Tunnel). t.id) tunnels
+-- the number of a tunnel for UDP, which has a port
+abbrev pub port_number : Goal → ℕ → List ℕ
+port_number (goal.Udp addr port) id = id ∷ []
+port_number (goal.Ip area protocol) id = []
 
--- Each tunnel has its port, and each port its tunnel. On a connection that is ending, the last tunnel may be one for whose opening
--- there was no memory: it has no port.
+-- those of all tunnels for UDP
+abbrev pub numbers_of : List Tunnel → List ℕ
+numbers_of tunnels = flat_map (λ (t : Tunnel). port_number t.goal t.id) tunnels
+
+-- Each tunnel for UDP has its port, and each port its tunnel. On a connection that is ending, the last tunnel may be one for whose
+-- opening there was no memory: it has no port.
 abbrev pub AreServed : Option End → List Tunnel → List Port → Type 0
 AreServed None tunnels ports = tunnels_of ports ≡ numbers_of tunnels
 AreServed (Some why) tunnels ports = (tunnels_of ports ≡ numbers_of tunnels) ⊎ ((last : ℕ) × (numbers_of tunnels ≡ tunnels_of ports ++ last ∷ []))
@@ -91,13 +100,19 @@ pub record IsHeld {L Q : Type 0} (most : Q → ℕ) (table : Slab Q) (h : HeldBy
   pub bound : IsBound most table h.ports.items (want_of s.conn) h.bound
   pub room : HasRoom h
 
--- Its office saw a legal history, its actor has a place in the book, and its tunnels are live by what was seen, as this actor
--- opened them.
+-- Its office saw a legal history, its actor has a place in the book, its tunnels are live by what was seen, as this actor opened
+-- them, and each packet that it is to push has an inbox.
 pub record IsKnown (seen : Seen) (actor : ℕ) (s : Held) : Type 0 where
   pub sound : IsSound seen
   pub worker : actor < seen.config.workers
   pub actor_is : s.conn.actor ≡ actor
   pub tunnels : All (λ (t : Tunnel). IsOpen seen.entries actor t.id s.conn.number t.stream t.goal) s.conn.tunnels
+  pub places : ArePlaced seen.config.workers s.conn.due
+
+-- there is an inbox for each worker, and one for the pump
+pub record HasInboxes (seen : Seen) (count : ℕ) (mail : Option Boxes) : Type 0 where
+  pub count_is : count ≡ seen.config.workers + 1
+  pub size : (boxes : Boxes) → mail ≡ Some boxes → length boxes ≡ count
 
 -- ---- the ports of other connections
 

@@ -3,31 +3,18 @@ use Rattle.std.specs.Prelude.{◌≡◌, ◌⊎◌, ℕ, Bool, true, false, List
 use Rattle.mq_wire.specs.declared.NoMemory.{NoMemory}
 use Rattle.mq_talk.specs.declared.book.Reply.TheVariants as reply
 use Rattle.mq_talk.specs.declared.note.Note.{Note}
-use Rattle.mq_talk.specs.declared.place.Parcel.{Parcel}
-use Rattle.mq_talk.specs.Offices.{Seen, IsSame, Sees as SeesBook}
+use Rattle.mq_talk.specs.Mails.{Boxes}
+use Rattle.mq_talk.specs.Offices.{Seen}
 use Rattle.mq_machine.specs.State.{Tunnel, Port, Held, Orders, Shared}
 use Rattle.mq_machine.specs.Want.{Want, Nothing, Say, Bind, Ask, Judge, Push, Send, Over, Answer, Replied, want_of}
 use Rattle.mq_machine.specs.Shared.{at_port}
 use Rattle.mq_machine.specs.Silent.{Heard}
 use Rattle.mq_machine.specs.Steps.{starved}
 use Rattle.mq_machine.specs.Turn.{Act, can_try, ActNext}
-use Rattle.mq_machine.specs.Acting.{Outside, Binder, Binds, WantWaited, BindFits, PortsTold, prepared}
+use Rattle.mq_machine.specs.Acting.{Outside, Binder, Binds, WantWaited, BindFits, PortsTold, Shares, prepared}
 use Rattle.mq_step.specs.declared.stepped.Stepped.{Stepped}
 use Rattle.mq_step.specs.declared.stepped.Stepped.TheVariants.{Quiet, Did, Ended}
 use Rattle.mq_step.specs.Sights.{Found, filled_port, idle, PortsFit, PortGrows}
-
--- ---- what is shared
-
--- What is shared before and behind a step of this connection: the book goes on from what the office had seen, and it has seen
--- what the step left. No inbox is used.
-pub record Shares (old new : Seen) (boxes : List (List Parcel)) (orders : Orders) (sh after : Shared) : Type 0 where
-  pub config : sh.config ≡ old.config
-  pub book : SeesBook old sh.book
-  pub wrote : new.entries ≡ after.book
-  pub same : IsSame old new
-  pub boxes_are : sh.boxes ≡ boxes
-  pub boxes_after : after.boxes ≡ boxes
-  pub orders_are : sh.orders ≡ orders
 
 -- the port of a tunnel that opened holds what the outside tells of it
 abbrev pub with_prepared : Outside → Answer → Held → Held
@@ -51,7 +38,7 @@ is_send (Push parcel) = false
 is_send (Over why) = false
 
 -- It did what it wants.
-pub record WantDone (old new : Outside) (seen seen_after : Seen) (boxes : List (List Parcel)) (orders : Orders) (s : Held) (note : Note) (t : Option Held) : Type 0 where
+pub record WantDone (old new : Outside) (seen seen_after : Seen) (mail mail_after : Option Boxes) (orders : Orders) (s : Held) (note : Note) (t : Option Held) : Type 0 where
   pub found : Found
   pub answer : Answer
   pub sh : Shared
@@ -60,7 +47,7 @@ pub record WantDone (old new : Outside) (seen seen_after : Seen) (boxes : List (
   -- a want that isn't a send asks no port
   pub calm : is_send (want_of s.conn) ≡ false → found ≡ idle
   pub can : can_try (ported old found s) Act ≡ true
-  pub shares : Shares seen seen_after boxes orders sh after
+  pub shares : Shares seen seen_after mail mail_after orders sh after
   pub faults : PortsFit old new (ported old found s).ports
   pub binds : BindFits old new answer
   pub next : ActNext (ported old found s) sh answer note became after
@@ -71,7 +58,7 @@ abbrev pub SendsWait : Found → Type 0
 SendsWait found = (tunnel : ℕ) → ((found.port tunnel).send_fails ≡ false) × ((found.port tunnel).send_waits ≡ true)
 
 -- what it wants waits for a port, or it wants nothing
-pub record WantWaits (old new : Outside) (seen seen_after : Seen) (s : Held) : Type 0 where
+pub record WantWaits (old new : Outside) (seen seen_after : Seen) (mail mail_after : Option Boxes) (s : Held) : Type 0 where
   pub cannot : (found : Found) → SendsWait found → can_try (ported old found s) Act ≡ false
   pub asked : WantWaited old new (want_of s.conn)
   pub grows : All (λ (p : Port). PortGrows (old.port_counts p.tunnel) (new.port_counts p.tunnel)) s.ports
@@ -79,13 +66,14 @@ pub record WantWaits (old new : Outside) (seen seen_after : Seen) (s : Held) : T
   pub works : All (λ (p : Port). (new.port_counts p.tunnel).faults ≡ (old.port_counts p.tunnel).faults) s.ports
   pub binds : new.binds ≡ old.binds
   pub seen_is : seen_after ≡ seen
+  pub mail_is : mail_after ≡ mail
 
 -- nothing was bound, or a bind was answered
 abbrev pub MayBind : Binder → Binder → Type 0
 MayBind old new = (new ≡ old) ⊎ ((done : Bool) × Binds done old new)
 
 -- It was refused memory as it did what it wants, which a connection that is ending is never.
-pub record WantStarves (old new : Outside) (seen seen_after : Seen) (boxes : List (List Parcel)) (orders : Orders) (s t : Held) : Type 0 where
+pub record WantStarves (old new : Outside) (seen seen_after : Seen) (mail mail_after : Option Boxes) (orders : Orders) (s t : Held) : Type 0 where
   pub found : Found
   pub answer : Answer
   pub sh : Shared
@@ -94,15 +82,16 @@ pub record WantStarves (old new : Outside) (seen seen_after : Seen) (boxes : Lis
   pub tunnels : List Tunnel
   pub can : can_try (ported old found s) Act ≡ true
   pub alive : s.conn.ending ≡ None
-  pub shares : Shares seen seen_after boxes orders sh after
+  pub shares : Shares seen seen_after mail mail_after orders sh after
   pub heard : Heard asked (ported old found s) sh Act answer tunnels after
   pub binds : BindFits old new answer
   pub then : t ≡ record (ported old found s) { conn = record (starved s.conn) { tunnels = tunnels } }
 
-abbrev pub ActGives : Outside → Outside → Seen → Seen → (Held → Type 0) → Held → Result Stepped NoMemory → Type 0
-ActGives old new seen seen_after stands s (Ok Quiet) = WantWaits old new seen seen_after s × stands s
-ActGives old new seen seen_after stands s (Ok (Did note)) = (boxes : List (List Parcel)) (orders : Orders)
-    → (t : Held) × WantDone old new seen seen_after boxes orders s note (Some t) × stands t × PortsTold new t.ports
-ActGives old new seen seen_after stands s (Ok (Ended note)) = (boxes : List (List Parcel)) (orders : Orders) → WantDone old new seen seen_after boxes orders s note None
-ActGives old new seen seen_after stands s (Err refused) = (boxes : List (List Parcel)) (orders : Orders)
-    → (t : Held) × WantStarves old new seen seen_after boxes orders s t × stands t × PortsTold new t.ports
+abbrev pub ActGives : Outside → Outside → Seen → Seen → (mail mail_after : Option Boxes) → (Held → Type 0) → Held → Result Stepped NoMemory → Type 0
+ActGives old new seen seen_after mail mail_after stands s (Ok Quiet) = WantWaits old new seen seen_after mail mail_after s × stands s
+ActGives old new seen seen_after mail mail_after stands s (Ok (Did note)) =
+    (orders : Orders) → (t : Held) × WantDone old new seen seen_after mail mail_after orders s note (Some t) × stands t × PortsTold new t.ports
+ActGives old new seen seen_after mail mail_after stands s (Ok (Ended note)) =
+    (orders : Orders) → WantDone old new seen seen_after mail mail_after orders s note None
+ActGives old new seen seen_after mail mail_after stands s (Err refused) =
+    (orders : Orders) → (t : Held) × WantStarves old new seen seen_after mail mail_after orders s t × stands t × PortsTold new t.ports

@@ -1,14 +1,17 @@
 //! A connection asks the book, and its ports follow what that replies.
-ghost use Rattle.std.specs.Prelude.{◌≡◌, ◌≢◌, ℕ, MatchOption, None, IfOk};
+ghost use Rattle.std.specs.Prelude.{◌≡◌, ◌≢◌, ℕ, MatchOption, Option, None, IfOk};
 ghost use Rattle.slab.specs.Slab.{Updates};
 ghost use Rattle.mq_talk.specs.declared.book.Call.TheVariants.{Close};
 ghost use Rattle.mq_talk.specs.declared.note.Note.{Note as Said};
+ghost use Rattle.mq_talk.specs.Mails.{Boxes};
 ghost use Rattle.mq_talk.specs.Offices.{IsSound};
 ghost use Rattle.mq_machine.specs.Acting.{Outside, binder};
 ghost use Rattle.mq_machine.specs.State as machine;
 ghost use Rattle.mq_machine.specs.Want.{want_of, Ask};
+ghost use Rattle.mq_iptun.specs.Acts.{MayAsk};
 ghost use Rattle.mq_ports.specs.Tables.{IsBalanced};
-ghost use Rattle.mq_step.specs.Holds.{IsHeld, IsKnown, KeepsOthers, HasRoom, Seats, SeatsApart};
+ghost use Rattle.mq_held.specs.Answers.{IsPlain};
+ghost use Rattle.mq_step.specs.Holds.{HasInboxes, IsHeld, IsKnown, KeepsOthers, HasRoom, Seats, SeatsApart};
 ghost use Rattle.mq_step.specs.Sights.{SeesTable};
 ghost use Rattle.mq_step.specs.Wanted.{ActGives};
 ghost use Rattle.mq_step.specs.Closing.{CloseGives, HandsBack, Retires};
@@ -44,10 +47,12 @@ fn open<L, P: Ports, O: Office>(
 ) -> Result<Stepped, NoMemory>
     requires known { (s : machine.Held) × IsHeld P.P.most table.old.table held.old s × IsKnown (O.seen office.old) (O.seen office.old).actor s × (want_of s.conn ≡ Ask call) }
     requires opens { (tunnel : ℕ) → call ≢ Close tunnel }
+    requires plain { IsPlain call }
     ensures gives { (o n : Outside) → SeesTable P.P.holds P.P.counts (binder P.holds P.faults table.old.ports) table.old.table held.old.ports.items o
         → SeesTable P.P.holds P.P.counts (binder P.holds P.faults table.new.ports) table.new.table held.new.ports.items n
         → (s : machine.Held) → IsHeld P.P.most table.old.table held.old s → want_of s.conn ≡ Ask call
-        → ActGives o n (O.seen office.old) (O.seen office.new) (IsHeld P.P.most table.new.table held.new) s result }
+        → (count : ℕ) (mail : Option Boxes) → HasInboxes (O.seen office.old) count mail
+        → ActGives o n (O.seen office.old) (O.seen office.new) mail mail (IsHeld P.P.most table.new.table held.new) s result }
     ensures rest { held.new ≡ record held.old { conn = held.new.conn; ports = held.new.ports; bound = held.new.bound } }
     ensures stays { IfOk result (λ stepped. stepped ≡ Stepped.Quiet → held.new.ports.items ≡ held.old.ports.items) }
     ensures apart { SeatsApart held.new.ports.items }
@@ -81,9 +86,11 @@ fn close<L, P: Ports, O: Office>(
     ensures gives { (o n : Outside) → SeesTable P.P.holds P.P.counts (binder P.holds P.faults table.old.ports) table.old.table held.old.ports.items o
         → SeesTable P.P.holds P.P.counts (binder P.holds P.faults table.new.ports) table.new.table held.new.ports.items n
         → (s : machine.Held) → IsHeld P.P.most table.old.table held.old s → want_of s.conn ≡ Ask (Close tunnel)
-        → ActGives o n (O.seen office.old) (O.seen office.new) (IsHeld P.P.most table.new.table held.new) s result }
+        → (count : ℕ) (mail : Option Boxes) → HasInboxes (O.seen office.old) count mail
+        → ActGives o n (O.seen office.old) (O.seen office.new) mail mail (IsHeld P.P.most table.new.table held.new) s result }
     ensures closes { (s : machine.Held) → IsHeld P.P.most table.old.table held.old s → want_of s.conn ≡ Ask (Close tunnel)
-        → CloseGives (O.seen office.old) (O.seen office.new) (IsHeld P.P.most table.new.table held.new) tunnel s result
+        → (count : ℕ) (mail : Option Boxes) → HasInboxes (O.seen office.old) count mail
+        → CloseGives (O.seen office.old) (O.seen office.new) mail mail (IsHeld P.P.most table.new.table held.new) tunnel s result
         × HandsBack P.P.counts table.old.table held.old.ports.items tunnel (binder P.holds P.faults table.old.ports) (binder P.holds P.faults table.new.ports)
         × Retires table.old.table table.new.table held.old.ports.items held.new.ports.items tunnel }
     ensures rest { held.new ≡ record held.old { conn = held.new.conn; ports = held.new.ports } }
@@ -101,7 +108,7 @@ fn close<L, P: Ports, O: Office>(
     Ok(Stepped::Did(heard.note))
 }
 
-/// Asks the book what it wants to ask.
+/// Asks the book what it wants to ask: that a tunnel opens or closes, or for addresses or ways of one.
 pub fn ask<L, P: Ports, O: Office>(
     held: &mut Held<L>,
     call: Call,
@@ -109,12 +116,15 @@ pub fn ask<L, P: Ports, O: Office>(
     office: &mut O,
 ) -> Result<Stepped, NoMemory>
     requires known { (s : machine.Held) × IsHeld P.P.most table.old.table held.old s × IsKnown (O.seen office.old) (O.seen office.old).actor s × (want_of s.conn ≡ Ask call) }
+    requires may { MayAsk call }
     ensures gives { (o n : Outside) → SeesTable P.P.holds P.P.counts (binder P.holds P.faults table.old.ports) table.old.table held.old.ports.items o
         → SeesTable P.P.holds P.P.counts (binder P.holds P.faults table.new.ports) table.new.table held.new.ports.items n
         → (s : machine.Held) → IsHeld P.P.most table.old.table held.old s → want_of s.conn ≡ Ask call
-        → ActGives o n (O.seen office.old) (O.seen office.new) (IsHeld P.P.most table.new.table held.new) s result }
+        → (count : ℕ) (mail : Option Boxes) → HasInboxes (O.seen office.old) count mail
+        → ActGives o n (O.seen office.old) (O.seen office.new) mail mail (IsHeld P.P.most table.new.table held.new) s result }
     ensures closes { (s : machine.Held) → IsHeld P.P.most table.old.table held.old s → want_of s.conn ≡ Ask call → (tunnel : ℕ) → call ≡ Close tunnel
-        → CloseGives (O.seen office.old) (O.seen office.new) (IsHeld P.P.most table.new.table held.new) tunnel s result
+        → (count : ℕ) (mail : Option Boxes) → HasInboxes (O.seen office.old) count mail
+        → CloseGives (O.seen office.old) (O.seen office.new) mail mail (IsHeld P.P.most table.new.table held.new) tunnel s result
         × HandsBack P.P.counts table.old.table held.old.ports.items tunnel (binder P.holds P.faults table.old.ports) (binder P.holds P.faults table.new.ports)
         × Retires table.old.table table.new.table held.old.ports.items held.new.ports.items tunnel }
     ensures rest { held.new ≡ record held.old { conn = held.new.conn; ports = held.new.ports; bound = held.new.bound } }
@@ -129,6 +139,14 @@ pub fn ask<L, P: Ports, O: Office>(
 {
     match call {
         Call::Close { tunnel } => close(held, tunnel, table, office),
+        Call::Assign { tunnel, asked } => {
+            let note = held.tell(tunnel, Call::Assign { tunnel, asked }, office)?;
+            Ok(Stepped::Did(note))
+        }
+        Call::Advertise { tunnel, ranges } => {
+            let note = held.tell(tunnel, Call::Advertise { tunnel, ranges }, office)?;
+            Ok(Stepped::Did(note))
+        }
         other => open(held, other, table, office),
     }
 }

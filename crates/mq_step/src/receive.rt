@@ -10,7 +10,7 @@ ghost use Rattle.mq_machine.specs.Want.{want_of, may_wait};
 ghost use Rattle.mq_ports.specs.Tables.{IsBalanced};
 ghost use Rattle.mq_held.specs.declared.held.PortSeat.{PortSeat};
 ghost use Rattle.mq_step.specs.Rooms.{HasRooms};
-ghost use Rattle.mq_step.specs.Holds.{IsHeld, IsKnown, KeepsOthers, SeatsApart};
+ghost use Rattle.mq_step.specs.Holds.{HasInboxes, IsHeld, IsKnown, KeepsOthers, SeatsApart};
 ghost use Rattle.mq_step.specs.Whole.{Sees};
 ghost use Rattle.mq_step.specs.Gives.{Gives, ReadsWait, ReceivesWait, receives_of, receive_alone};
 ghost use Rattle.mq_step.specs.Vain.{AskedInVain};
@@ -21,28 +21,32 @@ use crate::want::act;
 use mq_held::{Held, ReceiveReady, Went, WriteReady};
 use mq_outside::Ports;
 use mq_ports::PortTable;
-use mq_talk::Office;
+use mq_talk::{Mail, Office};
 use mq_wire::NoMemory;
 use std::alloc::Global;
 
 /// Receives once on the port of the seat at this place. Where that failed, the tunnel closes.
-fn receive_at<L: WriteReady, P: Ports, O: Office>(
+fn receive_at<L: WriteReady, P: Ports, O: Office, M: Mail>(
     alloc: Global,
     held: &mut Held<L>,
     place: usize,
+    pump: u32,
     rooms: &mut Rooms,
     table: &mut PortTable<P>,
     office: &mut O,
+    mail: &mut M,
 ) -> Result<Stepped, NoMemory>
 where
     P::P: ReceiveReady,
     requires known { (s : machine.Held) × IsHeld P.P.most table.old.table held.old s × IsKnown (O.seen office.old) (O.seen office.old).actor s × (may_wait (want_of s.conn) ≡ true) }
+    requires inboxes { HasInboxes (O.seen office.old) (M.count mail.old) (M.boxes mail.old) }
+    requires pump { pump ≡ (O.seen office.old).config.workers }
     requires rooms { HasRooms rooms.old }
     ensures gives { (o n : Outside) → Sees L.holds L.counts P.P.holds P.P.counts (binder P.holds P.faults table.old.ports) table.old.table held.old o
         → Sees L.holds L.counts P.P.holds P.P.counts (binder P.holds P.faults table.new.ports) table.new.table held.new n
         → (s : machine.Held) → IsHeld P.P.most table.old.table held.old s → may_wait (want_of s.conn) ≡ true
         → (setup : Setup) (seat : PortSeat) → slice_get held.old.ports.items place ≡ Some seat
-        → Gives setup (receive_alone seat.tunnel) (ReceivesWait seat.tunnel) o n (O.seen office.old) (O.seen office.new) (IsHeld P.P.most table.new.table held.new) s result }
+        → Gives setup (receive_alone seat.tunnel) (ReceivesWait seat.tunnel) o n (O.seen office.old) (O.seen office.new) (M.boxes mail.old) (M.boxes mail.new) (IsHeld P.P.most table.new.table held.new) s result }
     ensures passed { IfOk result (λ stepped. stepped ≡ Stepped.Quiet → (seat : PortSeat) → slice_get held.old.ports.items place ≡ Some seat
         → AskedInVain P.P.holds P.P.past P.P.counts table.old.table table.new.table seat) }
     ensures rest { held.new ≡ record held.old { conn = held.new.conn; ports = held.new.ports; bound = held.new.bound } }
@@ -51,9 +55,11 @@ where
     ensures still { IfOk result (λ stepped. stepped ≡ Stepped.Quiet → (s : machine.Held) → IsHeld P.P.most table.old.table held.old s → may_wait (want_of s.conn) ≡ true → IsHeld P.P.most table.new.table held.new s) }
     ensures apart { SeatsApart held.new.ports.items }
     ensures ends { IfOk result (λ stepped. (said : Said) → stepped ≡ Stepped.Ended said → held.new.ports.items ≡ held.old.ports.items) }
-    ensures calm { IfOk result (λ stepped. stepped ≡ Stepped.Quiet → (O.seen office.new ≡ O.seen office.old) × (binder P.holds P.faults table.new.ports ≡ binder P.holds P.faults table.old.ports)) }
+    ensures calm { IfOk result (λ stepped. stepped ≡ Stepped.Quiet → (O.seen office.new ≡ O.seen office.old) × (binder P.holds P.faults table.new.ports ≡ binder P.holds P.faults table.old.ports) × (M.boxes mail.new ≡ M.boxes mail.old)) }
     ensures actor { (O.seen office.new).actor ≡ (O.seen office.old).actor }
     ensures sound { IsSound (O.seen office.old) → IsSound (O.seen office.new) }
+    ensures mail { (M.actor mail.new ≡ M.actor mail.old) × (M.count mail.new ≡ M.count mail.old) }
+    ensures inboxes { HasInboxes (O.seen office.new) (M.count mail.new) (M.boxes mail.new) }
     ensures others { KeepsOthers held.old held.new table.old.table table.new.table }
     ensures balanced { IsBalanced P.P.place (P.past table.old.ports) table.old.table.slots → IsBalanced P.P.place (P.past table.new.ports) table.new.table.slots }
 {
@@ -62,7 +68,7 @@ where
     };
     match held.receive(alloc, seat, &mut rooms.datagrams, table)? {
         Went::Waits => Ok(Stepped::Quiet),
-        Went::Failed => act(held, table, office),
+        Went::Failed => act(held, pump, table, office, mail),
         Went::Did(note) => {
             held.count(place);
             Ok(Stepped::Did(note))
@@ -71,35 +77,41 @@ where
 }
 
 /// Receives once on the first port that has a datagram.
-pub fn receive<L: WriteReady, P: Ports, O: Office>(
+pub fn receive<L: WriteReady, P: Ports, O: Office, M: Mail>(
     alloc: Global,
     held: &mut Held<L>,
+    pump: u32,
     rooms: &mut Rooms,
     table: &mut PortTable<P>,
     office: &mut O,
+    mail: &mut M,
 ) -> Result<Stepped, NoMemory>
 where
     P::P: ReceiveReady,
     requires known { (s : machine.Held) × IsHeld P.P.most table.old.table held.old s × IsKnown (O.seen office.old) (O.seen office.old).actor s × (may_wait (want_of s.conn) ≡ true) }
+    requires inboxes { HasInboxes (O.seen office.old) (M.count mail.old) (M.boxes mail.old) }
+    requires pump { pump ≡ (O.seen office.old).config.workers }
     requires rooms { HasRooms rooms.old }
     ensures gives { (o n : Outside) → Sees L.holds L.counts P.P.holds P.P.counts (binder P.holds P.faults table.old.ports) table.old.table held.old o
         → Sees L.holds L.counts P.P.holds P.P.counts (binder P.holds P.faults table.new.ports) table.new.table held.new n
         → (s : machine.Held) → IsHeld P.P.most table.old.table held.old s → may_wait (want_of s.conn) ≡ true → (setup : Setup)
-        → Gives setup receives_of ReadsWait o n (O.seen office.old) (O.seen office.new) (IsHeld P.P.most table.new.table held.new) s result }
+        → Gives setup receives_of ReadsWait o n (O.seen office.old) (O.seen office.new) (M.boxes mail.old) (M.boxes mail.new) (IsHeld P.P.most table.new.table held.new) s result }
     ensures rest { held.new ≡ record held.old { conn = held.new.conn; ports = held.new.ports; bound = held.new.bound } }
     ensures rooms { HasRooms rooms.new }
     ensures stays { IfOk result (λ stepped. stepped ≡ Stepped.Quiet → held.new.ports.items ≡ held.old.ports.items) }
     ensures still { IfOk result (λ stepped. stepped ≡ Stepped.Quiet → (s : machine.Held) → IsHeld P.P.most table.old.table held.old s → may_wait (want_of s.conn) ≡ true → IsHeld P.P.most table.new.table held.new s) }
     ensures apart { SeatsApart held.new.ports.items }
     ensures ends { IfOk result (λ stepped. (said : Said) → stepped ≡ Stepped.Ended said → held.new.ports.items ≡ held.old.ports.items) }
-    ensures calm { IfOk result (λ stepped. stepped ≡ Stepped.Quiet → (O.seen office.new ≡ O.seen office.old) × (binder P.holds P.faults table.new.ports ≡ binder P.holds P.faults table.old.ports)) }
+    ensures calm { IfOk result (λ stepped. stepped ≡ Stepped.Quiet → (O.seen office.new ≡ O.seen office.old) × (binder P.holds P.faults table.new.ports ≡ binder P.holds P.faults table.old.ports) × (M.boxes mail.new ≡ M.boxes mail.old)) }
     ensures actor { (O.seen office.new).actor ≡ (O.seen office.old).actor }
     ensures sound { IsSound (O.seen office.old) → IsSound (O.seen office.new) }
+    ensures mail { (M.actor mail.new ≡ M.actor mail.old) × (M.count mail.new ≡ M.count mail.old) }
+    ensures inboxes { HasInboxes (O.seen office.new) (M.count mail.new) (M.boxes mail.new) }
     ensures others { KeepsOthers held.old held.new table.old.table table.new.table }
     ensures balanced { IsBalanced P.P.place (P.past table.old.ports) table.old.table.slots → IsBalanced P.P.place (P.past table.new.ports) table.new.table.slots }
 {
     for place in 0..held.ports.len() {
-        match receive_at(alloc, held, place, rooms, table, office)? {
+        match receive_at(alloc, held, place, pump, rooms, table, office, mail)? {
             Stepped::Quiet => {}
             stepped => return Ok(stepped),
         }

@@ -6,9 +6,9 @@ ghost use Rattle.mq_talk.specs.Offices.{IsSound};
 ghost use Rattle.mq_machine.specs.Acting.{Outside, binder};
 ghost use Rattle.mq_machine.specs.State as machine;
 ghost use Rattle.mq_machine.specs.Want.{want_of, Ask};
-ghost use Rattle.mq_conn.specs.Wants.{IsWant};
+ghost use Rattle.mq_conn.specs.Wants.{IsWant, MayWant};
 ghost use Rattle.mq_ports.specs.Tables.{IsBalanced};
-ghost use Rattle.mq_step.specs.Holds.{IsHeld, IsKnown, KeepsOthers, SeatsApart};
+ghost use Rattle.mq_step.specs.Holds.{HasInboxes, IsHeld, IsKnown, KeepsOthers, SeatsApart};
 ghost use Rattle.mq_step.specs.Sights.{SeesTable};
 ghost use Rattle.mq_step.specs.Wanted.{ActGives};
 ghost use Rattle.mq_step.specs.Closing.{CloseGives, HandsBack, Retires};
@@ -21,32 +21,39 @@ use mq_conn::Want;
 use mq_held::Held;
 use mq_outside::Ports;
 use mq_ports::PortTable;
-use mq_talk::{End, Note, Office};
+use mq_talk::{End, Mail, Note, Office};
 use mq_wire::NoMemory;
 
-/// Does what it wants, where that can be done now.
-fn answer<L, P: Ports, O: Office>(
+/// Does what it wants, where that can be done now. The pump has the inbox of this number.
+fn answer<L, P: Ports, O: Office, M: Mail>(
     held: &mut Held<L>,
     want: Want,
+    pump: u32,
     table: &mut PortTable<P>,
     office: &mut O,
+    mail: &mut M,
 ) -> Result<Stepped, NoMemory>
     requires known { (s : machine.Held) × IsHeld P.P.most table.old.table held.old s × IsKnown (O.seen office.old) (O.seen office.old).actor s × IsWant want (want_of s.conn) }
+    requires may { MayWant want }
+    requires inboxes { HasInboxes (O.seen office.old) (M.count mail.old) (M.boxes mail.old) }
+    requires pump { pump ≡ (O.seen office.old).config.workers }
     ensures gives { (o n : Outside) → SeesTable P.P.holds P.P.counts (binder P.holds P.faults table.old.ports) table.old.table held.old.ports.items o
         → SeesTable P.P.holds P.P.counts (binder P.holds P.faults table.new.ports) table.new.table held.new.ports.items n
         → (s : machine.Held) → IsHeld P.P.most table.old.table held.old s → IsWant want (want_of s.conn)
-        → ActGives o n (O.seen office.old) (O.seen office.new) (IsHeld P.P.most table.new.table held.new) s result }
+        → ActGives o n (O.seen office.old) (O.seen office.new) (M.boxes mail.old) (M.boxes mail.new) (IsHeld P.P.most table.new.table held.new) s result }
     ensures closes { (s : machine.Held) → IsHeld P.P.most table.old.table held.old s → IsWant want (want_of s.conn) → (tunnel : ℕ) → want_of s.conn ≡ Ask (Close tunnel)
-        → CloseGives (O.seen office.old) (O.seen office.new) (IsHeld P.P.most table.new.table held.new) tunnel s result
+        → CloseGives (O.seen office.old) (O.seen office.new) (M.boxes mail.old) (M.boxes mail.new) (IsHeld P.P.most table.new.table held.new) tunnel s result
         × HandsBack P.P.counts table.old.table held.old.ports.items tunnel (binder P.holds P.faults table.old.ports) (binder P.holds P.faults table.new.ports)
         × Retires table.old.table table.new.table held.old.ports.items held.new.ports.items tunnel }
     ensures rest { held.new ≡ record held.old { conn = held.new.conn; ports = held.new.ports; bound = held.new.bound } }
     ensures stays { IfOk result (λ stepped. stepped ≡ Stepped.Quiet → held.new.ports.items ≡ held.old.ports.items) }
     ensures apart { SeatsApart held.new.ports.items }
     ensures ends { IfOk result (λ stepped. (said : Said) → stepped ≡ Stepped.Ended said → held.new.ports.items ≡ held.old.ports.items) }
-    ensures calm { IfOk result (λ stepped. stepped ≡ Stepped.Quiet → (O.seen office.new ≡ O.seen office.old) × (binder P.holds P.faults table.new.ports ≡ binder P.holds P.faults table.old.ports)) }
+    ensures calm { IfOk result (λ stepped. stepped ≡ Stepped.Quiet → (O.seen office.new ≡ O.seen office.old) × (binder P.holds P.faults table.new.ports ≡ binder P.holds P.faults table.old.ports) × (M.boxes mail.new ≡ M.boxes mail.old)) }
     ensures actor { (O.seen office.new).actor ≡ (O.seen office.old).actor }
     ensures sound { IsSound (O.seen office.old) → IsSound (O.seen office.new) }
+    ensures mail { (M.actor mail.new ≡ M.actor mail.old) × (M.count mail.new ≡ M.count mail.old) }
+    ensures inboxes { HasInboxes (O.seen office.new) (M.count mail.new) (M.boxes mail.new) }
     ensures others { KeepsOthers held.old held.new table.old.table table.new.table }
     ensures balanced { IsBalanced P.P.place (P.past table.old.ports) table.old.table.slots → IsBalanced P.P.place (P.past table.new.ports) table.new.table.slots }
 {
@@ -66,39 +73,44 @@ fn answer<L, P: Ports, O: Office>(
             conn: held.number,
             why,
         })),
-        // A tunnel for UDP wants no verdict and no push.
-        Want::Judge { .. } => Ok(Stepped::Quiet),
-        Want::Push { .. } => Ok(Stepped::Quiet),
+        Want::Judge { tunnel, flow, .. } => Ok(Stepped::Did(held.judge(tunnel, &flow, office))),
+        Want::Push { .. } => Ok(Stepped::Did(held.push(pump, mail))),
     }
 }
 
 /// Does what the connection wants, where that can be done now.
-fn act_now<L, P: Ports, O: Office>(
+fn act_now<L, P: Ports, O: Office, M: Mail>(
     held: &mut Held<L>,
+    pump: u32,
     table: &mut PortTable<P>,
     office: &mut O,
+    mail: &mut M,
 ) -> Result<Stepped, NoMemory>
     requires known { (s : machine.Held) × IsHeld P.P.most table.old.table held.old s × IsKnown (O.seen office.old) (O.seen office.old).actor s }
+    requires inboxes { HasInboxes (O.seen office.old) (M.count mail.old) (M.boxes mail.old) }
+    requires pump { pump ≡ (O.seen office.old).config.workers }
     ensures gives { (o n : Outside) → SeesTable P.P.holds P.P.counts (binder P.holds P.faults table.old.ports) table.old.table held.old.ports.items o
         → SeesTable P.P.holds P.P.counts (binder P.holds P.faults table.new.ports) table.new.table held.new.ports.items n
         → (s : machine.Held) → IsHeld P.P.most table.old.table held.old s
-        → ActGives o n (O.seen office.old) (O.seen office.new) (IsHeld P.P.most table.new.table held.new) s result }
+        → ActGives o n (O.seen office.old) (O.seen office.new) (M.boxes mail.old) (M.boxes mail.new) (IsHeld P.P.most table.new.table held.new) s result }
     ensures closes { (s : machine.Held) → IsHeld P.P.most table.old.table held.old s → (tunnel : ℕ) → want_of s.conn ≡ Ask (Close tunnel)
-        → CloseGives (O.seen office.old) (O.seen office.new) (IsHeld P.P.most table.new.table held.new) tunnel s result
+        → CloseGives (O.seen office.old) (O.seen office.new) (M.boxes mail.old) (M.boxes mail.new) (IsHeld P.P.most table.new.table held.new) tunnel s result
         × HandsBack P.P.counts table.old.table held.old.ports.items tunnel (binder P.holds P.faults table.old.ports) (binder P.holds P.faults table.new.ports)
         × Retires table.old.table table.new.table held.old.ports.items held.new.ports.items tunnel }
     ensures rest { held.new ≡ record held.old { conn = held.new.conn; ports = held.new.ports; bound = held.new.bound } }
     ensures stays { IfOk result (λ stepped. stepped ≡ Stepped.Quiet → held.new.ports.items ≡ held.old.ports.items) }
     ensures apart { SeatsApart held.new.ports.items }
     ensures ends { IfOk result (λ stepped. (said : Said) → stepped ≡ Stepped.Ended said → held.new.ports.items ≡ held.old.ports.items) }
-    ensures calm { IfOk result (λ stepped. stepped ≡ Stepped.Quiet → (O.seen office.new ≡ O.seen office.old) × (binder P.holds P.faults table.new.ports ≡ binder P.holds P.faults table.old.ports)) }
+    ensures calm { IfOk result (λ stepped. stepped ≡ Stepped.Quiet → (O.seen office.new ≡ O.seen office.old) × (binder P.holds P.faults table.new.ports ≡ binder P.holds P.faults table.old.ports) × (M.boxes mail.new ≡ M.boxes mail.old)) }
     ensures actor { (O.seen office.new).actor ≡ (O.seen office.old).actor }
     ensures sound { IsSound (O.seen office.old) → IsSound (O.seen office.new) }
+    ensures mail { (M.actor mail.new ≡ M.actor mail.old) × (M.count mail.new ≡ M.count mail.old) }
+    ensures inboxes { HasInboxes (O.seen office.new) (M.count mail.new) (M.boxes mail.new) }
     ensures others { KeepsOthers held.old held.new table.old.table table.new.table }
     ensures balanced { IsBalanced P.P.place (P.past table.old.ports) table.old.table.slots → IsBalanced P.P.place (P.past table.new.ports) table.new.table.slots }
 {
     match held.conn.next() {
-        Ok(want) => answer(held, want, table, office),
+        Ok(want) => answer(held, want, pump, table, office, mail),
         Err(refused) => {
             held.conn.fail(End::NoMemory);
             Err(refused)
@@ -107,33 +119,40 @@ fn act_now<L, P: Ports, O: Office>(
 }
 
 /// Does what the connection wants, where that can be done now. Where memory is refused, the connection is ending. One that wants
-/// nothing is quiet, which is asked first: it is so most of the time.
-pub fn act<L, P: Ports, O: Office>(
+/// nothing is quiet, which is asked first: it is so most of the time. The pump has the inbox of this number, behind those of the
+/// workers.
+pub fn act<L, P: Ports, O: Office, M: Mail>(
     held: &mut Held<L>,
+    pump: u32,
     table: &mut PortTable<P>,
     office: &mut O,
+    mail: &mut M,
 ) -> Result<Stepped, NoMemory>
     requires known { (s : machine.Held) × IsHeld P.P.most table.old.table held.old s × IsKnown (O.seen office.old) (O.seen office.old).actor s }
+    requires inboxes { HasInboxes (O.seen office.old) (M.count mail.old) (M.boxes mail.old) }
+    requires pump { pump ≡ (O.seen office.old).config.workers }
     ensures gives { (o n : Outside) → SeesTable P.P.holds P.P.counts (binder P.holds P.faults table.old.ports) table.old.table held.old.ports.items o
         → SeesTable P.P.holds P.P.counts (binder P.holds P.faults table.new.ports) table.new.table held.new.ports.items n
         → (s : machine.Held) → IsHeld P.P.most table.old.table held.old s
-        → ActGives o n (O.seen office.old) (O.seen office.new) (IsHeld P.P.most table.new.table held.new) s result }
+        → ActGives o n (O.seen office.old) (O.seen office.new) (M.boxes mail.old) (M.boxes mail.new) (IsHeld P.P.most table.new.table held.new) s result }
     ensures closes { (s : machine.Held) → IsHeld P.P.most table.old.table held.old s → (tunnel : ℕ) → want_of s.conn ≡ Ask (Close tunnel)
-        → CloseGives (O.seen office.old) (O.seen office.new) (IsHeld P.P.most table.new.table held.new) tunnel s result
+        → CloseGives (O.seen office.old) (O.seen office.new) (M.boxes mail.old) (M.boxes mail.new) (IsHeld P.P.most table.new.table held.new) tunnel s result
         × HandsBack P.P.counts table.old.table held.old.ports.items tunnel (binder P.holds P.faults table.old.ports) (binder P.holds P.faults table.new.ports)
         × Retires table.old.table table.new.table held.old.ports.items held.new.ports.items tunnel }
     ensures rest { held.new ≡ record held.old { conn = held.new.conn; ports = held.new.ports; bound = held.new.bound } }
     ensures stays { IfOk result (λ stepped. stepped ≡ Stepped.Quiet → held.new.ports.items ≡ held.old.ports.items) }
     ensures apart { SeatsApart held.new.ports.items }
     ensures ends { IfOk result (λ stepped. (said : Said) → stepped ≡ Stepped.Ended said → held.new.ports.items ≡ held.old.ports.items) }
-    ensures calm { IfOk result (λ stepped. stepped ≡ Stepped.Quiet → (O.seen office.new ≡ O.seen office.old) × (binder P.holds P.faults table.new.ports ≡ binder P.holds P.faults table.old.ports)) }
+    ensures calm { IfOk result (λ stepped. stepped ≡ Stepped.Quiet → (O.seen office.new ≡ O.seen office.old) × (binder P.holds P.faults table.new.ports ≡ binder P.holds P.faults table.old.ports) × (M.boxes mail.new ≡ M.boxes mail.old)) }
     ensures actor { (O.seen office.new).actor ≡ (O.seen office.old).actor }
     ensures sound { IsSound (O.seen office.old) → IsSound (O.seen office.new) }
+    ensures mail { (M.actor mail.new ≡ M.actor mail.old) × (M.count mail.new ≡ M.count mail.old) }
+    ensures inboxes { HasInboxes (O.seen office.new) (M.count mail.new) (M.boxes mail.new) }
     ensures others { KeepsOthers held.old held.new table.old.table table.new.table }
     ensures balanced { IsBalanced P.P.place (P.past table.old.ports) table.old.table.slots → IsBalanced P.P.place (P.past table.new.ports) table.new.table.slots }
 {
     if !held.conn.wants() {
         return Ok(Stepped::Quiet);
     }
-    act_now(held, table, office)
+    act_now(held, pump, table, office, mail)
 }

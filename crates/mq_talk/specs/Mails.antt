@@ -1,7 +1,9 @@
 -- The inboxes of the actors: one for each worker, and the last is the pump's.
 use Rattle.std.specs.Prelude.{◌≡◌, ⊤, ℕ, ◌≤◌, Bool, true, false, List, [], ◌∷◌, ◌++◌, length, nat_lt, slice_get, slice_set, Option, Some, None, IsSome}
-use Rattle.std.specs.Option.{unwrap_or}
+use Rattle.std.specs.Option.{is_some, unwrap_or}
 use Rattle.mq_talk.specs.declared.place.Parcel.{Parcel}
+use Rattle.mq_talk.specs.declared.place.Place.{Place}
+use Rattle.mq_talk.specs.declared.place.Place.TheVariants as place
 use Rattle.mq_talk.specs.declared.place.Pushed.{Pushed}
 use Rattle.mq_talk.specs.declared.place.Pushed.TheVariants as pushed
 use Rattle.mq_talk.specs.Packets.{flow_of}
@@ -28,10 +30,23 @@ abbrev pub IsTold : {A : Type 0} → Option A → A → Type 0
 IsTold None a = ⊤
 IsTold (Some told) a = a ≡ told
 
--- a parcel has a well-formed IP packet
-pub record IsParcel (parcel : Parcel) : Type 0 where
-  pub size : length parcel.packet ≤ 65535
-  pub packet : IsSome (flow_of parcel.packet)
+-- a well-formed IP packet
+pub record IsPacket (bytes : List ℕ) : Type 0 where
+  pub size : length bytes ≤ 65535
+  pub packet : IsSome (flow_of bytes)
+
+-- a parcel has one
+abbrev pub IsParcel : Parcel → Type 0
+IsParcel parcel = IsPacket parcel.packet
+
+-- the inbox of a place, where so many workers have theirs before the pump's
+abbrev pub inbox_in : ℕ → Place → ℕ
+inbox_in workers (place.Tunnel tunnel actor) = actor
+inbox_in workers place.Net = workers
+
+-- there is one for this place
+abbrev pub HasInbox : ℕ → Place → Type 0
+HasInbox workers to = inbox_in workers to ≤ workers
 
 -- a push is taken where the inbox has room, and else handed back
 abbrev pub PushDoes : Pushed → Boxes → ℕ → Parcel → Boxes → Type 0
@@ -45,6 +60,8 @@ pub record PushGives (count : ℕ) (old : Option Boxes) (to : ℕ) (parcel : Par
   pub size : length before ≡ count
   pub was : IsTold old before
   pub is : IsTold new after
+  -- a mail that tells goes on so, and so does one that doesn't
+  pub tells : is_some new ≡ is_some old
   pub does : PushDoes answer before to parcel after
 
 -- a pop takes the front of the own inbox, and nothing where that is empty
@@ -58,4 +75,5 @@ pub record PopGives (count : ℕ) (old : Option Boxes) (of : ℕ) (answer : Opti
   pub size : length before ≡ count
   pub was : IsTold old before
   pub is : IsTold new after
+  pub tells : is_some new ≡ is_some old
   pub does : PopDoes answer before of after

@@ -8,7 +8,7 @@ use Rattle.std.proofs.lemmas.List.{map-append}
 use Rattle.std.proofs.lemmas.List.Folds.{find-append}
 use Rattle.std.proofs.Math.Seq.{drop-append_seam, take-append_seam}
 use Rattle.mq_machine.specs.State.{State, Worker}
-use Rattle.mq_machine.specs.Turn.{Actor, WorkerOf, ThePump, Quiet, has_turn}
+use Rattle.mq_machine.specs.Turn.{Actor, WorkerOf, ThePump, has_turn}
 use Rattle.mq_play.specs.Play.{Fate, Until, TheEnd, SomeStop, Goes, up_to, actors_of, place_behind, more_text}
 use Rattle.mq_play.specs.Text.{printed, More}
 use Rattle.mq_top.specs.Playing.{IsAt, Acts, StepTo, FirstTo, GoesTo, IsCutOff, workers_from}

@@ -6,6 +6,7 @@ mod limits;
 mod lines;
 mod many;
 mod network;
+mod packets;
 mod requests;
 mod rows;
 

@@ -19,6 +19,7 @@ use Rattle.mq_outside.specs.Counts.{PortCounts, no_link_counts, no_port_counts}
 use Rattle.mq_outside.specs.Nets.{Arrival, NetHolds}
 use Rattle.mq_machine.specs.State.{Told, Held, Worker, Pump, Orders, Shared, State}
 use Rattle.mq_machine.specs.Shared.{inbox_of}
+use Rattle.mq_machine.specs.Placing.{ArePlaced}
 use Rattle.mq_machine.specs.Acting.{Outside, Known, IsOpen, HasTunnel, Meets, NetRefills, PumpGave, PumpGives, PumpKnown, PumpLeaves, PumpSight, PumpSteps, bare_pump, shared_sight}
 use Rattle.mq_machine.specs.Turn.{ThePump, PumpTry, PushHeld, SendHeld, SendNext, Receives, PumpNext, PumpTurn, IsMet, IsReceived, Turn, pump_try, parcel_pushed, net_sent, net_popped, net_judged, with_arrivals, last_of}
 use Rattle.mq_mem.specs.Mails.{Mail as MailOf}
@@ -120,6 +121,7 @@ module _ (o : Outside) (seen now : Seen) (boxes after : Boxes) (config : now.con
     pump = subst (λ (c : Config). w.setup.pump ≡ c.workers) (sym config) known.pump;
     tunnels = subst (λ (es : List Entry). (tunnel conn stream : ℕ) (goal : Goal) → HasTunnel w tunnel conn stream goal ↔ IsOpen es w.id tunnel conn stream goal) (sym entries) known.tunnels;
     last = subst (λ (es : List Entry). All (λ (h : Held). h.conn.next_tunnel ≤ length es) w.conns) (sym entries) known.last;
+    places = subst (λ (c : Config). All (λ (h : Held). ArePlaced c.workers h.conn.due) w.conns) (sym config) known.places;
     boxes = λ bs is. let same : after ≡ bs = cc in ap (λ (x : Boxes). length x) (sym same) ∙ size ∙ known.boxes boxes refl ∙ ap (λ (c : Config). c.workers + 1) (sym config);
   }
 

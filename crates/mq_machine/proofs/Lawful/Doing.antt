@@ -35,7 +35,7 @@ use Rattle.mq_machine.specs.Http2 as http2
 use Rattle.mq_machine.specs.Done.{is_on, is_begun, refused, closed, first_waiting, opened, dropped, judged, sent, value, stream_done, tunnel_done, act_done, due_done, ending_done, done_by, done}
 use Rattle.mq_machine.specs.Steps.{settled_note}
 use Rattle.mq_h2.specs.Laws.{may_come}
-use Rattle.mq_machine.specs.Lawful.{IsServed, IsAskedOf, has_on, kind_on, with_one, Follows, is_open, NoOpens, begins_on, kind_behind, IsSeated, has_number, IsFresh, IsOfZero, IsOneRequest, IsUsed, Http2Fits, Fits, Loose, IsLoose, IsLawful}
+use Rattle.mq_machine.specs.Lawful.{IsAskedOf, has_on, kind_on, with_one, Follows, is_open, NoOpens, begins_on, kind_behind, IsSeated, has_number, IsFresh, IsOfZero, IsOneRequest, IsUsed, Http2Fits, Fits, Loose, IsLoose, IsLawful}
 use Rattle.mq_machine.proofs.Lawful.Lists.{either, either_way, itself, each_filter, each_append, each_so, each_kept, any_filter, none_dropped, follows_same, some_asked, asked_reason, kept, follows_kept, Loses, lost_other, follows_lost, lost_one, begins_kept, behind_kept, spends_kept, none_kept, zero_request, In, found_in, in_each, kind_there, none_there, some_kind, kind_one_more, alone_one_more, numbered_one_more, apart, alone_less, numbered_less, loses_tunnel}
 use Rattle.mq_machine.proofs.Lawful.Acts.{keeps_out, keeps_grants, keeps_refuses, keeps_closes, keeps_fits}
 use Rattle.mq_machine.proofs.Lawful.Steps.{settle_lawful, waiting_loose}
@@ -75,8 +75,6 @@ stream_rest id a rest ts ss f h = record {
   seated = h.seated;
   alone = h.alone;
   numbered = h.numbered;
-  served = h.served;
-  asked = h.asked;
   front = fits_rest (act.OfStream id a) rest ts ss f (λ one. (zero_request rest one.1, used_rest ts rest (ap (has_on ts) (sym one.0) ∙ sym (kind_there ts id) ∙ some_asked (kind_on ts id) a h.follows.0))) (λ k is. is) h.front;
 }
 
@@ -95,8 +93,6 @@ stream_other id a b rest ts ss f asked h = record {
   seated = h.seated;
   alone = h.alone;
   numbered = h.numbered;
-  served = h.served;
-  asked = h.asked;
   front = stream_front id a b rest ts ss f h.front;
 }
 
@@ -108,8 +104,6 @@ reset_rest id code rest ts ss f h = record {
   seated = h.seated;
   alone = h.alone;
   numbered = h.numbered;
-  served = h.served;
-  asked = h.asked;
   front = fits_rest (act.Reset id code) rest ts ss f (λ one. absurd one) (λ k is. is) h.front;
 }
 
@@ -122,13 +116,11 @@ bound_front id goal rest ts ss (OverHttp2 s) h = record { tunnels = h.tunnels; d
 bound : (id : ℕ) (goal : Goal) (rest : List Due) (ts : List Tunnel) (ss : List Stream) (f : Front) → Loose None (due.Do (act.Bind id goal) ∷ rest) ts ss f → Loose None (due.Do (act.Open id goal) ∷ rest) ts ss f
 bound id goal rest ts ss f h = record {
   over = tt;
-  follows = h.follows;
+  follows = (h.follows.0, h.follows.2);
   opens = h.opens;
   seated = h.seated;
   alone = h.alone;
   numbered = h.numbered;
-  served = h.served;
-  asked = h.asked;
   front = bound_front id goal rest ts ss f h.front;
 }
 
@@ -156,7 +148,7 @@ begins_follows id (act.Bind on goal) live rest b h =
     subst P b (follows_lost on (kind_of goal) (with_one on (kind_of goal) live) live (ap (λ t. cond t (Some (kind_of goal)) (live on)) (itself on)) (lost_one on (kind_of goal) live h.0) rest h.2)
 begins_follows id (act.Open on goal) live rest b h =
     let P : ℕ → Type 0 = λ i. Follows live (kept i rest) in
-    subst P b (follows_lost on (kind_of goal) (with_one on (kind_of goal) live) live (ap (λ t. cond t (Some (kind_of goal)) (live on)) (itself on)) (lost_one on (kind_of goal) live h.0) rest h.2)
+    subst P b (follows_lost on (kind_of goal) (with_one on (kind_of goal) live) live (ap (λ t. cond t (Some (kind_of goal)) (live on)) (itself on)) (lost_one on (kind_of goal) live h.0) rest h.1)
 begins_follows id (act.Refuse on status rule) live rest b h = follows_kept id live rest h
 begins_follows id (act.Reset on code) live rest b h = absurd b
 begins_follows id (act.OfStream on a) live rest b h = absurd b
@@ -209,8 +201,6 @@ refused_loose d id status rule a rest OverHttp1 b h =
       seated = tt;
       alone = h.alone;
       numbered = tt;
-      served = h.served;
-      asked = each_filter (λ (s : Stream). IsServed s.goal) (λ (s : Stream). not (s.id == id)) d.streams h.asked;
       front = record {
         due = subst IsOneRequest (sym none) tt;
         used = tt;
@@ -227,8 +217,6 @@ refused_loose d id status rule a rest (OverHttp2 x) b h =
       seated = begins_seated id a rest d.tunnels d.streams b h.seated;
       alone = h.alone;
       numbered = h.numbered;
-      served = h.served;
-      asked = each_filter (λ (s : Stream). IsServed s.goal) (λ (s : Stream). not (s.id == id)) d.streams h.asked;
       front = keeps_fits x (record y { out = [] }) (kept id rest) d.tunnels (keeps_out x y (keeps_refuses id status x)) (kept_fits id a rest d.tunnels d.tunnels x (λ ts. ts) h.front);
     }
 
@@ -267,13 +255,11 @@ opened_loose d tunnel id goal routes rest OverHttp1 fresh h =
     let ts = d.tunnels in
     record {
       over = tt;
-      follows = follows_same (with_one id (kind_of goal) (kind_on ts)) (kind_on (ts ++ t ∷ [])) (kind_one_more t ts h.follows.0) rest h.follows.2;
+      follows = follows_same (with_one id (kind_of goal) (kind_on ts)) (kind_on (ts ++ t ∷ [])) (kind_one_more t ts h.follows.0) rest h.follows.1;
       opens = none_dropped is_open rest h.opens;
       seated = one_more_seated t rest ts d.streams h.follows.0 h.seated;
       alone = alone_one_more t ts (none_there ts id h.follows.0) h.alone;
       numbered = numbered_one_more t ts fresh h.numbered;
-      served = each_append (λ (t : Tunnel). IsServed t.goal) ts (t ∷ []) h.served (h.follows.1, tt);
-      asked = h.asked;
       front = record {
         due = zero_request rest h.front.due.1;
         used = used_rest (ts ++ t ∷ []) rest (opened_on t ts h.follows.0 h.front.due.0);
@@ -287,13 +273,11 @@ opened_loose d tunnel id goal routes rest (OverHttp2 x) fresh h =
     let y = http2.grants id x in
     record {
       over = tt;
-      follows = follows_same (with_one id (kind_of goal) (kind_on ts)) (kind_on (ts ++ t ∷ [])) (kind_one_more t ts h.follows.0) rest h.follows.2;
+      follows = follows_same (with_one id (kind_of goal) (kind_on ts)) (kind_on (ts ++ t ∷ [])) (kind_one_more t ts h.follows.0) rest h.follows.1;
       opens = none_dropped is_open rest h.opens;
       seated = one_more_seated t rest ts d.streams h.follows.0 h.seated;
       alone = alone_one_more t ts (none_there ts id h.follows.0) h.alone;
       numbered = numbered_one_more t ts fresh h.numbered;
-      served = each_append (λ (t : Tunnel). IsServed t.goal) ts (t ∷ []) h.served (h.follows.1, tt);
-      asked = h.asked;
       front = keeps_fits x (record y { out = [] }) rest (ts ++ t ∷ []) (keeps_out x y (keeps_grants id x)) (opened_front t goal rest ts x h.front);
     }
 
@@ -328,8 +312,6 @@ closed_http1 e t a rest ts ss zero h =
       seated = tt;
       alone = alone_less (λ (u : Tunnel). not (u.id == t.id)) ts h.alone;
       numbered = tt;
-      served = each_filter (λ (t : Tunnel). IsServed t.goal) (λ (u : Tunnel). not (u.id == t.id)) ts h.served;
-      asked = each_filter (λ (s : Stream). IsServed s.goal) (λ (s : Stream). not (s.id == t.stream)) ss h.asked;
       front = record {
         due = subst IsOneRequest (sym none) tt;
         used = tt;
@@ -360,8 +342,6 @@ closed_loose d t a reason rest (OverHttp2 x) other i h =
       seated = less_seated t rest ts d.streams lost h.seated;
       alone = alone_less (λ (u : Tunnel). not (u.id == t.id)) ts h.alone;
       numbered = numbered_less (λ (u : Tunnel). not (u.id == t.id)) ts h.numbered;
-      served = each_filter (λ (t : Tunnel). IsServed t.goal) (λ (u : Tunnel). not (u.id == t.id)) ts h.served;
-      asked = each_filter (λ (s : Stream). IsServed s.goal) (λ (s : Stream). not (s.id == t.stream)) d.streams h.asked;
       front = keeps_fits x (record y { out = [] }) (kept t.stream rest) (apart t.id ts) (keeps_out x y (keeps_closes t.stream (is_begun t.waiting) reason x))
           (kept_fits t.stream (act.OfStream t.stream a) rest ts (apart t.id ts) x (λ all. each_filter (λ (t : Tunnel). may_come t.stream x ≡ false) (λ (u : Tunnel). not (u.id == t.id)) ts all) h.front);
     }
@@ -380,8 +360,6 @@ closing_loose d t e us OverHttp1 h = record {
   seated = tt;
   alone = alone_less (λ (u : Tunnel). not (u.id == t.id)) (t ∷ us) h.alone;
   numbered = tt;
-  served = each_filter (λ (t : Tunnel). IsServed t.goal) (λ (u : Tunnel). not (u.id == t.id)) (t ∷ us) h.served;
-  asked = each_filter (λ (s : Stream). IsServed s.goal) (λ (s : Stream). not (s.id == t.stream)) d.streams h.asked;
   front = record {
     due = tt;
     used = tt;
@@ -396,8 +374,6 @@ closing_loose d t e us (OverHttp2 x) h = record {
   seated = tt;
   alone = alone_less (λ (u : Tunnel). not (u.id == t.id)) (t ∷ us) h.alone;
   numbered = tt;
-  served = each_filter (λ (t : Tunnel). IsServed t.goal) (λ (u : Tunnel). not (u.id == t.id)) (t ∷ us) h.served;
-  asked = each_filter (λ (s : Stream). IsServed s.goal) (λ (s : Stream). not (s.id == t.stream)) d.streams h.asked;
   front = record {
     tunnels = each_filter (λ (t : Tunnel). may_come t.stream x ≡ false) (λ (u : Tunnel). not (u.id == t.id)) (t ∷ us) h.front.tunnels;
     dues = h.front.dues;

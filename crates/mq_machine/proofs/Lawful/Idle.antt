@@ -1,10 +1,8 @@
 -- A connection that waits for its client, the end of its link, ports that fail, and answers that it has no memory to hear.
 use Rattle.std.proofs.Common.{◌≡◌, ℕ, ◌==◌, Bool, true, false, not, cond, ◌&&◌, ◌||◌, List, [], ◌∷◌, ◌++◌, length, drop, nat_le, Option, Some, None, refl, sym, ap, ◌∙◌, subst, arith}
-use Rattle.std.specs.Prelude.{find, option_map}
 use Rattle.std.specs.List.{AllByRecursion, list_any}
 use Rattle.std.specs.Option.{is_some}
 use Rattle.std.proofs.lemmas.Bool.{and_parts}
-use Rattle.mq_addr.specs.declared.kind.Kind.TheVariants as kind
 use Rattle.mq_talk.specs.declared.book.Call.TheVariants as call
 use Rattle.mq_talk.specs.declared.book.Reply.{Reply}
 use Rattle.mq_talk.specs.declared.book.Reply.TheVariants as reply
@@ -20,14 +18,14 @@ use Rattle.mq_machine.specs.declared.act.Due.{Due}
 use Rattle.mq_machine.specs.declared.act.Due.TheVariants as due
 use Rattle.mq_machine.specs.Laws.{BeginsWithAct}
 use Rattle.mq_machine.specs.Settle.{gives_up}
-use Rattle.mq_machine.specs.State.{Conn, Front, Head, OverHttp1, OverHttp2, Stream, Tunnel, kind_of, owed, tunnel_of, tunnel_on, values}
+use Rattle.mq_machine.specs.State.{Conn, Front, Head, OverHttp1, OverHttp2, Stream, Tunnel, owed, tunnel_of, tunnel_on, values}
 use Rattle.mq_machine.specs.Want.{Want, Nothing, Say, Ask, Answer, Replied, Over, Bind, most_values, want_of, want_by, due_want, act_want, tunnel_want, stream_want, ending_want, over_want, may_wait}
 use Rattle.mq_machine.specs.Done.{done}
 use Rattle.mq_machine.specs.Steps.{is_nothing, is_ending, most_owed, can_go_on, can_read, finish_by, finished, starved, port_failed}
 use Rattle.mq_machine.specs.Silent.{tunnels_after}
 use Rattle.mq_h2.specs.Laws.{may_come}
-use Rattle.mq_machine.specs.Lawful.{IsServed, IsAsked, IsAskedOf, kind_on, Follows, NoOpens, begins_on, IsOfZero, IsOneRequest, Fits, IsOver, Loose, IsLoose, IsLawful}
-use Rattle.mq_machine.proofs.Lawful.Lists.{either, itself, each_append, some_asked, udp_asked, closes_asked, found_in, In, in_each, in_has, kind_there, none_there, alone_one_more}
+use Rattle.mq_machine.specs.Lawful.{IsAskedOf, kind_on, Follows, NoOpens, begins_on, IsOfZero, IsOneRequest, Fits, IsOver, Loose, IsLoose, IsLawful}
+use Rattle.mq_machine.proofs.Lawful.Lists.{either, itself, each_append, some_asked, closes_asked, found_in, In, in_each, in_has, kind_there, none_there, alone_one_more}
 use Rattle.mq_machine.proofs.Lawful.Steps.{nothing_left, given_front, settle_lawful}
 
 -- ---- where it wants nothing, nothing is due
@@ -79,17 +77,6 @@ reads_idle c h can =
     let d = and_parts (is_nothing (want_of c)) (nat_le (length (owed c)) most_owed) b.0 in
     record { ending = none_ending c.ending b.1; due = idle_due c h d.0 }
 
--- ---- while tunnels for UDP alone are served
-
-served_by : (o : Option Tunnel) (a : StreamAct) → ((t : Tunnel) → o ≡ Some t → IsServed t.goal) → IsAskedOf (option_map (λ (t : Tunnel). kind_of t.goal) o) a → IsAsked kind.Udp a
-served_by None a served h = absurd h
-served_by (Some t) a served h = udp_asked (kind_of t.goal) a (served t refl) h
-
--- what is asked of a tunnel is asked of one for UDP
-pub served_asked : (ts : List Tunnel) (id : ℕ) (a : StreamAct) → AllByRecursion (λ (t : Tunnel). IsServed t.goal) ts → IsAskedOf (kind_on ts id) a → IsAsked kind.Udp a
-served_asked ts id a all h =
-    served_by (find (λ (t : Tunnel). t.stream == id) ts) a (λ t e. in_each (λ (t : Tunnel). IsServed t.goal) ts t all (found_in (λ (t : Tunnel). t.stream == id) ts t e).1) h
-
 -- ---- the end of the link
 
 ended_front : (reason : End) (ts : List Tunnel) (ss : List Stream) (f : Front) → Fits f None [] ts ss → Fits f (Some reason) [] ts ss
@@ -109,8 +96,6 @@ data_ends inside ts ss h = record {
   seated = h.seated;
   alone = h.alone;
   numbered = h.numbered;
-  served = h.served;
-  asked = h.asked;
   front = record { due = (refl, tt); used = tt; tunnels = h.front.tunnels; streams = h.front.streams };
 }
   where
@@ -188,8 +173,6 @@ port_loose c t None begins w i h = record {
   seated = h.seated;
   alone = h.alone;
   numbered = h.numbered;
-  served = h.served;
-  asked = h.asked;
   front = port_front c t c.due c.tunnels c.streams c.front begins w i h.front;
 }
 
@@ -238,8 +221,6 @@ given_loose e reason ds ts ss f h = record {
   seated = tt;
   alone = h.alone;
   numbered = tt;
-  served = h.served;
-  asked = tt;
   front = given_front e reason ds ts ss f h.front;
 }
 
@@ -270,8 +251,6 @@ opened_given reason t rest ts ss f h = record {
   seated = tt;
   alone = alone_one_more t ts (none_there ts t.stream h.follows.0) h.alone;
   numbered = tt;
-  served = each_append (λ (t : Tunnel). IsServed t.goal) ts (t ∷ []) h.served (h.follows.1, tt);
-  asked = tt;
   front = opened_front reason t t.goal rest ts ss f h.front;
 }
 

@@ -1,7 +1,6 @@
--- What the data stream of a tunnel asks for, and that requests lead to goals that are served.
-use Rattle.std.proofs.Common.{◌≡◌, ℕ, ◌+◌, ◌==◌, Bool, true, false, cond, nat_lt, List, [], ◌∷◌, ◌++◌, length, drop, Option, Some, None, option_map, sym, subst, inl, inr}
+-- What the data stream of a tunnel asks for.
+use Rattle.std.proofs.Common.{◌≡◌, ℕ, ◌+◌, ◌==◌, Bool, true, false, cond, nat_lt, List, [], ◌∷◌, ◌++◌, length, drop, Option, Some, None, sym, subst, inl, inr, refl, ◌≤◌, IsSome}
 use Rattle.std.specs.List.{AllByRecursion, filter_map, cons_option, list_any}
-use Rattle.mq_addr.specs.declared.addr.Addr.{Addr}
 use Rattle.mq_addr.specs.declared.entry.Asked.{Asked}
 use Rattle.mq_addr.specs.declared.entry.Given.{Given}
 use Rattle.mq_addr.specs.declared.kind.Kind.{Kind}
@@ -12,33 +11,21 @@ use Rattle.mq_capsule.specs.declared.head.Head.{Head}
 use Rattle.mq_capsule.specs.declared.item.Item.{Item}
 use Rattle.mq_capsule.specs.declared.item.Item.TheVariants as item
 use Rattle.mq_capsule.specs.Capsule.{Capsule, head_of}
-use Rattle.mq_capsule.specs.Items.{ItemsOf, said, item_of, head_items, datagram_by, max_payload, up_to_bad, is_bad}
-use Rattle.mq_policy.specs.Decisions.{Decides}
-use Rattle.mq_policy.specs.Goals.{goal_of, addr_of}
-use Rattle.mq_policy.specs.Names.{NameTable}
-use Rattle.mq_policy.specs.declared.decision.Decision.{Decision}
-use Rattle.mq_policy.specs.declared.decision.Decision.TheVariants.{Go, Denied, UnknownName}
+use Rattle.mq_capsule.specs.Items.{ItemsOf, IsSized, said, item_of, head_items, datagram_by, max_payload, up_to_bad, is_bad}
 use Rattle.mq_talk.specs.declared.goal.Goal.{Goal}
 use Rattle.mq_talk.specs.declared.goal.Goal.TheVariants as goal
 use Rattle.mq_talk.specs.declared.note.Why.TheVariants as why
 use Rattle.mq_talk.specs.declared.place.Cause.TheVariants as cause
-use Rattle.mq_target.specs.declared.shape.Order.{Order}
-use Rattle.mq_target.specs.declared.shape.Order.TheVariants.{TargetFirst, TargetLast}
-use Rattle.mq_target.specs.declared.target.Target.{Target}
-use Rattle.mq_target.specs.declared.target.Target.TheVariants as target
-use Rattle.mq_target.specs.declared.target.Matched.{Matched}
-use Rattle.mq_target.specs.declared.target.Matched.TheVariants.{No, Bad, Yes}
-use Rattle.mq_target.specs.Matching.{Matches, Reads}
-use Rattle.mq_target.specs.Values.{IsTarget}
 use Rattle.mq_wire.specs.Integer.{int_of}
 use Rattle.mq_machine.specs.declared.act.StreamAct.{StreamAct}
 use Rattle.mq_machine.specs.declared.act.StreamAct.TheVariants as stream
-use Rattle.mq_machine.specs.declared.setup.Setup.{Setup}
 use Rattle.mq_machine.specs.State.{Stream, kind_of}
-use Rattle.mq_machine.specs.Reading.{Meaning, Leads, Refused, decided, MatchedMeans, PathMeans, KindMeans, max_udp, udp_act, flow_act, payload_act, too_long_act, in_context, some_or_malformed, value_acts, item_acts, is_payload, payload_count, is_close, then_acts, acts_of, has_values, EndsWith, BytesAsk}
-use Rattle.mq_machine.specs.Lawful.{IsServed, IsAsked}
+use Rattle.mq_machine.specs.Reading.{max_udp, udp_act, flow_act, payload_act, too_long_act, in_context, some_or_malformed, value_acts, item_acts, is_payload, payload_count, is_close, then_acts, acts_of, has_values, EndsWith, BytesAsk}
+use Rattle.mq_machine.specs.Lawful.{IsAsked}
 use Rattle.mq_machine.specs.Words.{assigned_of, asked_of, ranges_of}
+use Rattle.mq_talk.specs.Mails.{IsPacket}
 use Rattle.mq_talk.specs.Packets.{flow_of}
+use Rattle.mq_capsule.proofs.Limits.{items_sized, later_sized}
 use Rattle.mq_machine.proofs.Lawful.Lists.{either, each_append}
 
 -- ---- a reader of a tunnel for UDP tells no control capsules
@@ -86,13 +73,15 @@ AreAsked kind acts = AllByRecursion (IsAsked kind) acts
 asked_udp : (n : ℕ) (payload : List ℕ) → IsAsked kind.Udp (udp_act n payload)
 asked_udp n payload = either (nat_lt max_udp (length payload)) (IsAsked kind.Udp) (stream.Close why.Malformed) (stream.Payload n payload) (λ e. cc) tt
 
-asked_flow : (mtu n : ℕ) (packet : List ℕ) (o : Option Flow) → IsAsked kind.Ip (flow_act mtu n packet o)
-asked_flow mtu n packet None = tt
-asked_flow mtu n packet (Some flow) = either (nat_lt mtu (length packet)) (IsAsked kind.Ip) (stream.Drop n cause.TooLong) (stream.Packet n packet flow) tt tt
+asked_flow : (mtu n : ℕ) (packet : List ℕ) (o : Option Flow) → length packet ≤ max_payload → flow_of packet ≡ o → IsAsked kind.Ip (flow_act mtu n packet o)
+asked_flow mtu n packet None size is = tt
+asked_flow mtu n packet (Some flow) size is =
+    let packet_so : IsPacket packet = record { size = size; packet = subst (λ (o : Option Flow). IsSome o) (sym is) refl } in
+    either (nat_lt mtu (length packet)) (IsAsked kind.Ip) (stream.Drop n cause.TooLong) (stream.Packet n packet flow) tt (tt, packet_so)
 
-asked_payload : (k : Kind) (mtu n : ℕ) (payload : List ℕ) → IsAsked k (payload_act k mtu n payload)
-asked_payload kind.Udp mtu n payload = asked_udp n payload
-asked_payload kind.Ip mtu n payload = asked_flow mtu n payload (flow_of payload)
+asked_payload : (k : Kind) (mtu n : ℕ) (payload : List ℕ) → length payload ≤ max_payload → IsAsked k (payload_act k mtu n payload)
+asked_payload kind.Udp mtu n payload size = asked_udp n payload
+asked_payload kind.Ip mtu n payload size = asked_flow mtu n payload (flow_of payload) size refl
 
 asked_long : (k : Kind) (n : ℕ) → IsAsked k (too_long_act k n)
 asked_long kind.Udp n = λ e. cc
@@ -121,19 +110,20 @@ asked_control : (k : Kind) (type : ℕ) (value : List ℕ) → MayTell k (item.C
 asked_control kind.Udp type value h = absurd h
 asked_control kind.Ip type value h = asked_values type value
 
-asked_item : (k : Kind) (mtu n : ℕ) (i : Item) → MayTell k i → AreAsked k (item_acts k mtu n i)
-asked_item k mtu n (item.Datagram context payload) h = (asked_context k context n (payload_act k mtu n payload) (asked_payload k mtu n payload), tt)
-asked_item k mtu n (item.TooLongDatagram context size) h = (asked_context k context n (too_long_act k n) (asked_long k n), tt)
-asked_item k mtu n (item.Control type value) h = asked_control k type value h
-asked_item k mtu n (item.Bad fault) h = (λ e. cc, tt)
+asked_item : (k : Kind) (mtu n : ℕ) (i : Item) → MayTell k i → IsSized i → AreAsked k (item_acts k mtu n i)
+asked_item k mtu n (item.Datagram context payload) h size = (asked_context k context n (payload_act k mtu n payload) (asked_payload k mtu n payload size), tt)
+asked_item k mtu n (item.TooLongDatagram context count) h size = (asked_context k context n (too_long_act k n) (asked_long k n), tt)
+asked_item k mtu n (item.Control type value) h size = asked_control k type value h
+asked_item k mtu n (item.Bad fault) h size = (λ e. cc, tt)
 
 asked_then : (k : Kind) (acts more : List StreamAct) → AreAsked k acts → AreAsked k more → AreAsked k (then_acts acts more)
 asked_then k acts more h l = each_append (IsAsked k) acts (cond (list_any is_close acts) [] more) h (either (list_any is_close acts) (AreAsked k) [] more tt l)
 
-asked_items : (k : Kind) (mtu n : ℕ) (items : List Item) → AllByRecursion (MayTell k) items → AreAsked k (acts_of k mtu n items)
-asked_items k mtu n [] h = tt
-asked_items k mtu n (i ∷ items) h =
-    asked_then k (item_acts k mtu n i) (acts_of k mtu (n + cond (is_payload i) 1 0) items) (asked_item k mtu n i h.0) (asked_items k mtu (n + cond (is_payload i) 1 0) items h.1)
+asked_items : (k : Kind) (mtu n : ℕ) (items : List Item) → AllByRecursion (MayTell k) items → AllByRecursion IsSized items → AreAsked k (acts_of k mtu n items)
+asked_items k mtu n [] h sizes = tt
+asked_items k mtu n (i ∷ items) h sizes =
+    let later = n + cond (is_payload i) 1 0 in
+    asked_then k (item_acts k mtu n i) (acts_of k mtu later items) (asked_item k mtu n i h.0 sizes.0) (asked_items k mtu later items h.1 sizes.1)
 
 asked_ends : (goal : Goal) (bytes : List ℕ) (ends : Bool) (acts : List StreamAct) → EndsWith goal bytes ends acts → AreAsked (kind_of goal) acts
 asked_ends goal bytes false acts h = subst (AreAsked (kind_of goal)) (sym h) tt
@@ -144,11 +134,14 @@ each_told : (items : List Item) → AllByRecursion (MayTell kind.Ip) items
 each_told [] = tt
 each_told (i ∷ items) = (tt, each_told items)
 
+told_goal : (goal : Goal) (bytes : List ℕ) (before items : List Item) → ItemsOf (has_values goal) bytes (before ++ items) → AllByRecursion (MayTell (kind_of goal)) items
+told_goal (goal.Udp addr port) bytes before items is = each_behind IsPlain before items (subst ArePlain (sym is.items_are) (said_plain is.capsules is.rest))
+told_goal (goal.Ip area protocol) bytes before items is = each_told items
+
 asked_goal : (mtu : ℕ) (goal : Goal) (bytes : List ℕ) (before items : List Item) → ItemsOf (has_values goal) bytes (before ++ items)
     → AreAsked (kind_of goal) (acts_of (kind_of goal) mtu (payload_count before) items)
-asked_goal mtu (goal.Udp addr port) bytes before items is =
-    asked_items kind.Udp mtu (payload_count before) items (each_behind IsPlain before items (subst ArePlain (sym is.items_are) (said_plain is.capsules is.rest)))
-asked_goal mtu (goal.Ip area protocol) bytes before items is = asked_items kind.Ip mtu (payload_count before) items (each_told items)
+asked_goal mtu goal bytes before items is =
+    asked_items (kind_of goal) mtu (payload_count before) items (told_goal goal bytes before items is) (later_sized before items (items_sized (has_values goal) bytes (before ++ items) is))
 
 -- more bytes of the data stream
 pub asked_bytes : (mtu : ℕ) (s : Stream) (bytes : List ℕ) (ends : Bool) (acts : List StreamAct) → BytesAsk mtu s bytes ends acts → AreAsked (kind_of s.goal) acts
@@ -157,42 +150,3 @@ asked_bytes mtu s bytes ends acts x =
     asked_then (kind_of s.goal) (acts_of (kind_of s.goal) mtu (payload_count x.before) x.items) x.last
     (asked_goal mtu s.goal (s.bytes ++ bytes) x.before x.items x.is) (asked_ends s.goal (s.bytes ++ bytes) ends x.last x.ends_in)
     )
-
--- ---- requests
-
-udp_addr : (port : ℕ) (o : Option Addr) (found : Goal) → option_map (λ (a : Addr). goal.Udp a port) o ≡ Some found → IsServed found
-udp_addr port None found e = absurd cc
-udp_addr port (Some a) found e = let same : goal.Udp a port ≡ found = cc in subst IsServed same tt
-
-udp_target : (first second : List ℕ) (names : NameTable) (t : Target) (found : Goal) → IsTarget kind.Udp first second t → goal_of names t ≡ Some found → IsServed found
-udp_target first second names (target.Udp host port) found h e = udp_addr port (addr_of names host) found e
-udp_target first second names (target.Ip area protocol) found h e = absurd h
-
-udp_reads : (names : NameTable) (order : Order) (first second : List ℕ) (t : Target) (found : Goal) → Reads kind.Udp order first second t → goal_of names t ≡ Some found → IsServed found
-udp_reads names TargetFirst first second t found h e = udp_target _ _ names t found h e
-udp_reads names TargetLast first second t found h e = udp_target _ _ names t found h e
-
--- it leads to UDP, or is refused
-abbrev pub IsFine : Meaning → Type 0
-IsFine (Leads goal) = IsServed goal
-IsFine (Refused status rule) = Unit {0}
-
-fine_decision : (setup : Setup) (t : Target) (d : Decision) → ((found : Goal) → goal_of setup.policy.names t ≡ Some found → IsServed found) → Decides setup.policy t d → IsFine (decided d)
-fine_decision setup t (Go found) h x = subst IsServed (sym x.2.0) (h x.0 x.1)
-fine_decision setup t (Denied rule) h x = tt
-fine_decision setup t UnknownName h x = tt
-
-fine_matched : (setup : Setup) → setup.udp.kind ≡ kind.Udp → (path : List ℕ) (m : Matched) (meaning : Meaning) → Matches setup.udp path m → MatchedMeans setup m meaning → IsFine meaning
-fine_matched setup k path No meaning x y = subst IsFine (sym y) tt
-fine_matched setup k path Bad meaning x y = subst IsFine (sym y) tt
-fine_matched setup k path (Yes t) meaning x y =
-    let P : Kind → Type 0 = λ kind. Reads kind setup.udp.order x.0 x.1 t in
-    subst IsFine (sym y.2) (fine_decision setup t y.0 (λ found e. udp_reads setup.policy.names setup.udp.order x.0 x.1 t found (subst P k x.3) e) y.1)
-
-pub fine_path : (setup : Setup) → setup.udp.kind ≡ kind.Udp → (k : Kind) (path : List ℕ) (meaning : Meaning) → PathMeans setup k path meaning → IsFine meaning
-fine_path setup k kind.Udp path meaning x = fine_matched setup k path x.0 meaning x.1 x.2
-fine_path setup k kind.Ip path meaning x = subst IsFine (sym x) tt
-
-pub fine_kind : (setup : Setup) → setup.udp.kind ≡ kind.Udp → (o : Option Kind) (path : List ℕ) (meaning : Meaning) → KindMeans setup o path meaning → IsFine meaning
-fine_kind setup k None path meaning x = subst IsFine (sym x) tt
-fine_kind setup k (Some asked) path meaning x = fine_path setup k asked path meaning x

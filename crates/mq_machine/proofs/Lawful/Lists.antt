@@ -4,7 +4,6 @@ use Rattle.std.specs.Prelude.{find}
 use Rattle.std.specs.List.{AllByRecursion, list_any}
 use Rattle.std.specs.Option.{is_some, unwrap_or}
 use Rattle.mq_addr.specs.declared.kind.Kind.{Kind}
-use Rattle.mq_addr.specs.declared.kind.Kind.TheVariants as kind
 use Rattle.mq_talk.specs.declared.note.Why.{Why}
 use Rattle.mq_talk.specs.declared.note.Why.TheVariants as why
 use Rattle.mq_machine.specs.declared.act.Act.TheVariants as act
@@ -15,7 +14,7 @@ use Rattle.mq_machine.specs.declared.act.Due.TheVariants as due
 use Rattle.mq_machine.specs.State.{Tunnel, Waiting, kind_of}
 use Rattle.mq_machine.specs.Done.{is_on, waits as waits_last}
 use Rattle.mq_machine.specs.Steps.{set_waiting}
-use Rattle.mq_machine.specs.Lawful.{has_on, kind_on, with_one, IsOfUdp, IsAsked, IsAskedOf, Follows, begins_on, kind_behind, Alone, has_number, Numbered, IsOfZero, IsOneRequest, spends}
+use Rattle.mq_machine.specs.Lawful.{has_on, kind_on, with_one, IsAskedOf, Follows, begins_on, kind_behind, Alone, has_number, Numbered, IsOfZero, IsOneRequest, spends}
 
 -- ---- tests
 
@@ -110,11 +109,6 @@ pub asked_reason : (o : Option Kind) (reason : Why) → IsAskedOf o (stream.Clos
 asked_reason None reason h = absurd h
 asked_reason (Some k) reason h = h
 
--- what is asked of one that is for UDP
-pub udp_asked : (k : Kind) (a : StreamAct) → IsOfUdp k → IsAsked k a → IsAsked kind.Udp a
-udp_asked kind.Udp a is h = h
-udp_asked kind.Ip a is h = absurd is
-
 -- each may be closed
 pub closes_asked : (o : Option Kind) (reason : Why) → is_some o ≡ true → reason ≢ why.Conn → IsAskedOf o (stream.Close reason)
 closes_asked None reason h k = absurd cc
@@ -130,7 +124,7 @@ follows_same live after same [] h = tt
 follows_same live after same (due.Do (act.Bind id goal) ∷ rest) h =
     (same id ∙ h.0, h.1, follows_same (with_one id (kind_of goal) live) (with_one id (kind_of goal) after) (with_same id (kind_of goal) live after same) rest h.2)
 follows_same live after same (due.Do (act.Open id goal) ∷ rest) h =
-    (same id ∙ h.0, h.1, follows_same (with_one id (kind_of goal) live) (with_one id (kind_of goal) after) (with_same id (kind_of goal) live after same) rest h.2)
+    (same id ∙ h.0, follows_same (with_one id (kind_of goal) live) (with_one id (kind_of goal) after) (with_same id (kind_of goal) live after same) rest h.1)
 follows_same live after same (due.Do (act.Refuse id status rule) ∷ rest) h = follows_same live after same rest h
 follows_same live after same (due.Do (act.Reset id code) ∷ rest) h = follows_same live after same rest h
 follows_same live after same (due.Do (act.OfStream id a) ∷ rest) h = (subst (λ (o : Option Kind). IsAskedOf o a) (sym (same id)) h.0, follows_same live after same rest h.1)
@@ -145,7 +139,7 @@ kept id ds = filter (λ d. not (is_on id d)) ds
 pub follows_kept : (id : ℕ) (live : ℕ → Option Kind) (ds : List Due) → Follows live ds → Follows live (kept id ds)
 follows_kept id live [] h = tt
 follows_kept id live (due.Do (act.Bind on goal) ∷ rest) h = (h.0, h.1, follows_kept id (with_one on (kind_of goal) live) rest h.2)
-follows_kept id live (due.Do (act.Open on goal) ∷ rest) h = (h.0, h.1, follows_kept id (with_one on (kind_of goal) live) rest h.2)
+follows_kept id live (due.Do (act.Open on goal) ∷ rest) h = (h.0, follows_kept id (with_one on (kind_of goal) live) rest h.1)
 follows_kept id live (due.Do (act.Refuse on status rule) ∷ rest) h = follows_kept id live rest h
 follows_kept id live (due.Do (act.Reset on code) ∷ rest) h = follows_kept id live rest h
 follows_kept id live (due.Do (act.OfStream on a) ∷ rest) h =
@@ -187,8 +181,7 @@ follows_lost id was live after is lost (due.Do (act.Open on goal) ∷ rest) h =
     let other = other_than live id on was is h.0 in
     let kind = kind_of goal in (
       lost_other id on live after lost other ∙ h.0,
-      h.1,
-      follows_lost id was (with_one on kind live) (with_one on kind after) (with_live id on kind was live other is) (lost_with id on kind live after lost other) rest h.2,
+      follows_lost id was (with_one on kind live) (with_one on kind after) (with_live id on kind was live other is) (lost_with id on kind live after lost other) rest h.1,
     )
 follows_lost id was live after is lost (due.Do (act.Refuse on status rule) ∷ rest) h = follows_lost id was live after is lost rest h
 follows_lost id was live after is lost (due.Do (act.Reset on code) ∷ rest) h = follows_lost id was live after is lost rest h

@@ -1,5 +1,5 @@
 -- The end of each act, frames, writes, and what comes to a tunnel.
-use Rattle.std.proofs.Common.{◌≡◌, ℕ, ◌+◌, false, ◌||◌, List, [], ◌∷◌, length, take, drop, nat_lt, nat_le, Option, Some, None, refl, sym, ap, ◌∙◌, subst, arith, option_map}
+use Rattle.std.proofs.Common.{◌≡◌, ℕ, ◌+◌, false, ◌||◌, List, [], ◌∷◌, length, take, drop, nat_lt, nat_le, Option, Some, None, refl, ap, ◌∙◌, subst, arith, option_map}
 use Rattle.std.specs.Prelude.{option_and_then}
 use Rattle.std.specs.List.{AllByRecursion}
 use Rattle.mq_capsule.specs.Writing.{capsule_text, datagram}
@@ -21,7 +21,7 @@ use Rattle.mq_machine.specs.Done.{with_waiting}
 use Rattle.mq_machine.specs.Steps.{framing, frame_size, framed_by, framed_front, next_framed, set_waiting, settled_note, framed, wrote, given_up, queued, most_packets, most_waiting}
 use Rattle.mq_machine.specs.Http2 as http2
 use Rattle.mq_h2.specs.Laws.{may_come}
-use Rattle.mq_machine.specs.Lawful.{IsServed, kind_on, is_open, kind_behind, IsSeated, AreSeated, AreNumbered, IsUsed, Http2Fits, Fits, IsOver, Loose, IsLoose, IsLawful}
+use Rattle.mq_machine.specs.Lawful.{kind_on, is_open, kind_behind, IsSeated, AreSeated, AreNumbered, IsUsed, Http2Fits, Fits, IsOver, Loose, IsLoose, IsLawful}
 use Rattle.mq_machine.proofs.Lawful.Lists.{either, each_so, none_dropped, follows_same, Same, set_same, waits_same, has_same, kind_same, alone_same, numbered_same, each_same}
 use Rattle.mq_machine.proofs.Lawful.Acts.{keeps_out, keeps_gives, keeps_puts, keeps_fits, consumes_fits}
 
@@ -29,7 +29,7 @@ use Rattle.mq_machine.proofs.Lawful.Acts.{keeps_out, keeps_gives, keeps_puts, ke
 
 pub new_lawful : (number actor : ℕ) → IsLawful (new_conn number actor)
 new_lawful number actor = record {
-  loose = record { over = tt; follows = tt; opens = refl; seated = tt; alone = tt; numbered = tt; served = tt; asked = tt; front = (refl, refl, refl) };
+  loose = record { over = tt; follows = tt; opens = refl; seated = tt; alone = tt; numbered = tt; front = (refl, refl, refl) };
   settled = tt;
 }
 
@@ -44,8 +44,6 @@ refit e ds ts ss f g h k = record {
   seated = h.seated;
   alone = h.alone;
   numbered = h.numbered;
-  served = h.served;
-  asked = h.asked;
   front = k;
 }
 
@@ -92,8 +90,6 @@ spent e id size rest ts ss f h = record {
   seated = seated_behind e id size rest ts ss h.seated;
   alone = h.alone;
   numbered = h.numbered;
-  served = h.served;
-  asked = h.asked;
   front = spent_front e id size rest ts ss f h.front;
 }
 
@@ -106,8 +102,6 @@ nothing_left e reason ds ts ss f h k = record {
   seated = tt;
   alone = h.alone;
   numbered = tt;
-  served = h.served;
-  asked = h.asked;
   front = k;
 }
 
@@ -157,8 +151,6 @@ given_up_lawful reason c h = record {
     seated = tt;
     alone = h.loose.alone;
     numbered = tt;
-    served = h.loose.served;
-    asked = tt;
     front = given_front c.ending reason c.due c.tunnels c.streams c.front h.loose.front;
   };
   settled = tt;
@@ -210,8 +202,6 @@ loose_same e ds ts us ss f s h = record {
   seated = seated_same e ts us ds ss s h.seated;
   alone = alone_same ts us s h.alone;
   numbered = are_numbered_same e ts us s h.numbered;
-  served = each_same (λ (t : Tunnel). IsServed t.goal) ts us s (λ t u same goal k. subst IsServed (sym goal) k) h.served;
-  asked = h.asked;
   front = fits_same f e ds ts us ss s h.front;
 }
 

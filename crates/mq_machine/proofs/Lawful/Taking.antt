@@ -5,7 +5,6 @@ use Rattle.std.specs.List.{AllByRecursion, list_any}
 use Rattle.std.specs.Option.{is_some, unwrap_or}
 use Rattle.std.proofs.lemmas.List.Recursion.{is_count_by}
 use Rattle.mq_addr.specs.declared.kind.Kind.{Kind}
-use Rattle.mq_addr.specs.declared.kind.Kind.TheVariants as kind
 use Rattle.mq_h2.specs.declared.event.StreamEvent as http2
 use Rattle.mq_h2.specs.declared.event.StreamEvent.TheVariants as frame_event
 use Rattle.mq_h2.specs.Laws.{IsAskedOnce, IsTold, may_come, one}
@@ -23,15 +22,14 @@ use Rattle.mq_machine.specs.declared.act.StreamAct.TheVariants as stream
 use Rattle.mq_machine.specs.declared.act.Due.{Due}
 use Rattle.mq_machine.specs.declared.act.Due.TheVariants as due
 use Rattle.mq_machine.specs.declared.setup.Setup.{Setup}
-use Rattle.mq_machine.specs.Http2 as request
 use Rattle.mq_machine.specs.State.{Conn, Front, Head, OverHttp1, OverHttp2, Stream, Tunnel, kind_of}
 use Rattle.mq_machine.specs.Reading.{Meaning, Leads, Refused, StreamEvent, Request, Malformed, Content, Reset, ConnectionError, on_stream, stream_of, more_bytes, mark_of, goal_act, ended_acts, error_acts, reset_acts, ContentAsks, EventAsks, EventsAsk, content_of, StepBrings, EventBrings, EventsBring, FramesBring, Opening, Part, Whole, Other, opening_of, OtherBrings, OpeningBrings, Brings, TookNext}
 use Rattle.mq_machine.specs.Steps.{can_read}
-use Rattle.mq_machine.specs.Lawful.{IsServed, IsAskedOf, has_on, kind_on, with_one, Follows, is_open, NoOpens, begins_on, kind_behind, IsSeated, IsOfZero, IsOneRequest, IsUsed, Http1Fits, Http2Fits, Fits, Loose, IsLoose, IsLawful, spends}
+use Rattle.mq_machine.specs.Lawful.{IsAskedOf, has_on, kind_on, with_one, Follows, is_open, NoOpens, begins_on, kind_behind, IsOfZero, IsOneRequest, IsUsed, Http1Fits, Http2Fits, Fits, Loose, IsLoose, IsLawful, spends}
 use Rattle.mq_machine.proofs.Lawful.Lists.{either, itself, never, each_append, each_so, none_dropped, other_than, closes_asked, behind_both, behind_some, behind_none, In, in_has, kind_there, zero_request}
 use Rattle.mq_machine.proofs.Lawful.Steps.{settle_lawful}
 use Rattle.mq_machine.proofs.Lawful.Idle.{reads_idle}
-use Rattle.mq_machine.proofs.Lawful.Items.{AreAsked, asked_bytes, IsFine, fine_path, fine_kind}
+use Rattle.mq_machine.proofs.Lawful.Items.{AreAsked, asked_bytes}
 
 -- ---- lists
 
@@ -70,7 +68,7 @@ then_live live ds k = kind_behind k ds (live k)
 follows_both : (live : ℕ → Option Kind) (xs ys : List Due) → Follows live xs → Follows (then_live live xs) ys → Follows live (xs ++ ys)
 follows_both live [] ys h k = k
 follows_both live (due.Do (act.Bind id goal) ∷ xs) ys h k = (h.0, h.1, follows_both (with_one id (kind_of goal) live) xs ys h.2 k)
-follows_both live (due.Do (act.Open id goal) ∷ xs) ys h k = (h.0, h.1, follows_both (with_one id (kind_of goal) live) xs ys h.2 k)
+follows_both live (due.Do (act.Open id goal) ∷ xs) ys h k = (h.0, follows_both (with_one id (kind_of goal) live) xs ys h.1 k)
 follows_both live (due.Do (act.Refuse id status rule) ∷ xs) ys h k = follows_both live xs ys h k
 follows_both live (due.Do (act.Reset id code) ∷ xs) ys h k = follows_both live xs ys h k
 follows_both live (due.Do (act.OfStream id a) ∷ xs) ys h k = (h.0, follows_both live xs ys h.1 k)
@@ -89,16 +87,6 @@ asks_for id (ConnectionError code) = false
 abbrev requests : ℕ → List StreamEvent → ℕ
 requests id [] = 0
 requests id (e ∷ es) = one (asks_for id e) + requests id es
-
-abbrev FineEvent : StreamEvent → Type 0
-FineEvent (Request id meaning ends) = IsFine meaning
-FineEvent (Malformed id code) = Unit {0}
-FineEvent (Content id bytes size ends) = Unit {0}
-FineEvent (Reset id) = Unit {0}
-FineEvent (ConnectionError code) = Unit {0}
-
-abbrev AreFine : List StreamEvent → Type 0
-AreFine es = AllByRecursion FineEvent es
 
 -- no stream asks that has a tunnel, or twice
 abbrev AskOnce : (ℕ → Bool) → List StreamEvent → Type 0
@@ -128,15 +116,11 @@ Live live s = live s.id ≡ Some (kind_of s.goal)
 abbrev AreLive : (ℕ → Option Kind) → List Stream → Type 0
 AreLive live ss = AllByRecursion (Live live) ss
 
-abbrev AreServed : List Stream → Type 0
-AreServed ss = AllByRecursion (λ (s : Stream). IsServed s.goal) ss
-
 -- what events ask for, and the data streams then
 record Asked (live : ℕ → Option Kind) (acts : List Due) (new : List Stream) (asking : ℕ → ℕ) : Type 0 where
   follows : Follows live acts
   opens : NoOpens acts
   seated : AreLive (then_live live acts) new
-  served : AreServed new
   begins : (id : ℕ) → list_any (begins_on id) acts ≡ true → 1 ≤ asking id
 
 -- acts that begin nothing
@@ -146,12 +130,11 @@ BeginNone acts = (id : ℕ) → list_any (begins_on id) acts ≡ false
 still_live : (live : ℕ → Option Kind) (acts : List Due) (ss : List Stream) → BeginNone acts → AreLive live ss → AreLive (then_live live acts) ss
 still_live live acts ss none h = each_so (Live live) (Live (then_live live acts)) ss (λ s k. behind_none s.id acts (live s.id) (none s.id) ∙ k) h
 
-quiet : (live : ℕ → Option Kind) (acts : List Due) (new : List Stream) (asking : ℕ → ℕ) → Follows live acts → NoOpens acts → BeginNone acts → AreLive live new → AreServed new → Asked live acts new asking
-quiet live acts new asking follows opens none seated served = record {
+quiet : (live : ℕ → Option Kind) (acts : List Due) (new : List Stream) (asking : ℕ → ℕ) → Follows live acts → NoOpens acts → BeginNone acts → AreLive live new → Asked live acts new asking
+quiet live acts new asking follows opens none seated = record {
   follows = follows;
   opens = opens;
   seated = still_live live acts new none seated;
-  served = served;
   begins = λ id is. never (list_any (begins_on id) acts) is (none id);
 }
 
@@ -165,10 +148,6 @@ asked_same live acts acts2 new new2 asking e f h =
 more_live : (live : ℕ → Option Kind) (id : ℕ) (bytes : List ℕ) (ss : List Stream) → AreLive live ss → AreLive live (more_bytes id bytes ss)
 more_live live id bytes [] h = tt
 more_live live id bytes (s ∷ ss) h = either (s.id == id) (AreLive live) (record s { bytes = s.bytes ++ bytes } ∷ ss) (s ∷ more_bytes id bytes ss) h (h.0, more_live live id bytes ss h.1)
-
-more_udp : (id : ℕ) (bytes : List ℕ) (ss : List Stream) → AreServed ss → AreServed (more_bytes id bytes ss)
-more_udp id bytes [] h = tt
-more_udp id bytes (s ∷ ss) h = either (s.id == id) AreServed (record s { bytes = s.bytes ++ bytes } ∷ ss) (s ∷ more_bytes id bytes ss) h (h.0, more_udp id bytes ss h.1)
 
 more_zero : (id : ℕ) (bytes : List ℕ) (ss : List Stream) → AllByRecursion (λ (s : Stream). s.id ≡ 0) ss → AllByRecursion (λ (s : Stream). s.id ≡ 0) (more_bytes id bytes ss)
 more_zero id bytes [] h = tt
@@ -200,18 +179,18 @@ mark_begins id None k = refl
 mark_begins id (Some n) k = refl
 
 content_asked : (mtu : ℕ) (live : ℕ → Option Kind) (id : ℕ) (bytes : List ℕ) (size : Option ℕ) (ends : Bool) (o : Option Stream) (acts : List Due) (new : List Stream) (asking : ℕ → ℕ)
-    → ((s : Stream) → o ≡ Some s → Live live s × (s.id ≡ id)) → AreLive live new → AreServed new → ContentAsks mtu id bytes size ends o acts → Asked live acts new asking
-content_asked mtu live id bytes size ends None acts new asking is seated served x =
+    → ((s : Stream) → o ≡ Some s → Live live s × (s.id ≡ id)) → AreLive live new → ContentAsks mtu id bytes size ends o acts → Asked live acts new asking
+content_asked mtu live id bytes size ends None acts new asking is seated x =
     asked_same live acts (mark_of id size) new new asking x refl
-    (quiet live (mark_of id size) new asking (mark_follows live id size) (mark_opens id size) (mark_begins id size) seated served)
-content_asked mtu live id bytes size ends (Some s) acts new asking is seated served x =
+    (quiet live (mark_of id size) new asking (mark_follows live id size) (mark_opens id size) (mark_begins id size) seated)
+content_asked mtu live id bytes size ends (Some s) acts new asking is seated x =
     let there = is s refl in
     let alive = ap live (sym there.1) ∙ there.0 in
     let here = on_stream id x.0 ++ mark_of id size in
     asked_same live acts here new new asking x.2 refl (
     quiet live here new asking
     (stream_follows live id (kind_of s.goal) x.0 (mark_of id size) alive (asked_bytes mtu s bytes ends x.0 x.1) (mark_follows live id size))
-    (stream_opens id x.0 (mark_of id size) (mark_opens id size)) (stream_begins id x.0 (mark_of id size) (mark_begins id size)) seated served
+    (stream_opens id x.0 (mark_of id size) (mark_opens id size)) (stream_begins id x.0 (mark_of id size) (mark_begins id size)) seated
     )
 
 ended_follows : (live : ℕ → Option Kind) (id : ℕ) (ends : Bool) → is_some (live id) ≡ true → Follows live (ended_acts id ends)
@@ -226,33 +205,50 @@ ended_begins : (id : ℕ) (ends : Bool) → BeginNone (ended_acts id ends)
 ended_begins id true k = refl
 ended_begins id false k = refl
 
+-- the act of a request begins its stream, of the kind of its goal
+goal_follows : (live : ℕ → Option Kind) (id : ℕ) (found : Goal) (rest : List Due) → live id ≡ None → Follows (with_one id (kind_of found) live) rest → Follows live (due.Do (goal_act id found) ∷ rest)
+goal_follows live id (goal.Udp addr port) rest free h = (free, tt, h)
+goal_follows live id (goal.Ip area protocol) rest free h = (free, h)
+
+goal_opens : (id : ℕ) (found : Goal) (rest : List Due) → NoOpens rest → NoOpens (due.Do (goal_act id found) ∷ rest)
+goal_opens id (goal.Udp addr port) rest h = h
+goal_opens id (goal.Ip area protocol) rest h = h
+
+goal_behind : (id k : ℕ) (found : Goal) (rest : List Due) (o : Option Kind) → kind_behind k (due.Do (goal_act id found) ∷ rest) o ≡ kind_behind k rest (cond (id == k) (Some (kind_of found)) o)
+goal_behind id k (goal.Udp addr port) rest o = refl
+goal_behind id k (goal.Ip area protocol) rest o = refl
+
+goal_begins : (id k : ℕ) (found : Goal) (rest : List Due) → list_any (begins_on k) (due.Do (goal_act id found) ∷ rest) ≡ ((id == k) || list_any (begins_on k) rest)
+goal_begins id k (goal.Udp addr port) rest = refl
+goal_begins id k (goal.Ip area protocol) rest = refl
+
 -- a request that leads somewhere
-leads_asked : (live : ℕ → Option Kind) (id : ℕ) (found : Goal) (ends : Bool) (old : List Stream) (asking : ℕ → ℕ) → IsServed found → live id ≡ None → AreLive live old → AreServed old → ((k : ℕ) → (id == k) ≡ true → 1 ≤ asking k)
+leads_asked : (live : ℕ → Option Kind) (id : ℕ) (found : Goal) (ends : Bool) (old : List Stream) (asking : ℕ → ℕ) → live id ≡ None → AreLive live old → ((k : ℕ) → (id == k) ≡ true → 1 ≤ asking k)
     → Asked live (due.Do (goal_act id found) ∷ ended_acts id ends) (old ++ record { id = id; goal = found; bytes = [] } ∷ []) asking
-leads_asked live id (goal.Ip area protocol) ends old asking served free seated goals asks = absurd served
-leads_asked live id (goal.Udp addr port) ends old asking served free seated goals asks =
-    let acts = due.Do (act.Bind id (goal.Udp addr port)) ∷ ended_acts id ends in
+leads_asked live id found ends old asking free seated asks =
+    let rest = ended_acts id ends in
+    let acts = due.Do (goal_act id found) ∷ rest in
+    let kind = kind_of found in
+    let behind = λ (k : ℕ). goal_behind id k found rest (live k) ∙ behind_none k rest (with_one id kind live k) (ended_begins id ends k) in
     record {
-      follows = (free, tt, ended_follows (with_one id kind.Udp live) id ends (ap (λ b. is_some (cond b (Some kind.Udp) (live id))) (itself id)));
-      opens = ended_opens id ends;
-      seated = each_append (Live (then_live live acts)) old (record { id = id; goal = goal.Udp addr port; bytes = [] } ∷ [])
-          (each_so (Live live) (Live (then_live live acts)) old (λ s k. behind_none s.id (ended_acts id ends) (with_one id kind.Udp live s.id) (ended_begins id ends s.id)
-          ∙ ap (λ b. cond b (Some kind.Udp) (live s.id)) (other_than live s.id id (kind_of s.goal) k free) ∙ k) seated)
-          (behind_none id (ended_acts id ends) (with_one id kind.Udp live id) (ended_begins id ends id) ∙ ap (λ b. cond b (Some kind.Udp) (live id)) (itself id), tt);
-      served = each_append (λ (s : Stream). IsServed s.goal) old (record { id = id; goal = goal.Udp addr port; bytes = [] } ∷ []) goals (tt, tt);
-      begins = λ k is. asks k (sym (or_none (id == k)) ∙ ap (λ b. (id == k) || b) (sym (ended_begins id ends k)) ∙ is);
+      follows = goal_follows live id found rest free (ended_follows (with_one id kind live) id ends (ap (λ b. is_some (cond b (Some kind) (live id))) (itself id)));
+      opens = goal_opens id found rest (ended_opens id ends);
+      seated = each_append (Live (then_live live acts)) old (record { id = id; goal = found; bytes = [] } ∷ [])
+          (each_so (Live live) (Live (then_live live acts)) old (λ s k. behind s.id ∙ ap (λ b. cond b (Some kind) (live s.id)) (other_than live s.id id (kind_of s.goal) k free) ∙ k) seated)
+          (behind id ∙ ap (λ b. cond b (Some kind) (live id)) (itself id), tt);
+      begins = λ k is. asks k (sym (or_none (id == k)) ∙ ap (λ b. (id == k) || b) (sym (ended_begins id ends k)) ∙ sym (goal_begins id k found rest) ∙ is);
     }
 
 -- an error of a stream, or its end
-error_asked : (live : ℕ → Option Kind) (id code : ℕ) (o : Option Tunnel) (old : List Stream) (asking : ℕ → ℕ) → ((t : Tunnel) → o ≡ Some t → is_some (live id) ≡ true) → AreLive live old → AreServed old → Asked live (error_acts id code o) old asking
-error_asked live id code None old asking is seated served = quiet live (due.Do (act.Reset id code) ∷ []) old asking tt refl (λ k. refl) seated served
-error_asked live id code (Some t) old asking is seated served =
-    quiet live (due.Do (act.OfStream id (stream.Close why.Malformed)) ∷ []) old asking (closes_asked (live id) why.Malformed (is t refl) (λ e. cc), tt) refl (λ k. refl) seated served
+error_asked : (live : ℕ → Option Kind) (id code : ℕ) (o : Option Tunnel) (old : List Stream) (asking : ℕ → ℕ) → ((t : Tunnel) → o ≡ Some t → is_some (live id) ≡ true) → AreLive live old → Asked live (error_acts id code o) old asking
+error_asked live id code None old asking is seated = quiet live (due.Do (act.Reset id code) ∷ []) old asking tt refl (λ k. refl) seated
+error_asked live id code (Some t) old asking is seated =
+    quiet live (due.Do (act.OfStream id (stream.Close why.Malformed)) ∷ []) old asking (closes_asked (live id) why.Malformed (is t refl) (λ e. cc), tt) refl (λ k. refl) seated
 
-reset_asked : (live : ℕ → Option Kind) (id : ℕ) (o : Option Tunnel) (old : List Stream) (asking : ℕ → ℕ) → ((t : Tunnel) → o ≡ Some t → is_some (live id) ≡ true) → AreLive live old → AreServed old → Asked live (reset_acts id o) old asking
-reset_asked live id None old asking is seated served = quiet live [] old asking tt refl (λ k. refl) seated served
-reset_asked live id (Some t) old asking is seated served =
-    quiet live (due.Do (act.OfStream id (stream.Close why.Reset)) ∷ []) old asking (closes_asked (live id) why.Reset (is t refl) (λ e. cc), tt) refl (λ k. refl) seated served
+reset_asked : (live : ℕ → Option Kind) (id : ℕ) (o : Option Tunnel) (old : List Stream) (asking : ℕ → ℕ) → ((t : Tunnel) → o ≡ Some t → is_some (live id) ≡ true) → AreLive live old → Asked live (reset_acts id o) old asking
+reset_asked live id None old asking is seated = quiet live [] old asking tt refl (λ k. refl) seated
+reset_asked live id (Some t) old asking is seated =
+    quiet live (due.Do (act.OfStream id (stream.Close why.Reset)) ∷ []) old asking (closes_asked (live id) why.Reset (is t refl) (λ e. cc), tt) refl (λ k. refl) seated
 
 abbrev TunnelsLive : (ℕ → Option Kind) → List Tunnel → Type 0
 TunnelsLive live ts = AllByRecursion (λ (t : Tunnel). is_some (live t.stream) ≡ true) ts
@@ -267,27 +263,27 @@ stream_there live ss id s seated e =
     let a = found_each (Live live) (λ (s : Stream). s.id == id) ss s seated e in
     (a.0, eqb-true s.id id a.1)
 
-event_asked : (mtu : ℕ) (ts : List Tunnel) (live : ℕ → Option Kind) (old : List Stream) (e : StreamEvent) (n : ℕ → ℕ) (acts : List Due) (new : List Stream) → TunnelsLive live ts → AreLive live old → AreServed old → FineEvent e
+event_asked : (mtu : ℕ) (ts : List Tunnel) (live : ℕ → Option Kind) (old : List Stream) (e : StreamEvent) (n : ℕ → ℕ) (acts : List Due) (new : List Stream) → TunnelsLive live ts → AreLive live old
     → ((id : ℕ) → (one (asks_for id e) + n id) + one (is_some (live id)) ≤ 1) → EventAsks mtu ts old e acts new → Asked live acts new (λ id. one (asks_for id e))
-event_asked mtu ts live old (Request id (Refused status rule) ends) n acts new tunnels seated served fine free x =
+event_asked mtu ts live old (Request id (Refused status rule) ends) n acts new tunnels seated free x =
     asked_same live acts (due.Do (act.Refuse id status rule) ∷ []) new old (λ k. one (id == k)) x.0 x.1
-    (quiet live (due.Do (act.Refuse id status rule) ∷ []) old (λ k. one (id == k)) tt refl (λ k. refl) seated served)
-event_asked mtu ts live old (Request id (Leads found) ends) n acts new tunnels seated served fine free x =
+    (quiet live (due.Do (act.Refuse id status rule) ∷ []) old (λ k. one (id == k)) tt refl (λ k. refl) seated)
+event_asked mtu ts live old (Request id (Leads found) ends) n acts new tunnels seated free x =
     let P : Bool → Type 0 = λ b. (one b + n id) + one (is_some (live id)) ≤ 1 in
     let Q : Bool → Type 0 = λ b. 1 ≤ one b in
     asked_same live acts (due.Do (goal_act id found) ∷ ended_acts id ends) new (old ++ record { id = id; goal = found; bytes = [] } ∷ []) (λ k. one (id == k)) x.0 x.1
-    (leads_asked live id found ends old (λ k. one (id == k)) fine (once_free (live id) (n id) (subst P (itself id) (free id))) seated served (λ k is. subst Q (sym is) (omega arith)))
-event_asked mtu ts live old (Malformed id code) n acts new tunnels seated served fine free x =
+    (leads_asked live id found ends old (λ k. one (id == k)) (once_free (live id) (n id) (subst P (itself id) (free id))) seated (λ k is. subst Q (sym is) (omega arith)))
+event_asked mtu ts live old (Malformed id code) n acts new tunnels seated free x =
     let o = find (λ (t : Tunnel). t.stream == id) ts in
-    asked_same live acts (error_acts id code o) new old (λ k. 0) x.0 x.1 (error_asked live id code o old (λ k. 0) (λ t e. tunnel_live live ts id t tunnels e) seated served)
-event_asked mtu ts live old (Content id bytes size ends) n acts new tunnels seated served fine free x =
+    asked_same live acts (error_acts id code o) new old (λ k. 0) x.0 x.1 (error_asked live id code o old (λ k. 0) (λ t e. tunnel_live live ts id t tunnels e) seated)
+event_asked mtu ts live old (Content id bytes size ends) n acts new tunnels seated free x =
     asked_same live acts acts new (more_bytes id bytes old) (λ k. 0) refl x.1
-    (content_asked mtu live id bytes size ends (stream_of old id) acts (more_bytes id bytes old) (λ k. 0) (λ s e. stream_there live old id s seated e) (more_live live id bytes old seated) (more_udp id bytes old served) x.0)
-event_asked mtu ts live old (Reset id) n acts new tunnels seated served fine free x =
+    (content_asked mtu live id bytes size ends (stream_of old id) acts (more_bytes id bytes old) (λ k. 0) (λ s e. stream_there live old id s seated e) (more_live live id bytes old seated) x.0)
+event_asked mtu ts live old (Reset id) n acts new tunnels seated free x =
     let o = find (λ (t : Tunnel). t.stream == id) ts in
-    asked_same live acts (reset_acts id o) new old (λ k. 0) x.0 x.1 (reset_asked live id o old (λ k. 0) (λ t e. tunnel_live live ts id t tunnels e) seated served)
-event_asked mtu ts live old (ConnectionError code) n acts new tunnels seated served fine free x =
-    asked_same live acts (due.Fault code ∷ []) new old (λ k. 0) x.0 x.1 (quiet live (due.Fault code ∷ []) old (λ k. 0) tt refl (λ k. refl) seated served)
+    asked_same live acts (reset_acts id o) new old (λ k. 0) x.0 x.1 (reset_asked live id o old (λ k. 0) (λ t e. tunnel_live live ts id t tunnels e) seated)
+event_asked mtu ts live old (ConnectionError code) n acts new tunnels seated free x =
+    asked_same live acts (due.Fault code ∷ []) new old (λ k. 0) x.0 x.1 (quiet live (due.Fault code ∷ []) old (λ k. 0) tt refl (λ k. refl) seated)
 
 -- ---- events in order
 
@@ -303,7 +299,6 @@ asked_both live here later mid new a n h k = record {
   follows = follows_both live here later h.follows k.follows;
   opens = both_opens here later h.opens k.opens;
   seated = each_so (Live (then_live (then_live live here) later)) (Live (then_live live (here ++ later))) new (λ s seat. behind_both s.id here later (live s.id) ∙ seat) k.seated;
-  served = k.served;
   begins = λ id is. by_first id (list_any (begins_on id) here) (h.begins id) (sym (any_append (begins_on id) here later) ∙ is);
 }
   where
@@ -311,17 +306,17 @@ asked_both live here later mid new a n h k = record {
     by_first id true f is = let first = f refl in omega (arith, first)
     by_first id false f is = let second = k.begins id is in omega (arith, second)
 
-events_asked : (mtu : ℕ) (ts : List Tunnel) (es : List StreamEvent) (live : ℕ → Option Kind) (old : List Stream) (acts : List Due) (new : List Stream) → TunnelsLive live ts → AreLive live old → AreServed old → AreFine es
+events_asked : (mtu : ℕ) (ts : List Tunnel) (es : List StreamEvent) (live : ℕ → Option Kind) (old : List Stream) (acts : List Due) (new : List Stream) → TunnelsLive live ts → AreLive live old
     → AskOnce (λ id. is_some (live id)) es → EventsAsk mtu ts old es acts new → Asked live acts new (λ id. requests id es)
-events_asked mtu ts [] live old acts new tunnels seated served fine free x = asked_same live acts [] new old (λ id. 0) x.0 x.1 (quiet live [] old (λ id. 0) tt refl (λ k. refl) seated served)
-events_asked mtu ts (e ∷ es) live old acts new tunnels seated served fine free x =
-    let here = event_asked mtu ts live old e (λ id. requests id es) x.0 x.1 tunnels seated served fine.0 free x.3 in
+events_asked mtu ts [] live old acts new tunnels seated free x = asked_same live acts [] new old (λ id. 0) x.0 x.1 (quiet live [] old (λ id. 0) tt refl (λ k. refl) seated)
+events_asked mtu ts (e ∷ es) live old acts new tunnels seated free x =
+    let here = event_asked mtu ts live old e (λ id. requests id es) x.0 x.1 tunnels seated free x.3 in
     let live_then = then_live live x.0 in
     let still : TunnelsLive live_then ts = each_so (λ (t : Tunnel). is_some (live t.stream) ≡ true) (λ (t : Tunnel). is_some (live_then t.stream) ≡ true) ts
     (λ t k. behind_some t.stream x.0 (live t.stream) ∙ or_left (is_some (live t.stream)) (list_any (begins_on t.stream) x.0) k) tunnels in
     let once : AskOnce (λ id. is_some (live_then id)) es = λ id. subst (λ b. requests id es + one b ≤ 1) (sym (behind_some id x.0 (live id)))
     (once_later (asks_for id e) (is_some (live id)) (list_any (begins_on id) x.0) (requests id es) (λ is. begins_asking (asks_for id e) (here.begins id is)) (free id)) in
-    let later = events_asked mtu ts es live_then x.1 x.2 new still here.seated here.served fine.1 once x.4 in
+    let later = events_asked mtu ts es live_then x.1 x.2 new still here.seated once x.4 in
     asked_same live acts (x.0 ++ x.2) new new (λ id. requests id (e ∷ es)) x.5 refl (asked_both live x.0 x.2 x.1 new (λ id. one (asks_for id e)) (λ id. requests id es) here later)
 
 -- ---- DATA that is to be consumed
@@ -422,22 +417,11 @@ marks_same setup id (f ∷ told) es x =
     let later = marks_same setup id told x.1 x.3 in
     ap (marks id) x.4 ∙ omega (arith, here, later)
 
-fine_frame : (setup : Setup) → setup.udp.kind ≡ kind.Udp → (f : http2.StreamEvent) (e : StreamEvent) → EventBrings setup f e → FineEvent e
-fine_frame setup k (frame_event.Request id fields ends) e x = subst FineEvent (sym x.2) (fine_kind setup k (request.kind_of fields) (request.path_of fields) x.0 x.1)
-fine_frame setup k (frame_event.Malformed id code) e x = subst FineEvent (sym x) tt
-fine_frame setup k (frame_event.Content id bytes size ends) e x = subst FineEvent (sym x) tt
-fine_frame setup k (frame_event.Reset id code) e x = subst FineEvent (sym x) tt
-fine_frame setup k (frame_event.ConnectionError code) e x = subst FineEvent (sym x) tt
-
-fine_frames : (setup : Setup) → setup.udp.kind ≡ kind.Udp → (told : List http2.StreamEvent) (es : List StreamEvent) → EventsBring setup told es → AreFine es
-fine_frames setup k [] es x = subst AreFine (sym x) tt
-fine_frames setup k (f ∷ told) es x = subst AreFine (sym x.4) (fine_frame setup k f x.0 x.2, fine_frames setup k told x.1 x.3)
-
 -- ---- what a read needs, and where it leads
 
 abbrev WhatComes : ℕ → List Tunnel → List Stream → List StreamEvent → Front → Type 0
 WhatComes mtu ts ss es front =
-    AreFine es × AskOnce (has_on ts) es
+    AskOnce (has_on ts) es
     × ((acts : List Due) (new : List Stream) → EventsAsk mtu ts ss es acts new → Asked (kind_on ts) acts new (λ id. requests id es) → Fits front None acts ts new)
 
 has_each : (P : ℕ → Type 0) (ts : List Tunnel) (id : ℕ) → AllByRecursion (λ (t : Tunnel). P t.stream) ts → has_on ts id ≡ true → P id
@@ -467,9 +451,9 @@ one_came may false n e h = refl
 one_came true true n e h = absurd (omega (arith, e, h))
 one_came false true n e h = absurd (omega (arith, e, h))
 
-frames_come : (setup : Setup) (old : h2.State) (bytes : List ℕ) (es : List StreamEvent) (text : List ℕ) (new : Front) (ts : List Tunnel) (ss : List Stream) → IsAskedOnce → IsTold → setup.udp.kind ≡ kind.Udp
+frames_come : (setup : Setup) (old : h2.State) (bytes : List ℕ) (es : List StreamEvent) (text : List ℕ) (new : Front) (ts : List Tunnel) (ss : List Stream) → IsAskedOnce → IsTold
     → Http2Fits old [] ts → FramesBring setup old bytes es text new → WhatComes setup.mtu ts ss es new
-frames_come setup old bytes es text new ts ss asked_once is_told udp h x =
+frames_come setup old bytes es text new ts ss asked_once is_told h x =
     let same : (id : ℕ) → requests id es ≡ count_by (asks id) x.told = λ id. requests_same setup id x.told es x.brings ∙ counted id x.told in
     let within : (id : ℕ) → requests id es + one (may_come id x.next) ≤ one (may_come id old) = λ id. (let s = same id in let w = asked_once old bytes x.told x.next id x.reads in omega (arith, s, w)) in
     let P : ℕ → Type 0 = λ id. may_come id old ≡ false in
@@ -486,7 +470,6 @@ frames_come setup old bytes es text new ts ss asked_once is_told udp h x =
           );
     } in
     let Q : Front → Type 0 = λ front. (acts : List Due) (streams : List Stream) → EventsAsk setup.mtu ts ss es acts streams → Asked (kind_on ts) acts streams (λ id. requests id es) → Fits front None acts ts streams in (
-      fine_frames setup udp x.told es x.brings,
       λ id. once_by (has_on ts id) (may_come id old) (may_come id x.next) (requests id es) (λ has. has_each P ts id h.tunnels has) (within id),
       subst Q (sym x.new_is) fits,
     )
@@ -523,10 +506,6 @@ content_requests : (id : ℕ) (bytes : List ℕ) → requests id (content_of byt
 content_requests id [] = refl
 content_requests id (b ∷ bytes) = omega arith
 
-content_fine : (bytes : List ℕ) → AreFine (content_of bytes)
-content_fine [] = tt
-content_fine (b ∷ bytes) = (tt, tt)
-
 http1_used : (ts : List Tunnel) (acts : List Due) → has_on ts 0 ≡ true → IsUsed None acts ts
 http1_used ts [] h = h
 http1_used ts (d ∷ acts) h = tt
@@ -537,7 +516,6 @@ has_most false = omega arith
 
 http1_come : (mtu : ℕ) (bytes : List ℕ) (ts : List Tunnel) (ss : List Stream) → Http1Fits None [] ts ss → WhatComes mtu ts ss (content_of bytes) OverHttp1
 http1_come mtu bytes ts ss h = (
-  content_fine bytes,
   λ id. (let none = content_requests id bytes in let most = has_most (has_on ts id) in omega (arith, none, most)),
   λ acts new asks asked. (let zero = bytes_zero mtu ts bytes ss acts new h.streams asks in record {
     due = zero_request acts zero.0;
@@ -582,9 +560,8 @@ upgrade_fits mtu (Refused status rule) bytes ts ss acts new none empty x =
       streams = later.1;
     }
 
-upgrade_comes : (mtu : ℕ) (meaning : Meaning) (bytes : List ℕ) (ts : List Tunnel) (ss : List Stream) → ts ≡ [] → ss ≡ [] → IsFine meaning → WhatComes mtu ts ss (Request 0 meaning false ∷ content_of bytes) OverHttp1
-upgrade_comes mtu meaning bytes ts ss none empty fine = (
-  (fine, content_fine bytes),
+upgrade_comes : (mtu : ℕ) (meaning : Meaning) (bytes : List ℕ) (ts : List Tunnel) (ss : List Stream) → ts ≡ [] → ss ≡ [] → WhatComes mtu ts ss (Request 0 meaning false ∷ content_of bytes) OverHttp1
+upgrade_comes mtu meaning bytes ts ss none empty = (
   λ id. one_request (requests id (content_of bytes)) (has_on ts id) (none_on ts none id) (content_requests id bytes) (0 == id),
   λ acts new asks asked. upgrade_fits mtu meaning bytes ts ss acts new none empty asks,
 )
@@ -592,7 +569,6 @@ upgrade_comes mtu meaning bytes ts ss none empty fine = (
 -- nothing came
 nothing_comes : (mtu : ℕ) (known : List ℕ) (ts : List Tunnel) (ss : List Stream) → ts ≡ [] → ss ≡ [] → WhatComes mtu ts ss [] (Head known)
 nothing_comes mtu known ts ss none empty = (
-  tt,
   λ id. (let most = has_most (has_on ts id) in omega (arith, most)),
   λ acts new asks asked. (asks.0, none, asks.1 ∙ empty),
 )
@@ -603,20 +579,20 @@ comes_same mtu ts ss es es2 f g e k h =
     let Q : Front → Type 0 = λ f. WhatComes mtu ts ss es f in
     subst Q (sym k) (subst P (sym e) h)
 
-step_comes : (setup : Setup) → setup.udp.kind ≡ kind.Udp → (before bytes : List ℕ) (step : HeadStep) (es : List StreamEvent) (front : Front) (ts : List Tunnel) (ss : List Stream) → ts ≡ [] → ss ≡ []
+step_comes : (setup : Setup) → (before bytes : List ℕ) (step : HeadStep) (es : List StreamEvent) (front : Front) (ts : List Tunnel) (ss : List Stream) → ts ≡ [] → ss ≡ []
     → StepBrings setup before bytes step es front → WhatComes setup.mtu ts ss es front
-step_comes setup udp before bytes More es front ts ss none empty x = comes_same setup.mtu ts ss es [] front (Head (before ++ bytes)) x.0 x.1 (nothing_comes setup.mtu (before ++ bytes) ts ss none empty)
-step_comes setup udp before bytes (Refuse status) es front ts ss none empty x =
-    comes_same setup.mtu ts ss es (Request 0 (Refused status 0) false ∷ []) front OverHttp1 x.0 x.1 (upgrade_comes setup.mtu (Refused status 0) [] ts ss none empty tt)
-step_comes setup udp before bytes (Upgrade kind path used) es front ts ss none empty x =
+step_comes setup before bytes More es front ts ss none empty x = comes_same setup.mtu ts ss es [] front (Head (before ++ bytes)) x.0 x.1 (nothing_comes setup.mtu (before ++ bytes) ts ss none empty)
+step_comes setup before bytes (Refuse status) es front ts ss none empty x =
+    comes_same setup.mtu ts ss es (Request 0 (Refused status 0) false ∷ []) front OverHttp1 x.0 x.1 (upgrade_comes setup.mtu (Refused status 0) [] ts ss none empty)
+step_comes setup before bytes (Upgrade kind path used) es front ts ss none empty x =
     comes_same setup.mtu ts ss es (Request 0 x.0 false ∷ content_of (drop used bytes)) front OverHttp1 x.2 x.3
-    (upgrade_comes setup.mtu x.0 (drop used bytes) ts ss none empty (fine_path setup udp kind path x.0 x.1))
+    (upgrade_comes setup.mtu x.0 (drop used bytes) ts ss none empty)
 
-other_comes : (setup : Setup) → setup.udp.kind ≡ kind.Udp → (o : Opening) (before bytes : List ℕ) (es : List StreamEvent) (front : Front) (ts : List Tunnel) (ss : List Stream) → ts ≡ [] → ss ≡ []
+other_comes : (setup : Setup) → (o : Opening) (before bytes : List ℕ) (es : List StreamEvent) (front : Front) (ts : List Tunnel) (ss : List Stream) → ts ≡ [] → ss ≡ []
     → OtherBrings setup o before bytes es front → WhatComes setup.mtu ts ss es front
-other_comes setup udp Part before bytes es front ts ss none empty x = step_comes setup udp [] (before ++ bytes) x.0 es front ts ss none empty x.2
-other_comes setup udp (Whole frames) before bytes es front ts ss none empty x = step_comes setup udp before bytes x.0 es front ts ss none empty x.2
-other_comes setup udp Other before bytes es front ts ss none empty x = step_comes setup udp before bytes x.0 es front ts ss none empty x.2
+other_comes setup Part before bytes es front ts ss none empty x = step_comes setup [] (before ++ bytes) x.0 es front ts ss none empty x.2
+other_comes setup (Whole frames) before bytes es front ts ss none empty x = step_comes setup before bytes x.0 es front ts ss none empty x.2
+other_comes setup Other before bytes es front ts ss none empty x = step_comes setup before bytes x.0 es front ts ss none empty x.2
 
 new_fits : (ts : List Tunnel) → ts ≡ [] → Http2Fits h2.new_state [] ts
 new_fits ts none = record {
@@ -625,19 +601,19 @@ new_fits ts none = record {
   spends = λ id. omega arith;
 }
 
-opening_comes : (setup : Setup) → IsAskedOnce → IsTold → setup.udp.kind ≡ kind.Udp → (o : Opening) (before bytes : List ℕ) (es : List StreamEvent) (text : List ℕ) (front : Front) (ts : List Tunnel) (ss : List Stream) → ts ≡ [] → ss ≡ []
+opening_comes : (setup : Setup) → IsAskedOnce → IsTold → (o : Opening) (before bytes : List ℕ) (es : List StreamEvent) (text : List ℕ) (front : Front) (ts : List Tunnel) (ss : List Stream) → ts ≡ [] → ss ≡ []
     → OpeningBrings setup o before bytes es text front → WhatComes setup.mtu ts ss es front
-opening_comes setup asked_once is_told udp Part before bytes es text front ts ss none empty x =
+opening_comes setup asked_once is_told Part before bytes es text front ts ss none empty x =
     comes_same setup.mtu ts ss es [] front (Head (before ++ bytes)) x.0 x.2 (nothing_comes setup.mtu (before ++ bytes) ts ss none empty)
-opening_comes setup asked_once is_told udp (Whole frames) before bytes es text front ts ss none empty x =
-    frames_come setup h2.new_state frames es text front ts ss asked_once is_told udp (new_fits ts none) x
-opening_comes setup asked_once is_told udp Other before bytes es text front ts ss none empty x = other_comes setup udp (opening_of before) before bytes es front ts ss none empty x.0
+opening_comes setup asked_once is_told (Whole frames) before bytes es text front ts ss none empty x =
+    frames_come setup h2.new_state frames es text front ts ss asked_once is_told (new_fits ts none) x
+opening_comes setup asked_once is_told Other before bytes es text front ts ss none empty x = other_comes setup (opening_of before) before bytes es front ts ss none empty x.0
 
-read_comes : (setup : Setup) → IsAskedOnce → IsTold → setup.udp.kind ≡ kind.Udp → (old : Front) (bytes : List ℕ) (es : List StreamEvent) (text : List ℕ) (new : Front) (ts : List Tunnel) (ss : List Stream)
+read_comes : (setup : Setup) → IsAskedOnce → IsTold → (old : Front) (bytes : List ℕ) (es : List StreamEvent) (text : List ℕ) (new : Front) (ts : List Tunnel) (ss : List Stream)
     → Fits old None [] ts ss → Brings setup old bytes es text new → WhatComes setup.mtu ts ss es new
-read_comes setup asked_once is_told udp (Head before) bytes es text new ts ss h x = opening_comes setup asked_once is_told udp (opening_of (before ++ bytes)) before bytes es text new ts ss h.1 h.2 x
-read_comes setup asked_once is_told udp OverHttp1 bytes es text new ts ss h x = comes_same setup.mtu ts ss es (content_of bytes) new OverHttp1 x.0 x.2 (http1_come setup.mtu bytes ts ss h)
-read_comes setup asked_once is_told udp (OverHttp2 s) bytes es text new ts ss h x = frames_come setup s bytes es text new ts ss asked_once is_told udp h x
+read_comes setup asked_once is_told (Head before) bytes es text new ts ss h x = opening_comes setup asked_once is_told (opening_of (before ++ bytes)) before bytes es text new ts ss h.1 h.2 x
+read_comes setup asked_once is_told OverHttp1 bytes es text new ts ss h x = comes_same setup.mtu ts ss es (content_of bytes) new OverHttp1 x.0 x.2 (http1_come setup.mtu bytes ts ss h)
+read_comes setup asked_once is_told (OverHttp2 s) bytes es text new ts ss h x = frames_come setup s bytes es text new ts ss asked_once is_told h x
 
 -- ---- a read
 
@@ -645,13 +621,13 @@ each_in : (P : Tunnel → Type 0) (ts : List Tunnel) → ((t : Tunnel) → In t 
 each_in P [] f = tt
 each_in P (t ∷ ts) f = (f t (inl refl), each_in P ts (λ u i. f u (inr i)))
 
-read_loose : (setup : Setup) → IsAskedOnce → IsTold → setup.udp.kind ≡ kind.Udp → (bytes : List ℕ) (es : List StreamEvent) (text : List ℕ) (old new : Front) (ts : List Tunnel) (ss : List Stream) (acts : List Due) (streams : List Stream)
+read_loose : (setup : Setup) → IsAskedOnce → IsTold → (bytes : List ℕ) (es : List StreamEvent) (text : List ℕ) (old new : Front) (ts : List Tunnel) (ss : List Stream) (acts : List Due) (streams : List Stream)
     → Loose None [] ts ss old → Brings setup old bytes es text new → EventsAsk setup.mtu ts ss es acts streams → Loose None acts ts streams new × NoOpens acts
-read_loose setup asked_once is_told udp bytes es text old new ts ss acts streams h brings asks =
-    let comes = read_comes setup asked_once is_told udp old bytes es text new ts ss h.front brings in
+read_loose setup asked_once is_told bytes es text old new ts ss acts streams h brings asks =
+    let comes = read_comes setup asked_once is_told old bytes es text new ts ss h.front brings in
     let live : TunnelsLive (kind_on ts) ts = each_in (λ (t : Tunnel). is_some (kind_on ts t.stream) ≡ true) ts (λ t i. kind_there ts t.stream ∙ in_has ts t i) in
-    let once : AskOnce (λ id. is_some (kind_on ts id)) es = λ id. subst (λ b. requests id es + one b ≤ 1) (sym (kind_there ts id)) (comes.1 id) in
-    let asked = events_asked setup.mtu ts es (kind_on ts) ss acts streams live h.seated h.asked comes.0 once asks in (
+    let once : AskOnce (λ id. is_some (kind_on ts id)) es = λ id. subst (λ b. requests id es + one b ≤ 1) (sym (kind_there ts id)) (comes.0 id) in
+    let asked = events_asked setup.mtu ts es (kind_on ts) ss acts streams live h.seated once asks in (
       record {
         over = tt;
         follows = asked.follows;
@@ -659,26 +635,24 @@ read_loose setup asked_once is_told udp bytes es text old new ts ss acts streams
         seated = asked.seated;
         alone = h.alone;
         numbered = h.numbered;
-        served = h.served;
-        asked = asked.served;
-        front = comes.2 acts streams asks asked;
+        front = comes.1 acts streams asks asked;
       },
       asked.opens,
     )
 
-pub took_loose : (setup : Setup) (c : Conn) (bytes : List ℕ) (es : List StreamEvent) (text : List ℕ) (front : Front) (acts : List Due) (streams : List Stream) → IsAskedOnce → IsTold → setup.udp.kind ≡ kind.Udp → IsLawful c
+pub took_loose : (setup : Setup) (c : Conn) (bytes : List ℕ) (es : List StreamEvent) (text : List ℕ) (front : Front) (acts : List Due) (streams : List Stream) → IsAskedOnce → IsTold → IsLawful c
     → can_read c ≡ true → Brings setup c.front bytes es text front → EventsAsk setup.mtu c.tunnels c.streams es acts streams
     → IsLoose (record c { front = front; streams = streams; due = acts; out = c.out ++ text }) × NoOpens acts
-took_loose setup c bytes es text front acts streams asked_once is_told udp h can brings asks =
+took_loose setup c bytes es text front acts streams asked_once is_told h can brings asks =
     let idle = reads_idle c h can in
     let P : List Due → Type 0 = λ ds. Loose c.ending ds c.tunnels c.streams c.front in
     let Q : Option End → Type 0 = λ e. Loose e [] c.tunnels c.streams c.front in
     let R : Option End → Type 0 = λ e. Loose e acts c.tunnels streams front in
     let old = subst Q idle.ending (subst P idle.due h.loose) in
-    let new = read_loose setup asked_once is_told udp bytes es text c.front front c.tunnels c.streams acts streams old brings asks in
+    let new = read_loose setup asked_once is_told bytes es text c.front front c.tunnels c.streams acts streams old brings asks in
     (subst R (sym idle.ending) new.0, new.1)
 
-pub took_lawful : (setup : Setup) (c : Conn) (bytes : List ℕ) (d : Conn) → IsAskedOnce → IsTold → setup.udp.kind ≡ kind.Udp → IsLawful c → TookNext setup c bytes d → IsLawful d
-took_lawful setup c bytes d asked_once is_told udp h x =
-    let l = took_loose setup c bytes x.events x.text x.front x.acts x.streams asked_once is_told udp h x.can x.brings x.asks in
+pub took_lawful : (setup : Setup) (c : Conn) (bytes : List ℕ) (d : Conn) → IsAskedOnce → IsTold → IsLawful c → TookNext setup c bytes d → IsLawful d
+took_lawful setup c bytes d asked_once is_told h x =
+    let l = took_loose setup c bytes x.events x.text x.front x.acts x.streams asked_once is_told h x.can x.brings x.asks in
     subst IsLawful (sym x.new_is) (settle_lawful (record c { front = x.front; streams = x.streams; due = x.acts; out = c.out ++ x.text }) l.0)

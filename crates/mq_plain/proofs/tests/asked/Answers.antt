@@ -18,6 +18,6 @@ returns c = λ seen boxes one empty two.
     let few : 0 < seen.config.workers = omega (arith, one) in
     let size : length boxes ≡ seen.config.workers + 1 = two ∙ ap (λ (n : ℕ). n + 1) (sym one) in
     let ready : a.table.ports.bind_fails ≡ false = ap (λ (p : PortsOf). p.bind_fails) (c.in_ok-worker.ensures.empty.3 ∙ c.in_ok-ports.ensures) in
-    let begun = begins a 0 setup c.in_ok-worker.ensures.stands seen boxes few (c.in_ok-setup.ensures.1 ∙ sym one) empty size ready in
+    let begun = begins a 0 setup c.in_ok-worker.ensures.stands seen boxes few (c.in_ok-setup.ensures ∙ sym one) empty size ready in
     let offered = c.in_ok-offer.ensures.serves [] seen boxes 0 (new_worker 0 setup) refl begun in
     (_, _, c.in_ok-piece.ensures.serves _ seen boxes 0 _ offered)

@@ -10,7 +10,7 @@ pub steps-requires-clause-known : goal.steps-requires-clause-known
 steps-requires-clause-known g c =
     let x = c.in_ok-worker.ensures (seen_of c.in_ok-office.office.office) ([] ∷ [] ∷ []) c.in_ok-office.ensures.config c.in_ok-office.ensures.empty refl in
     let known = x.2.known nowhere in
-    (nowhere, x.1, x.2.stands, record { id = known.id; pump = known.pump; tunnels = known.tunnels; last = known.last; boxes = λ bs is. absurd cc })
+    (nowhere, x.1, x.2.stands, record { id = known.id; pump = known.pump; tunnels = known.tunnels; last = known.last; places = known.places; boxes = λ bs is. absurd cc })
 
 pub steps-requires-clause-office : goal.steps-requires-clause-office
 steps-requires-clause-office g c =

@@ -10,6 +10,7 @@ use Rattle.mq_held.specs.Seats.{IsSeatOf}
 use Rattle.mq_step.specs.Sights.{idle}
 use Rattle.mq_step.specs.Closing.{Retires}
 use Rattle.mq_step.proofs.Standing.{bound_none}
+use Rattle.mq_step.proofs.Wanting.{mailed}
 use Rattle.mq_step.proofs.Cores.{same_actor}
 use Rattle.mq_step.proofs.Retiring.{retired_apart, retired_stands, retired_told}
 use Rattle.mq_step.proofs.Asking.{Closes, closes_fresh, may_call, close_done, closed_left}
@@ -22,11 +23,12 @@ ask-requires g c =
     let k = c.requires.known in
     record {
       sound = k.2.sound;
-      may = may_call c.args.held.now.conn (g.O.Office.seen c.args.office.now) (g.O.Office.seen c.args.office.now).actor k.0 (Close c.args.tunnel) k.1.conn k.2 k.3;
+      may = may_call c.args.held.now.conn (g.O.Office.seen c.args.office.now) (g.O.Office.seen c.args.office.now).actor k.0 (Close c.args.tunnel) k.1.conn k.2 tt k.3;
     }
 
 pub returns-clause-gives : goal.returns-clause-gives
-returns-clause-gives g c = λ o n so sn s held want boxes orders.
+returns-clause-gives g c = λ o n so sn s held want count mail has orders.
+    let m = mailed (g.O.Office.seen c.args.office.now) count mail has in
     let k = c.requires.known in
     let old = c.args.held.now in
     let new = c.retire.new.self in
@@ -51,7 +53,7 @@ returns-clause-gives g c = λ o n so sn s held want boxes orders.
     let C : Core → Type 0 = λ x. IsConn x e.0 in
     let conn = subst C (sym (ap (λ h. h.conn) c.retire.ensures.rest)) e.2 in (
       closed_left o s c.args.tunnel e.0,
-      close_done o n actor seen seen_after boxes orders s c.args.tunnel c.in_ok-heard.heard.note e.0 mine want closes
+      close_done o n actor seen seen_after m orders s c.args.tunnel c.in_ok-heard.heard.note e.0 mine want closes
           (ap (λ (b : Binder). b.holds) sn.binds_are ∙ c.retire.ensures.holds ∙ sym (ap (λ (b : Binder). b.holds) so.binds_are)),
       retired_stands most table after old new s c.args.tunnel c.in_ok-heard.heard.note e.0 s.link o idle held want number retires bound (closed_does actor seen seen_after s c.args.tunnel c.in_ok-heard.heard.note e.0 closes) conn,
       retired_told table after old.ports.items new.ports.items c.args.tunnel most g.P.P.Port.holds g.P.P.Port.counts o n idle s.ports retires held.apart held.ports so.ports sn.ports,
@@ -70,7 +72,8 @@ returns-clause-others g c = λ key port at other.
     (r.0, record { seats_are = r.1; bound_is = λ is. other.bound_is (sym bound ∙ is) })
 
 pub returns-clause-closes : goal.returns-clause-closes
-returns-clause-closes g c = λ s held want.
+returns-clause-closes g c = λ s held want count mail has.
+    let m = mailed (g.O.Office.seen c.args.office.now) count mail has in
     let k = c.requires.known in
     let old = c.args.held.now in
     let new = c.retire.new.self in
@@ -98,7 +101,7 @@ returns-clause-closes g c = λ s held want.
     (binder g.P.Ports.holds g.P.Ports.faults c.retire.new.table.ports ≡ binder g.P.Ports.holds g.P.Ports.faults c.args.table.now.ports)
     (λ port. binder g.P.Ports.holds g.P.Ports.faults c.retire.new.table.ports ≡ handed_back (g.P.P.Port.counts port).faults (binder g.P.Ports.holds g.P.Ports.faults c.args.table.now.ports)) in
     let handed = subst S items (λ place seat is. (c.retire.ensures.seat place seat is).2) in (
-      λ boxes orders. closed_is most table after old new actor seen seen_after boxes orders s c.args.tunnel c.in_ok-heard.heard.note e.0 held mine want number retires bound closes conn,
+      λ orders. closed_is most table after old new actor seen seen_after m orders s c.args.tunnel c.in_ok-heard.heard.note e.0 held mine want number retires bound closes conn,
       λ place seat port_is is at. at_some (get table seat.key) port_is
           (binder g.P.Ports.holds g.P.Ports.faults c.retire.new.table.ports ≡ binder g.P.Ports.holds g.P.Ports.faults c.args.table.now.ports)
           (λ port. binder g.P.Ports.holds g.P.Ports.faults c.retire.new.table.ports ≡ handed_back (g.P.P.Port.counts port).faults (binder g.P.Ports.holds g.P.Ports.faults c.args.table.now.ports)) at

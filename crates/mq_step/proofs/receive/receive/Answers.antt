@@ -1,6 +1,7 @@
-use Rattle.std.proofs.Common.{rules, ◌≡◌, ℕ, ◌+◌, suc, List, length, slice_get, Result, Ok, Err, refl, sym, ap, subst, ◌∙◌, arith}
+use Rattle.std.proofs.Common.{rules, ◌≡◌, ℕ, ◌+◌, suc, List, length, slice_get, Option, Result, Ok, Err, refl, sym, ap, subst, ◌∙◌, arith}
 use Rattle.std.specs.Vec.{vec_len}
 use Rattle.mq_wire.specs.declared.NoMemory.{NoMemory}
+use Rattle.mq_talk.specs.Mails.{Boxes}
 use Rattle.mq_talk.specs.Offices.{Seen}
 use Rattle.mq_machine.specs.Acting.{binder}
 use Rattle.mq_held.specs.declared.held.Held.{Held as HeldBy}
@@ -23,7 +24,9 @@ loop-place-init g c = record {
   stays = refl;
   still = λ s held wait. held;
   apart = c.requires.known.1.apart;
-  calm = (refl, refl);
+  calm = (refl, refl, refl);
+  inboxes = c.requires.inboxes;
+  mail = (refl, refl);
   actor = refl;
   others = λ key port at other. (at, other);
   sound = λ is. is;
@@ -41,6 +44,12 @@ receive_at-requires-clause-known g c =
 
 pub receive_at-requires-clause-rooms : goal.receive_at-requires-clause-rooms
 receive_at-requires-clause-rooms g c = c.loop-place.invariant.rooms
+
+pub receive_at-requires-clause-inboxes : goal.receive_at-requires-clause-inboxes
+receive_at-requires-clause-inboxes g c = c.loop-place.invariant.inboxes
+
+pub receive_at-requires-clause-pump : goal.receive_at-requires-clause-pump
+receive_at-requires-clause-pump g c = c.requires.pump ∙ ap (λ (seen : Seen). seen.config.workers) (sym c.loop-place.invariant.calm.0)
 
 pub returns-in_err-stepped-clause-gives : goal.returns-in_err-stepped-clause-gives
 returns-in_err-stepped-clause-gives g c = λ o n so sn s held wait setup.
@@ -62,10 +71,11 @@ returns-in_err-stepped-clause-gives g c = λ o n so sn s held wait setup.
     let pc = counts_now most holds g.P.P.Port.past counts table c.loop-place.table.table old o s c.loop-place.place held so.of_table.ports i.passed in
     let sees = sees_mid most holds g.P.P.Port.past counts table c.loop-place.table.table old o s c.loop-place.place held so.of_table.ports i.passed g.L.Link.holds g.L.Link.counts
     (binder g.P.Ports.holds g.P.Ports.faults c.loop-place.table.ports) mid_held (ap (λ h. h.number) i.rest) (ap (λ h. h.link) i.rest) i.stays so.of_link (so.of_table.binds_are ∙ sym i.calm.1) in
-    let E : Seen → Type 0 = λ x. Gives setup (receive_alone seat.0.tunnel) (ReceivesWait seat.0.tunnel) (mid o o.link_counts pc) n x (g.O.Office.seen office) (IsHeld most after.table new) s (Err c.in_err-stepped.field-0.0) in
-    let gives = subst E i.calm.0 (c.in_err-stepped.ensures.gives (mid o o.link_counts pc) n sees sn s (i.still s held wait) wait setup seat.0 there) in
-    err_gives setup o n (g.O.Office.seen c.args.office.now) (g.O.Office.seen office) (IsHeld most after.table new) s c.in_err-stepped.field-0.0 c.from_residual.result c.from_residual.ensures.0
-    (seat_gives most holds g.P.P.Port.past counts table c.loop-place.table.table old o s c.loop-place.place held so.of_table.ports i.passed seat.0 seat.1 setup n (g.O.Office.seen c.args.office.now) (g.O.Office.seen office)
+    let E : Seen → Type 0 = λ x. Gives setup (receive_alone seat.0.tunnel) (ReceivesWait seat.0.tunnel) (mid o o.link_counts pc) n x (g.O.Office.seen office) (g.M.Mail.boxes c.args.mail.now) (g.M.Mail.boxes c.receive_at.new.mail) (IsHeld most after.table new) s (Err c.in_err-stepped.field-0.0) in
+    let B : Option Boxes → Type 0 = λ x. Gives setup (receive_alone seat.0.tunnel) (ReceivesWait seat.0.tunnel) (mid o o.link_counts pc) n (g.O.Office.seen c.loop-place.office) (g.O.Office.seen office) x (g.M.Mail.boxes c.receive_at.new.mail) (IsHeld most after.table new) s (Err c.in_err-stepped.field-0.0) in
+    let gives = subst E i.calm.0 (subst B i.calm.2 (c.in_err-stepped.ensures.gives (mid o o.link_counts pc) n sees sn s (i.still s held wait) wait setup seat.0 there)) in
+    err_gives setup o n (g.O.Office.seen c.args.office.now) (g.O.Office.seen office) (g.M.Mail.boxes c.args.mail.now) (g.M.Mail.boxes c.receive_at.new.mail) (IsHeld most after.table new) s c.in_err-stepped.field-0.0 c.from_residual.result c.from_residual.ensures.0
+    (seat_gives most holds g.P.P.Port.past counts table c.loop-place.table.table old o s c.loop-place.place held so.of_table.ports i.passed seat.0 seat.1 setup n (g.O.Office.seen c.args.office.now) (g.O.Office.seen office) (g.M.Mail.boxes c.args.mail.now) (g.M.Mail.boxes c.receive_at.new.mail)
     (IsHeld most after.table new) (Err c.in_err-stepped.field-0.0) (λ is. absurd cc) gives)
 
 pub returns-in_err-stepped-clause-rest : goal.returns-in_err-stepped-clause-rest
@@ -101,9 +111,10 @@ returns-in_default g c = record {
       let pc = counts_now most holds g.P.P.Port.past counts table c.loop-place.table.table old o s c.loop-place.place held so.of_table.ports i.passed in
       let sees = sees_mid most holds g.P.P.Port.past counts table c.loop-place.table.table old o s c.loop-place.place held so.of_table.ports i.passed g.L.Link.holds g.L.Link.counts
       (binder g.P.Ports.holds g.P.Ports.faults c.loop-place.table.ports) mid_held (ap (λ h. h.number) i.rest) (ap (λ h. h.link) i.rest) i.stays so.of_link (so.of_table.binds_are ∙ sym i.calm.1) in
-      let E : Seen → Type 0 = λ x. Gives setup (receive_alone seat.0.tunnel) (ReceivesWait seat.0.tunnel) (mid o o.link_counts pc) n x (g.O.Office.seen office) (IsHeld most after.table new) s (Ok c.in_ok-stepped.stepped) in
-      let gives = subst E i.calm.0 (c.in_ok-stepped.ensures.gives (mid o o.link_counts pc) n sees sn s (i.still s held wait) wait setup seat.0 there) in
-      seat_gives most holds g.P.P.Port.past counts table c.loop-place.table.table old o s c.loop-place.place held so.of_table.ports i.passed seat.0 seat.1 setup n (g.O.Office.seen c.args.office.now) (g.O.Office.seen office)
+      let E : Seen → Type 0 = λ x. Gives setup (receive_alone seat.0.tunnel) (ReceivesWait seat.0.tunnel) (mid o o.link_counts pc) n x (g.O.Office.seen office) (g.M.Mail.boxes c.args.mail.now) (g.M.Mail.boxes c.receive_at.new.mail) (IsHeld most after.table new) s (Ok c.in_ok-stepped.stepped) in
+      let B : Option Boxes → Type 0 = λ x. Gives setup (receive_alone seat.0.tunnel) (ReceivesWait seat.0.tunnel) (mid o o.link_counts pc) n (g.O.Office.seen c.loop-place.office) (g.O.Office.seen office) x (g.M.Mail.boxes c.receive_at.new.mail) (IsHeld most after.table new) s (Ok c.in_ok-stepped.stepped) in
+      let gives = subst E i.calm.0 (subst B i.calm.2 (c.in_ok-stepped.ensures.gives (mid o o.link_counts pc) n sees sn s (i.still s held wait) wait setup seat.0 there)) in
+      seat_gives most holds g.P.P.Port.past counts table c.loop-place.table.table old o s c.loop-place.place held so.of_table.ports i.passed seat.0 seat.1 setup n (g.O.Office.seen c.args.office.now) (g.O.Office.seen office) (g.M.Mail.boxes c.args.mail.now) (g.M.Mail.boxes c.receive_at.new.mail)
       (IsHeld most after.table new) (Ok c.in_ok-stepped.stepped) (λ is. c.in_default.not-Quiet (same_ok c.in_ok-stepped.stepped Quiet is)) gives;
   rest = c.in_ok-stepped.ensures.rest ∙ ap (λ (h : HeldBy g.row.L.Denot). record h { conn = c.receive_at.new.held.conn; ports = c.receive_at.new.held.ports; bound = c.receive_at.new.held.bound }) c.loop-place.invariant.rest;
   ends = λ said is. c.in_ok-stepped.ensures.ends said is ∙ c.loop-place.invariant.stays;
@@ -115,6 +126,8 @@ returns-in_default g c = record {
   actor = c.in_ok-stepped.ensures.actor ∙ c.loop-place.invariant.actor;
   others = keeps_both c.args.held.now c.loop-place.held c.receive_at.new.held c.args.table.now.table c.loop-place.table.table c.receive_at.new.table.table c.loop-place.invariant.others c.in_ok-stepped.ensures.others;
   sound = λ is. c.in_ok-stepped.ensures.sound (c.loop-place.invariant.sound is);
+  mail = (c.in_ok-stepped.ensures.mail.0 ∙ c.loop-place.invariant.mail.0, c.in_ok-stepped.ensures.mail.1 ∙ c.loop-place.invariant.mail.1);
+  inboxes = c.in_ok-stepped.ensures.inboxes;
   balanced = λ is. c.in_ok-stepped.ensures.balanced (c.loop-place.invariant.balanced is);
 } where
   same_ok : (a b : Stepped) → ◌≡◌ {A = Result Stepped NoMemory} (Ok a) (Ok b) → a ≡ b
@@ -144,7 +157,9 @@ loop-place-preserved g c =
       stays = e.stays quiet ∙ i.stays;
       still = λ s held wait. e.still quiet s (i.still s held wait) wait;
       apart = e.apart;
-      calm = (calm.0 ∙ i.calm.0, calm.1 ∙ i.calm.1);
+      calm = (calm.0 ∙ i.calm.0, calm.1 ∙ i.calm.1, calm.2 ∙ i.calm.2);
+      mail = (e.mail.0 ∙ i.mail.0, e.mail.1 ∙ i.mail.1);
+      inboxes = e.inboxes;
       actor = e.actor ∙ i.actor;
       others = keeps_both c.args.held.now c.loop-place.held c.receive_at.new.held c.args.table.now.table c.loop-place.table.table c.receive_at.new.table.table c.loop-place.invariant.others e.others;
       sound = λ is. e.sound (i.sound is);
@@ -167,10 +182,12 @@ returns-clause-gives g c = λ o n so sn s held wait setup.
     let end = c.len-place-end.ensures in
     let out = c.loop-place-test.false in
     let P : List PortSeat → Type 0 = λ xs. SeesPorts holds counts after n xs in
-    let W : Seen → Type 0 = λ x. Waited receives_of o n seen x s in (
-      subst W (sym i.calm.0) (all_waited most holds g.P.P.Port.past counts table after old o s c.loop-place.place held so.of_table.ports i.passed g.L.Link.holds g.L.Link.counts c.loop-place.held n seen
+    let mail = g.M.Mail.boxes c.args.mail.now in
+    let W : Seen → Type 0 = λ x. Waited receives_of o n seen x mail (g.M.Mail.boxes c.loop-place.mail) s in
+    let V : Option Boxes → Type 0 = λ x. Waited receives_of o n seen seen mail x s in (
+      subst W (sym i.calm.0) (subst V (sym i.calm.2) (all_waited most holds g.P.P.Port.past counts table after old o s c.loop-place.place held so.of_table.ports i.passed g.L.Link.holds g.L.Link.counts c.loop-place.held n seen mail
           (omega (arith, len, end, out)) (ap (λ h. h.number) i.rest) (ap (λ h. h.link) i.rest) so.of_link sn.of_link (subst P i.stays sn.of_table.ports)
-          (sn.of_table.binds_are ∙ i.calm.1 ∙ sym so.of_table.binds_are)),
+          (sn.of_table.binds_are ∙ i.calm.1 ∙ sym so.of_table.binds_are))),
       i.still s held wait,
     )
 
@@ -200,3 +217,18 @@ returns-clause-others g c = c.loop-place.invariant.others
 
 pub returns-clause-balanced : goal.returns-clause-balanced
 returns-clause-balanced g c = c.loop-place.invariant.balanced
+
+pub returns-in_err-stepped-clause-mail : goal.returns-in_err-stepped-clause-mail
+returns-in_err-stepped-clause-mail g c =
+    let e = c.in_err-stepped.ensures in
+    let i = c.loop-place.invariant in
+    (e.mail.0 ∙ i.mail.0, e.mail.1 ∙ i.mail.1)
+
+pub returns-in_err-stepped-clause-inboxes : goal.returns-in_err-stepped-clause-inboxes
+returns-in_err-stepped-clause-inboxes g c = c.in_err-stepped.ensures.inboxes
+
+pub returns-clause-mail : goal.returns-clause-mail
+returns-clause-mail g c = c.loop-place.invariant.mail
+
+pub returns-clause-inboxes : goal.returns-clause-inboxes
+returns-clause-inboxes g c = c.loop-place.invariant.inboxes

@@ -1,8 +1,7 @@
-use Rattle.std.proofs.Common.{◌≡◌, ◌∙◌, ℕ, List, ◌∷◌, [], All, Option, Some, None, MatchOption, Ok, slice_get, slice_set, refl, sym, ap, subst}
+use Rattle.std.proofs.Common.{◌≡◌, ◌∙◌, ℕ, List, All, Option, Some, None, MatchOption, Ok, slice_get, slice_set, refl, sym, ap, subst}
 use Rattle.slab.specs.Slab.{get}
 use Rattle.mq_outside.specs.Counts.{risen, PortCounts, no_port_counts}
 use Rattle.mq_outside.specs.Ports.{PortHolds}
-use Rattle.mq_talk.specs.declared.place.Parcel.{Parcel}
 use Rattle.mq_machine.specs.State as machine
 use Rattle.mq_conn.specs.declared.conn.Conn.{Conn as Core}
 use Rattle.mq_conn.specs.Conns.{IsConn}
@@ -11,6 +10,7 @@ use Rattle.mq_held.specs.declared.went.Went.{Went}
 use Rattle.mq_held.specs.Ports.{receive_calls, ReceiveGives}
 use Rattle.mq_held.specs.Seats.{counted}
 use Rattle.mq_machine.specs.Acting.{Binder, binder, handed_back}
+use Rattle.mq_step.proofs.Wanting.{mailed}
 use Rattle.mq_step.specs.Holds.{IsHeld}
 use Rattle.mq_held.specs.Seats.{IsSeatOf}
 use Rattle.mq_step.specs.Sights.{SeesPorts}
@@ -53,9 +53,10 @@ returns-in-Waits-clause-gives g c = λ o n so sn s held wait setup seat at.
     behind_of most holds counts g.L.Link.holds g.L.Link.counts table after old mid o n c.args.place mine x.is.port r.0 here r.1 limit e.others so.of_table.ports
     (subst V (ap (λ h. h.ports.items) rest) sn.of_table.ports) (ap (λ h. h.number) rest) (ap (λ h. h.link) rest) (ap (λ h. h.bound) rest) so.of_link sn.of_link in
     let seen = g.O.Office.seen c.args.office.now in
-    let P : PortSeat → Type 0 = λ y. Waited (receive_alone y.tunnel) o n seen seen s × IsHeld most after mid s in
+    let mail = g.M.Mail.boxes c.args.mail.now in
+    let P : PortSeat → Type 0 = λ y. Waited (receive_alone y.tunnel) o n seen seen mail mail s × IsHeld most after mid s in
     subst P (same_seat old.ports.items c.args.place mine seat here at) (
-      received_waits most holds past counts table after old mid o n s mine x b seen r.2.0 (sn.of_table.binds_are ∙ ap (binder g.P.Ports.holds g.P.Ports.faults) e.ports ∙ sym so.of_table.binds_are),
+      received_waits most holds past counts table after old mid o n s mine x b seen mail r.2.0 (sn.of_table.binds_are ∙ ap (binder g.P.Ports.holds g.P.Ports.faults) e.ports ∙ sym so.of_table.binds_are),
       waits_stand most holds past counts table after old mid o n s mine x b (ap (λ h. h.ports.items) rest) r.2.1,
     )
 
@@ -112,11 +113,12 @@ returns-in_err-receive-clause-gives g c = λ o n so sn s held wait setup seat at
     behind_of most holds counts g.L.Link.holds g.L.Link.counts table after old mid o n c.args.place mine x.is.port r.0 here r.1 limit e.others so.of_table.ports
     (subst V (ap (λ h. h.ports.items) rest) sn.of_table.ports) (ap (λ h. h.number) rest) (ap (λ h. h.link) rest) (ap (λ h. h.bound) rest) so.of_link sn.of_link in
     let seen = g.O.Office.seen c.args.office.now in
-    let P : PortSeat → Type 0 = λ y. Gives setup (receive_alone y.tunnel) (ReceivesWait y.tunnel) o n seen seen (IsHeld most after mid) s c.from_residual.result in
-    let starves : (boxes : List (List Parcel)) (orders : machine.Orders) → (t : machine.Held) × Starved (receive_alone mine.tunnel) (ReceivesWait mine.tunnel) o n seen seen boxes orders s t × StandsAsTold n (IsHeld most after mid) t =
-    λ boxes orders. (
+    let m = mailed (g.O.Office.seen c.args.office.now) (g.M.Mail.count c.args.mail.now) (g.M.Mail.boxes c.args.mail.now) c.requires.inboxes in
+    let P : PortSeat → Type 0 = λ y. Gives setup (receive_alone y.tunnel) (ReceivesWait y.tunnel) o n seen seen m.mail m.mail (IsHeld most after mid) s c.from_residual.result in
+    let starves : (orders : machine.Orders) → (t : machine.Held) × Starved (receive_alone mine.tunnel) (ReceivesWait mine.tunnel) o n seen seen m.mail m.mail orders s t × StandsAsTold n (IsHeld most after mid) t =
+    λ orders. (
       sunk_then o s mine.tunnel,
-      received_starves most holds past counts table after old mid o n s mine x seen boxes orders r.2.1
+      received_starves most holds past counts table after old mid o n s mine x seen m orders r.2.1
           (ap (λ (b : Binder). b.holds) (sn.of_table.binds_are ∙ ap (binder g.P.Ports.holds g.P.Ports.faults) e.ports ∙ sym so.of_table.binds_are)),
       (
         starved_stands most holds past counts table after old mid o n s mine x b (ap (λ h. h.ports.items) rest) r.2.2,
@@ -124,10 +126,11 @@ returns-in_err-receive-clause-gives g c = λ o n so sn s held wait setup seat at
       ),
     ) in
     subst P (same_seat old.ports.items c.args.place mine seat here at)
-    (starved_gives setup mine.tunnel o n seen seen (IsHeld most after mid) s c.from_residual.result c.from_residual.ensures.0 starves)
+    (starved_gives setup mine.tunnel o n seen seen m.mail m.mail (IsHeld most after mid) s c.from_residual.result c.from_residual.ensures.0 starves)
 
 pub returns-in-Did-clause-gives : goal.returns-in-Did-clause-gives
-returns-in-Did-clause-gives g c = λ o n so sn s held wait setup seat at boxes orders.
+returns-in-Did-clause-gives g c = λ o n so sn s held wait setup seat at orders.
+    let m = mailed (g.O.Office.seen c.args.office.now) (g.M.Mail.count c.args.mail.now) (g.M.Mail.boxes c.args.mail.now) c.requires.inboxes in
     let old = c.args.held.now in
     let table = c.args.table.now.table in
     let mid = c.receive.new.self in
@@ -167,10 +170,10 @@ returns-in-Did-clause-gives g c = λ o n so sn s held wait setup seat at boxes o
     let takes = r.2.1 in
     let C : Core → Type 0 = λ y. IsConn y (came s x.t mine.received datagram).1 in
     let conn = subst C (sym (ap (λ h. h.conn) done)) r.2.3 in
-    let P : PortSeat → Type 0 = λ y. (t : machine.Held) × Turned setup (receive_alone y.tunnel) (ReceivesWait y.tunnel) o n seen seen boxes orders s c.in-Did.note (Some t) × StandsAsTold n (IsHeld most after new) t in
+    let P : PortSeat → Type 0 = λ y. (t : machine.Held) × Turned setup (receive_alone y.tunnel) (ReceivesWait y.tunnel) o n seen seen m.mail m.mail orders s c.in-Did.note (Some t) × StandsAsTold n (IsHeld most after new) t in
     subst P (same_seat old.ports.items c.args.place mine seat here at) (
       received_left o s mine x.t datagram,
-      received_done most holds past counts table after old new o n s mine x b setup seen boxes orders datagram c.in-Did.note takes r.2.2
+      received_done most holds past counts table after old new o n s mine x b setup seen m orders datagram c.in-Did.note takes r.2.2
           (ap (λ (b : Binder). b.holds) (sn.of_table.binds_are ∙ ap (binder g.P.Ports.holds g.P.Ports.faults) e.ports ∙ sym so.of_table.binds_are)),
       (
         received_stands most holds past counts table after old new o n s mine x b datagram at_place conn,
@@ -243,6 +246,8 @@ act-requires g c =
         failing_stands most holds past counts table after old mid blind s mine x _ b (ap (λ h. h.ports.items) rest) (r.2.1 k.3),
         failing_known (g.O.Office.seen c.args.office.now) (g.O.Office.seen c.args.office.now).actor s x.t k.2,
       );
+      inboxes = c.requires.inboxes;
+      pump = c.requires.pump;
     }
 
 pub returns-in-Failed-clause-others : goal.returns-in-Failed-clause-others
@@ -308,13 +313,15 @@ returns-in-Failed-clause-gives g c = λ o n so sn s held wait setup seat at.
     let stays = link_stays g.L.Link.holds g.L.Link.counts old new o n number link so.of_link sn.of_link in
     let seen = g.O.Office.seen c.args.office.now in
     let seen_after = g.O.Office.seen c.act.new.office in
+    let mail = g.M.Mail.boxes c.args.mail.now in
+    let mail_after = g.M.Mail.boxes c.act.new.mail in
     let stand_for = IsHeld most last new in
-    let P : PortSeat → Type 0 = λ y. Gives setup (receive_alone y.tunnel) (ReceivesWait y.tunnel) o n seen seen_after stand_for s c.act.result in
+    let P : PortSeat → Type 0 = λ y. Gives setup (receive_alone y.tunnel) (ReceivesWait y.tunnel) o n seen seen_after mail mail_after stand_for s c.act.result in
     subst P (same_seat old.ports.items c.args.place mine seat here at)
-    (closes_give setup mine.tunnel o n seen seen_after stand_for s closing c.act.result closes.0
-    (λ said boxes orders closed. (
+    (closes_give setup mine.tunnel o n seen seen_after mail mail_after stand_for s closing c.act.result closes.0
+    (λ said orders closed. (
       failed_left o s mine.tunnel closed.conn,
-      failed_done most holds past counts table after old mid o s mine x n setup seen seen_after boxes orders said stand_for r.2.0.fails closed fits,
+      failed_done most holds past counts table after old mid o s mine x n setup seen seen_after mail mail_after orders said stand_for r.2.0.fails closed fits,
       (
         closed.stands_for (failed_left o s mine.tunnel closed.conn).link o (found_at mine.tunnel failing_port),
         failed_told most holds past counts table after old mid o s mine x n last new closed.conn stays
@@ -353,7 +360,7 @@ returns-in-Failed-clause-still g c =
     let closing = failing s x.t in
     let stand = failing_stands most holds past counts table after old mid blind s mine x _ b (ap (λ h. h.ports.items) rest) (r.2.1 k.3) in
     let closes = c.act.ensures.closes closing stand mine.tunnel (wants_close most holds past counts table after old mid blind s mine x) in
-    closes_still (g.O.Office.seen c.args.office.now) (g.O.Office.seen c.act.new.office) (IsHeld most c.act.new.table.table c.act.new.held) mine.tunnel closing c.act.result
+    closes_still (g.O.Office.seen c.args.office.now) (g.O.Office.seen c.act.new.office) (g.M.Mail.boxes c.args.mail.now) (g.M.Mail.boxes c.act.new.mail) (IsHeld most c.act.new.table.table c.act.new.held) mine.tunnel closing c.act.result
     (Still most table c.act.new.table.table old c.act.new.held) closes.0
 
 pub returns-in_default-clause-apart : goal.returns-in_default-clause-apart
@@ -438,6 +445,6 @@ returns-in-Failed-clause-passed g c =
     let closing = failing s x.t in
     let stand = failing_stands most holds past counts table after old mid blind s mine x _ b (ap (λ h. h.ports.items) rest) (r.2.1 k.3) in
     let closes = c.act.ensures.closes closing stand mine.tunnel (wants_close most holds past counts table after old mid blind s mine x) in
-    closes_still (g.O.Office.seen c.args.office.now) (g.O.Office.seen c.act.new.office) (IsHeld most c.act.new.table.table c.act.new.held) mine.tunnel closing c.act.result
+    closes_still (g.O.Office.seen c.args.office.now) (g.O.Office.seen c.act.new.office) (g.M.Mail.boxes c.args.mail.now) (g.M.Mail.boxes c.act.new.mail) (IsHeld most c.act.new.table.table c.act.new.held) mine.tunnel closing c.act.result
     ((seat : PortSeat) → slice_get old.ports.items c.args.place ≡ Some seat
     → AskedInVain g.P.P.Port.holds g.P.P.Port.past g.P.P.Port.counts table c.act.new.table.table seat) closes.0

@@ -6,10 +6,11 @@ use Rattle.mq_machine.specs.Acting.{binder, Binder}
 use Rattle.mq_step.proofs.Others.{at_within, call_others}
 use Rattle.mq_step.proofs.Places.{mine_seat}
 use Rattle.mq_step.proofs.Sending.{the_mine, same_port, Sends, sent_left, sent_done, sent_stands, sent_told, sent_waits, waits_stands}
+use Rattle.mq_step.proofs.Wanting.{mailed}
 use Rattle.mq_step.proofs.send.send.Goals as goal
 
 pub returns-in_default-clause-gives : goal.returns-in_default-clause-gives
-returns-in_default-clause-gives g c = λ o n so sn seen s held k payload want.
+returns-in_default-clause-gives g c = λ o n so sn seen s held k payload want count mail has.
     let old = c.args.held.now in
     let one = the_mine g.P.P.Port.most c.args.table.now.table old s c.args.tunnel k payload held want in
     absurd (c.in_default.ensures one.place one.seat one.at_seat one.of_seat)
@@ -18,7 +19,8 @@ pub index-seat-requires : goal.index-seat-requires
 index-seat-requires g c = let x = c.in-Some.ensures in let lt = at_within c.args.held.now.ports.items c.in-Some.place x.0 x.1.at in search (rules, lt)
 
 pub returns-in-Some-send-clause-gives : goal.returns-in-Some-send-clause-gives
-returns-in-Some-send-clause-gives g c = λ o n so sn seen s held k payload want boxes orders.
+returns-in-Some-send-clause-gives g c = λ o n so sn seen s held k payload want count mail has orders.
+    let m = mailed seen count mail has in
     let old = c.args.held.now in
     let new = c.send.new.self in
     let table = c.args.table.now.table in
@@ -51,7 +53,7 @@ returns-in-Some-send-clause-gives g c = λ o n so sn seen s held k payload want 
     } in
     let d = r.2 one.p one.is.limit in (
       sent_left o s c.args.tunnel payload d.1.holds d.0,
-      sent_done most g.P.P.Port.holds g.P.P.Port.counts table after old new o n s c.args.tunnel k payload seen boxes orders sends c.in-Some-send.note d.0 d.1
+      sent_done most g.P.P.Port.holds g.P.P.Port.counts table after old new o n s c.args.tunnel k payload seen m orders sends c.in-Some-send.note d.0 d.1
           (ap (λ (b : Binder). b.holds) (sn.binds_are ∙ ap (binder g.P.Ports.holds g.P.Ports.faults) c.in-Some-send.ensures.ports ∙ sym so.binds_are)),
       sent_stands most g.P.P.Port.holds g.P.P.Port.counts table after old new o n s c.args.tunnel k payload sends c.in-Some-send.note d.0 d.1 d.2,
       sent_told most g.P.P.Port.holds g.P.P.Port.counts table after old new o n s c.args.tunnel k payload sends c.in-Some-send.note d.0 d.1,
@@ -68,7 +70,7 @@ returns-in-Some-send-clause-others g c = λ key port at other.
     (r.0, record { seats_are = r.1; bound_is = λ is. other.bound_is (sym (ap (λ h. h.bound) rest) ∙ is) })
 
 pub returns-in-None-clause-gives : goal.returns-in-None-clause-gives
-returns-in-None-clause-gives g c = λ o n so sn seen s held k payload want.
+returns-in-None-clause-gives g c = λ o n so sn seen s held k payload want count mail has.
     let old = c.args.held.now in
     let new = c.send.new.self in
     let table = c.args.table.now.table in
@@ -100,7 +102,7 @@ returns-in-None-clause-gives g c = λ o n so sn seen s held k payload want.
       bound = ap (λ h. h.bound) rest;
     } in
     let same = sn.binds_are ∙ ap (binder g.P.Ports.holds g.P.Ports.faults) c.in-None.ensures.ports ∙ sym so.binds_are in (
-      sent_waits most g.P.P.Port.holds g.P.P.Port.counts table after old new o n s c.args.tunnel k payload seen sends r.2.0 same,
+      sent_waits most g.P.P.Port.holds g.P.P.Port.counts table after old new o n s c.args.tunnel k payload seen mail sends r.2.0 same,
       waits_stands most g.P.P.Port.holds g.P.P.Port.counts table after old new o n s c.args.tunnel k payload sends r.2.1,
     )
 

@@ -7,6 +7,7 @@ use Rattle.mq_machine.specs.Acting.{binder}
 use Rattle.mq_step.specs.Holds.{IsHeld}
 use Rattle.mq_step.specs.Wanted.{SendsWait}
 use Rattle.mq_step.specs.Gives.{from_frame}
+use Rattle.mq_step.proofs.Wanting.{mailed}
 use Rattle.mq_step.proofs.Others.{keeps_from}
 use Rattle.mq_step.proofs.Moving.{Moves, moved_held, gives_err}
 use Rattle.mq_step.proofs.Stepping.{link_rest, same_sight, frame_starves, framed_gives, frame_waits}
@@ -21,9 +22,9 @@ returns-in_err-note-clause-gives g c = λ o n so sn s held wait.
     let e = c.in_err-note.ensures in
     let x : Moves g.L.Link.holds g.L.Link.past g.L.Link.counts g.P.P.Port.most g.P.P.Port.holds g.P.P.Port.counts (binder g.P.Ports.holds g.P.Ports.faults c.args.table.now.ports) c.args.table.now.table old new o n s =
     record { held = held; wait = wait; rest = link_rest old new e.rest; sees = so; sees_after = sn } in
-    gives_err c.args.setup.now from_frame SendsWait o n (g.O.Office.seen c.args.office.now) (g.O.Office.seen c.args.office.now) (IsHeld g.P.P.Port.most c.args.table.now.table new) s c.from_residual.result c.from_residual.ensures.0
+    gives_err c.args.setup.now from_frame SendsWait o n (g.O.Office.seen c.args.office.now) (g.O.Office.seen c.args.office.now) (g.M.Mail.boxes c.args.mail.now) (g.M.Mail.boxes c.args.mail.now) (IsHeld g.P.P.Port.most c.args.table.now.table new) s c.from_residual.result c.from_residual.ensures.0
     (λ refused. frame_starves g.L.Link.holds g.L.Link.past g.L.Link.counts g.P.P.Port.most g.P.P.Port.holds g.P.P.Port.counts (binder g.P.Ports.holds g.P.Ports.faults c.args.table.now.ports) c.args.table.now.table old new o n s x (ap (λ h. h.link) e.rest)
-    c.args.setup.now (g.O.Office.seen c.args.office.now) refused (e.gives s.conn held.conn))
+    c.args.setup.now (g.O.Office.seen c.args.office.now) (mailed (g.O.Office.seen c.args.office.now) (g.M.Mail.count c.args.mail.now) (g.M.Mail.boxes c.args.mail.now) c.requires.inboxes) refused (e.gives s.conn held.conn))
 
 pub returns-in-Some-clause-gives : goal.returns-in-Some-clause-gives
 returns-in-Some-clause-gives g c = λ o n so sn s held wait.
@@ -34,7 +35,7 @@ returns-in-Some-clause-gives g c = λ o n so sn s held wait.
     record { held = held; wait = wait; rest = link_rest old new e.rest; sees = so; sees_after = sn } in
     let F : Option Note → Type 0 = λ r. FrameGives (IsConn new.conn) s.conn (Ok r) in
     framed_gives g.L.Link.holds g.L.Link.past g.L.Link.counts g.P.P.Port.most g.P.P.Port.holds g.P.P.Port.counts (binder g.P.Ports.holds g.P.Ports.faults c.args.table.now.ports) c.args.table.now.table old new o n s x (ap (λ h. h.link) e.rest)
-    c.args.setup.now (g.O.Office.seen c.args.office.now) c.in-Some.note (subst F c.in-Some.is (e.gives s.conn held.conn))
+    c.args.setup.now (g.O.Office.seen c.args.office.now) (mailed (g.O.Office.seen c.args.office.now) (g.M.Mail.count c.args.mail.now) (g.M.Mail.boxes c.args.mail.now) c.requires.inboxes) c.in-Some.note (subst F c.in-Some.is (e.gives s.conn held.conn))
 
 pub returns-in-None-clause-gives : goal.returns-in-None-clause-gives
 returns-in-None-clause-gives g c = λ o n so sn s held wait.
@@ -43,7 +44,7 @@ returns-in-None-clause-gives g c = λ o n so sn s held wait.
     let e = c.in_ok-note.ensures in
     let F : Option Note → Type 0 = λ r. FrameGives (IsConn new.conn) s.conn (Ok r) in
     let none = subst F c.in-None.is (e.gives s.conn held.conn) in
-    frame_waits c.args.setup.now o n (g.O.Office.seen c.args.office.now) (g.O.Office.seen c.try_write.new.office) (IsHeld g.P.P.Port.most c.try_write.new.table.table c.try_write.new.held) s c.try_write.result none.0
+    frame_waits c.args.setup.now o n (g.O.Office.seen c.args.office.now) (g.O.Office.seen c.try_write.new.office) (g.M.Mail.boxes c.args.mail.now) (g.M.Mail.boxes c.try_write.new.mail) (IsHeld g.P.P.Port.most c.try_write.new.table.table c.try_write.new.held) s c.try_write.result none.0
     (c.try_write.ensures.gives o n (same_sight g.L.Link.holds g.L.Link.counts g.P.P.Port.holds g.P.P.Port.counts (binder g.P.Ports.holds g.P.Ports.faults c.args.table.now.ports) c.args.table.now.table old new o so e.rest) sn s
     (moved_held g.P.P.Port.most c.args.table.now.table old new s held wait (link_rest old new e.rest) none.1) wait)
 

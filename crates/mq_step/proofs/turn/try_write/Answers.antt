@@ -6,6 +6,7 @@ use Rattle.mq_machine.specs.Acting.{binder}
 use Rattle.mq_step.specs.Holds.{IsHeld}
 use Rattle.mq_step.specs.Gives.{from_write}
 use Rattle.mq_step.specs.Wanted.{SendsWait}
+use Rattle.mq_step.proofs.Wanting.{mailed}
 use Rattle.mq_step.proofs.Others.{keeps_from}
 use Rattle.mq_step.proofs.Trying.{mid}
 use Rattle.mq_step.proofs.Linking.{write_holds}
@@ -23,15 +24,15 @@ returns-in_err-note-clause-gives g c = λ o n so sn s held wait.
     let e = c.in_err-note.ensures in
     let x : Moves g.L.Link.holds g.L.Link.past g.L.Link.counts g.P.P.Port.most g.P.P.Port.holds g.P.P.Port.counts (binder g.P.Ports.holds g.P.Ports.faults c.args.table.now.ports) c.args.table.now.table old new o n s =
     record { held = held; wait = wait; rest = e.rest; sees = so; sees_after = sn } in
-    gives_err c.args.setup.now from_write SendsWait o n (g.O.Office.seen c.args.office.now) (g.O.Office.seen c.args.office.now) (IsHeld g.P.P.Port.most c.args.table.now.table new) s c.from_residual.result c.from_residual.ensures.0
-    (λ refused. write_starves g.L.Link.holds g.L.Link.past g.L.Link.counts g.P.P.Port.most g.P.P.Port.holds g.P.P.Port.counts (binder g.P.Ports.holds g.P.Ports.faults c.args.table.now.ports) c.args.table.now.table old new o n s x c.args.setup.now (g.O.Office.seen c.args.office.now) refused (e.gives s.conn held.conn held.number))
+    gives_err c.args.setup.now from_write SendsWait o n (g.O.Office.seen c.args.office.now) (g.O.Office.seen c.args.office.now) (g.M.Mail.boxes c.args.mail.now) (g.M.Mail.boxes c.args.mail.now) (IsHeld g.P.P.Port.most c.args.table.now.table new) s c.from_residual.result c.from_residual.ensures.0
+    (λ refused. write_starves g.L.Link.holds g.L.Link.past g.L.Link.counts g.P.P.Port.most g.P.P.Port.holds g.P.P.Port.counts (binder g.P.Ports.holds g.P.Ports.faults c.args.table.now.ports) c.args.table.now.table old new o n s x c.args.setup.now (g.O.Office.seen c.args.office.now) (mailed (g.O.Office.seen c.args.office.now) (g.M.Mail.count c.args.mail.now) (g.M.Mail.boxes c.args.mail.now) c.requires.inboxes) refused (e.gives s.conn held.conn held.number))
 
 pub act-requires : goal.act-requires
 act-requires g c =
     let k = c.requires.known in
     let W : Went → Type 0 = λ w. WriteGives (calls_of g.L.Link.holds g.L.Link.past g.L.Link.counts c.args.held.now.link c.write.new.self.link) (IsConn c.write.new.self.conn) k.0.conn (Ok w) in
     let gives = subst W c.in-Failed.is (c.in_ok-note.ensures.gives k.0.conn k.1.conn k.1.number) in
-    record { known = moved_known g.P.P.Port.most c.args.table.now.table c.args.held.now c.write.new.self k.0 (g.O.Office.seen c.args.office.now) (g.O.Office.seen c.args.office.now).actor k.1 k.2 k.3 c.in_ok-note.ensures.rest gives.1 }
+    record { known = moved_known g.P.P.Port.most c.args.table.now.table c.args.held.now c.write.new.self k.0 (g.O.Office.seen c.args.office.now) (g.O.Office.seen c.args.office.now).actor k.1 k.2 k.3 c.in_ok-note.ensures.rest gives.1; inboxes = c.requires.inboxes; pump = c.requires.pump }
 
 pub returns-in-Did-clause-gives : goal.returns-in-Did-clause-gives
 returns-in-Did-clause-gives g c = λ o n so sn s held wait.
@@ -41,7 +42,7 @@ returns-in-Did-clause-gives g c = λ o n so sn s held wait.
     let x : Moves g.L.Link.holds g.L.Link.past g.L.Link.counts g.P.P.Port.most g.P.P.Port.holds g.P.P.Port.counts (binder g.P.Ports.holds g.P.Ports.faults c.args.table.now.ports) c.args.table.now.table old new o n s =
     record { held = held; wait = wait; rest = e.rest; sees = so; sees_after = sn } in
     let W : Went → Type 0 = λ w. WriteGives (calls_of g.L.Link.holds g.L.Link.past g.L.Link.counts old.link new.link) (IsConn new.conn) s.conn (Ok w) in
-    wrote_gives g.L.Link.holds g.L.Link.past g.L.Link.counts g.P.P.Port.most g.P.P.Port.holds g.P.P.Port.counts (binder g.P.Ports.holds g.P.Ports.faults c.args.table.now.ports) c.args.table.now.table old new o n s x c.args.setup.now (g.O.Office.seen c.args.office.now) c.in-Did.note (subst W c.in-Did.is (e.gives s.conn held.conn held.number))
+    wrote_gives g.L.Link.holds g.L.Link.past g.L.Link.counts g.P.P.Port.most g.P.P.Port.holds g.P.P.Port.counts (binder g.P.Ports.holds g.P.Ports.faults c.args.table.now.ports) c.args.table.now.table old new o n s x c.args.setup.now (g.O.Office.seen c.args.office.now) (mailed (g.O.Office.seen c.args.office.now) (g.M.Mail.count c.args.mail.now) (g.M.Mail.boxes c.args.mail.now) c.requires.inboxes) c.in-Did.note (subst W c.in-Did.is (e.gives s.conn held.conn held.number))
 
 pub returns-in-Failed-clause-gives : goal.returns-in-Failed-clause-gives
 returns-in-Failed-clause-gives g c = λ o n so sn s held wait.
@@ -51,7 +52,7 @@ returns-in-Failed-clause-gives g c = λ o n so sn s held wait.
     let W : Went → Type 0 = λ w. WriteGives (calls_of g.L.Link.holds g.L.Link.past g.L.Link.counts old.link new.link) (IsConn new.conn) s.conn (Ok w) in
     let gives = subst W c.in-Failed.is (e.gives s.conn held.conn held.number) in
     write_fails_gives g.L.Link.holds g.L.Link.past g.L.Link.counts g.P.P.Port.most g.P.P.Port.holds g.P.P.Port.counts (binder g.P.Ports.holds g.P.Ports.faults c.args.table.now.ports) (binder g.P.Ports.holds g.P.Ports.faults c.act.new.table.ports) c.args.table.now.table c.act.new.table.table
-    old new c.act.new.held o n s c.args.setup.now (g.O.Office.seen c.args.office.now) (g.O.Office.seen c.act.new.office) c.act.result held wait so sn e.rest c.act.ensures.rest gives
+    old new c.act.new.held o n s c.args.setup.now (g.O.Office.seen c.args.office.now) (g.O.Office.seen c.act.new.office) (g.M.Mail.boxes c.args.mail.now) (g.M.Mail.boxes c.act.new.mail) c.act.result held wait so sn e.rest c.act.ensures.rest gives
     (λ l is. c.act.ensures.gives o n (moved_table g.P.P.Port.holds g.P.P.Port.counts (binder g.P.Ports.holds g.P.Ports.faults c.args.table.now.ports) c.args.table.now.table old new o so.of_table e.rest) sn.of_table (fallen s l) is)
 
 pub returns-in-Waits-clause-gives : goal.returns-in-Waits-clause-gives
@@ -63,7 +64,7 @@ returns-in-Waits-clause-gives g c = λ o n so sn s held wait.
     let gives = subst W c.in-Waits.is (e.gives s.conn held.conn held.number) in
     let calls = calls_of g.L.Link.holds g.L.Link.past g.L.Link.counts old.link new.link in
     let m = mid o (λ i. calls.counts_after) o.port_counts in
-    write_waits_gives g.L.Link.holds g.L.Link.past g.L.Link.counts o n old new s c.args.setup.now (g.O.Office.seen c.args.office.now) (g.O.Office.seen c.try_read.new.office)
+    write_waits_gives g.L.Link.holds g.L.Link.past g.L.Link.counts o n old new s c.args.setup.now (g.O.Office.seen c.args.office.now) (g.O.Office.seen c.try_read.new.office) (g.M.Mail.boxes c.args.mail.now) (g.M.Mail.boxes c.try_read.new.mail)
     (IsHeld g.P.P.Port.most c.try_read.new.table.table c.try_read.new.held) c.try_read.result held.number so.of_link gives.0
     (c.try_read.ensures.gives m n (moved_sight g.L.Link.holds g.L.Link.past g.L.Link.counts g.P.P.Port.holds g.P.P.Port.counts (binder g.P.Ports.holds g.P.Ports.faults c.args.table.now.ports) c.args.table.now.table old new o so e.rest (write_holds calls s.conn gives.0)) sn s
     (moved_held g.P.P.Port.most c.args.table.now.table old new s held wait e.rest gives.1) wait)
@@ -95,7 +96,7 @@ returns-in-Failed-clause-still g c =
     let gives = subst W c.in-Failed.is (e.gives s.conn k.1.conn k.1.number) in
     let fell = fallen_held most table.table old new s s.link k.1 k.3 e.rest gives.1 in
     fallen_still most g.P.P.Port.holds g.P.P.Port.counts (binder g.P.Ports.holds g.P.Ports.faults table.ports) (binder g.P.Ports.holds g.P.Ports.faults after.ports) table.table after.table new fin
-    (g.O.Office.seen c.args.office.now) (g.O.Office.seen c.act.new.office) s c.act.result (Still most table.table after.table old fin) fell c.act.ensures.stays
+    (g.O.Office.seen c.args.office.now) (g.O.Office.seen c.act.new.office) (g.M.Mail.boxes c.args.mail.now) (g.M.Mail.boxes c.act.new.mail) s c.act.result (Still most table.table after.table old fin) fell c.act.ensures.stays
     (λ o n so sn. c.act.ensures.gives o n so sn (fallen s s.link) fell)
 
 pub returns-in-Waits-clause-still : goal.returns-in-Waits-clause-still

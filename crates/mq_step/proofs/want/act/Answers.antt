@@ -25,7 +25,7 @@ returns-then-not-wants-clause-gives g c = λ o n so sn s held.
     let wanted = nothing_left (want_of s.conn) (sym c.if-not-wants.true ∙ c.wants.ensures s.conn held.conn) in
     let stays : Stays g.P.P.Port.most g.P.P.Port.holds g.P.P.Port.counts binds binds table table old old o n s =
     record { held = held; keeps = none_changed table; seats = refl; number = refl; sees = so; sees_after = sn } in
-    (quiet g.P.P.Port.most g.P.P.Port.holds g.P.P.Port.counts binds binds table table old old o n s stays (g.O.Office.seen c.args.office.now) wanted refl, held)
+    (quiet g.P.P.Port.most g.P.P.Port.holds g.P.P.Port.counts binds binds table table old old o n s stays (g.O.Office.seen c.args.office.now) (g.M.Mail.boxes c.args.mail.now) wanted refl, held)
 
 pub returns-then-not-wants-clause-closes : goal.returns-then-not-wants-clause-closes
 returns-then-not-wants-clause-closes g c = λ s held tunnel closes.

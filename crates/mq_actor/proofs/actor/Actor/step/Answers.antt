@@ -11,10 +11,10 @@ returns-clause-stands g c =
     let s = c.step.new in
     let words : Words g.row.L.Denot g.row.P-P.Denot = record { most = g.P.P.Port.most; link = g.L.Link.holds; link_counts = g.L.Link.counts; port = g.P.P.Port.holds; port_counts = g.P.P.Port.counts } in
     let old : Moment g.row.L.Denot g.row.P-P.Denot =
-    record { conns = self.ring.conns.items; table = self.table.table; binds = binder g.P.Ports.holds g.P.Ports.faults self.table.ports; seen = g.O.Office.seen c.args.office.now } in
+    record { conns = self.ring.conns.items; table = self.table.table; binds = binder g.P.Ports.holds g.P.Ports.faults self.table.ports; seen = g.O.Office.seen c.args.office.now; boxes = g.M.Mail.boxes c.args.mail.now } in
     let new : Moment g.row.L.Denot g.row.P-P.Denot =
-    record { conns = s.self.conns.items; table = s.table.table; binds = binder g.P.Ports.holds g.P.Ports.faults s.table.ports; seen = g.O.Office.seen s.office } in
-    stands_by words self.ring old refl (g.M.Mail.boxes c.args.mail.now) (g.M.Mail.count c.args.mail.now) c.requires.office c.requires.inboxes s.self new (g.M.Mail.boxes s.mail) c.step.result
+    record { conns = s.self.conns.items; table = s.table.table; binds = binder g.P.Ports.holds g.P.Ports.faults s.table.ports; seen = g.O.Office.seen s.office; boxes = g.M.Mail.boxes s.mail } in
+    stands_by words self.ring old refl (g.M.Mail.count c.args.mail.now) c.requires.office c.requires.inboxes s.self new c.step.result
     c.step.ensures.gives c.step.ensures.sights
 
 pub returns-clause-plain : goal.returns-clause-plain
@@ -23,8 +23,8 @@ returns-clause-plain g c =
     let s = c.step.new in
     let words : Words g.row.L.Denot g.row.P-P.Denot = record { most = g.P.P.Port.most; link = g.L.Link.holds; link_counts = g.L.Link.counts; port = g.P.P.Port.holds; port_counts = g.P.P.Port.counts } in
     let old : Moment g.row.L.Denot g.row.P-P.Denot =
-    record { conns = self.ring.conns.items; table = self.table.table; binds = binder g.P.Ports.holds g.P.Ports.faults self.table.ports; seen = g.O.Office.seen c.args.office.now } in
+    record { conns = self.ring.conns.items; table = self.table.table; binds = binder g.P.Ports.holds g.P.Ports.faults self.table.ports; seen = g.O.Office.seen c.args.office.now; boxes = g.M.Mail.boxes c.args.mail.now } in
     let new : Moment g.row.L.Denot g.row.P-P.Denot =
-    record { conns = s.self.conns.items; table = s.table.table; binds = binder g.P.Ports.holds g.P.Ports.faults s.table.ports; seen = g.O.Office.seen s.office } in
-    plain_by words self.ring old refl (g.M.Mail.boxes c.args.mail.now) (g.M.Mail.count c.args.mail.now) c.requires.office c.requires.inboxes s.self new (g.M.Mail.boxes s.mail) c.step.result
+    record { conns = s.self.conns.items; table = s.table.table; binds = binder g.P.Ports.holds g.P.Ports.faults s.table.ports; seen = g.O.Office.seen s.office; boxes = g.M.Mail.boxes s.mail } in
+    plain_by words self.ring old refl (g.M.Mail.count c.args.mail.now) c.requires.office c.requires.inboxes s.self new c.step.result
     c.step.ensures.gives c.step.ensures.sights

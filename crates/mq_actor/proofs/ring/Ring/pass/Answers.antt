@@ -11,6 +11,8 @@ loop-place-init g c = record {
   ports = c.requires.ports;
   rooms = c.requires.rooms;
   actor = refl;
+  mail = (refl, refl);
+  inboxes = c.requires.inboxes;
   sound = λ is. is;
   balanced = λ is. is;
 }
@@ -41,6 +43,8 @@ loop-place-preserved g c =
       ports = c.in_ok-did.ensures.ports;
       rooms = c.in_ok-did.ensures.rooms;
       actor = c.in_ok-did.ensures.actor ∙ i.actor;
+      mail = (c.in_ok-did.ensures.mail.0 ∙ i.mail.0, c.in_ok-did.ensures.mail.1 ∙ i.mail.1);
+      inboxes = c.in_ok-did.ensures.inboxes;
       sound = λ is. c.in_ok-did.ensures.sound (i.sound is);
       balanced = λ is. c.in_ok-did.ensures.balanced (i.balanced is);
     }

@@ -1,4 +1,4 @@
-use Rattle.std.proofs.Common.{rules, ◌<◌, ◌≤◌, false, length}
+use Rattle.std.proofs.Common.{rules, ◌<◌, ◌≤◌, length}
 use Rattle.mq_actor.proofs.OwnPorts.{at_index}
 use Rattle.mq_actor.proofs.Parcels.{is_first, one_more, none_has}
 use Rattle.mq_actor.proofs.ring.Ring.place_with.Goals as goal

@@ -39,7 +39,7 @@ returns-clause-turns g c = λ was at_was.
     let does = c.step.ensures in
     let S : Result Stepped NoMemory → Type 0 = λ r. IfOk r (λ stepped. stepped ≡ Quiet → c.step.new.held.ports.items ≡ held.ports.items) in
     let C : Result Stepped NoMemory → Type 0 = λ r. IfOk r (λ stepped. stepped ≡ Quiet
-    → (g.O.Office.seen c.step.new.office ≡ g.O.Office.seen c.args.office.now) × (binder g.P.Ports.holds g.P.Ports.faults c.step.new.table.ports ≡ binder g.P.Ports.holds g.P.Ports.faults c.args.table.now.ports)) in
+    → (g.O.Office.seen c.step.new.office ≡ g.O.Office.seen c.args.office.now) × (binder g.P.Ports.holds g.P.Ports.faults c.step.new.table.ports ≡ binder g.P.Ports.holds g.P.Ports.faults c.args.table.now.ports) × (g.M.Mail.boxes c.step.new.mail ≡ g.M.Mail.boxes c.args.mail.now)) in
     let E : Result Stepped NoMemory → Type 0 = λ r. IfOk r (λ stepped. (said : Note) → stepped ≡ Ended said → c.step.new.held.ports.items ≡ held.ports.items) in
     let T : Result Stepped NoMemory → Type 0 = λ r. IfOk r (λ stepped. stepped ≡ Quiet
     → (s : Held) → IsHeld g.P.P.Port.most c.args.table.now.table held s → IsHeld g.P.P.Port.most c.step.new.table.table c.step.new.held s) in (

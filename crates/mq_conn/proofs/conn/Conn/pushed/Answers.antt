@@ -1,11 +1,8 @@
 use Rattle.std.proofs.Common.{sym, subst}
 use Rattle.mq_talk.specs.declared.note.Note.{Note}
-use Rattle.mq_machine.specs.declared.act.Act.TheVariants as act
-use Rattle.mq_machine.specs.declared.act.StreamAct.TheVariants as stream
-use Rattle.mq_machine.specs.Want.{Pushed}
-use Rattle.mq_conn.specs.Conns.{Does}
+use Rattle.mq_conn.specs.Conns.{TellsPush}
 use Rattle.mq_conn.specs.Wants.{is_taken}
-use Rattle.mq_conn.proofs.Parcels.{acts_first, first_push, pushes_none, tells_push}
+use Rattle.mq_conn.proofs.Parcels.{pushes_none, tells_lent}
 use Rattle.mq_conn.proofs.conn.Conn.pushed.Goals as goal
 
 pub returns-in_default : goal.returns-in_default
@@ -19,6 +16,5 @@ returns c =
     let took = c.in-Some.ensures in
     let live = c.in-Some-live.ensures in
     let taken = is_taken c.args.pushed in
-    let P : Note → Type 0 = λ said. Does old c.settle.new.self (Pushed taken) said in
-    subst P (sym c.pushed_note-note.ensures) (acts_first old mid mid c.settle.new.self (act.OfStream p.stream (stream.Push p.n p.to took.0)) (Pushed taken) _ took.2 (first_push old p took.0 took.1) (λ ts. tt)
-    (tells_push mid p.stream c.in-Some-live.id p.n p.to took.0 taken live.0 live.1 live.2) c.settle.ensures)
+    let P : Note → Type 0 = λ said. TellsPush old c.settle.new.self taken said in
+    subst P (sym c.pushed_note-note.ensures) (tells_lent old mid c.settle.new.self p took.0 c.in-Some-live.id live.0 taken took.1 took.2 live.1 live.2 c.settle.ensures)

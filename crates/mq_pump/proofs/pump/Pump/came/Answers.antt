@@ -4,7 +4,7 @@ use Rattle.mq_talk.specs.declared.place.Verdict.{Verdict}
 use Rattle.mq_pump.specs.Holds.{CanGo}
 use Rattle.mq_pump.specs.Receives.{judged_note, judged_parcel}
 use Rattle.mq_pump.proofs.Coming.{flow_is, has_flow, comes_judged}
-use Rattle.mq_pump.proofs.Owners.{judged_goes}
+use Rattle.mq_pump.proofs.Inboxes.{judged_goes}
 use Rattle.mq_pump.proofs.pump.Pump.came.Goals as goal
 
 pub returns-in-NoRoute-clause-gives : goal.returns-in-NoRoute-clause-gives
@@ -26,5 +26,5 @@ returns-in-Pass-clause-left g c =
     let self = c.args.self.now in
     let judged = c.judge-judged.result in
     subst (λ (v : Verdict). MatchOption (judged_parcel self.received c.args.packet v) ⊤ (CanGo self.workers)) c.in-Pass.is
-    (judged_goes (g.O.Office.seen c.args.office.now) (g.O.Office.seen c.judge-judged.new.self) self.workers self.received c.args.packet c.in-Ok.view.flow judged c.requires.office c.requires.size
+    (judged_goes (g.O.Office.seen c.args.office.now) (g.O.Office.seen c.judge-judged.new.self) self.workers self.received c.args.packet c.in-Ok.view.flow judged c.judged_has_inbox.ensures c.requires.office c.requires.size
     (has_flow c.args.packet c.as_slice.result.now c.in-Ok.view c.as_slice.ensures c.in-Ok.ensures) (c.judge-judged.ensures.sound c.requires.sound) c.judge-judged.ensures.gives)

@@ -1,9 +1,10 @@
 use Rattle.std.proofs.Common.{◌≡◌, ℕ, length, Option, Some, None, MatchOption, refl, sym, ap, ◌∙◌, subst}
 use Rattle.std.specs.Bool.{⊤}
+use Rattle.mq_talk.specs.Mails.{inbox_in}
 use Rattle.mq_talk.specs.declared.note.Note.{Note}
 use Rattle.mq_talk.specs.declared.place.Parcel.{Parcel}
 use Rattle.mq_machine.specs.Acting.{PumpSight}
-use Rattle.mq_pump.specs.Holds.{CanGo, CanSend, inbox_in, pump_sight}
+use Rattle.mq_pump.specs.Holds.{CanGo, CanSend, pump_sight}
 use Rattle.mq_pump.specs.Pushes.{Pushes}
 use Rattle.mq_pump.specs.Sends.{NetSeen, net_seen, SendGives}
 use Rattle.mq_pump.proofs.Pushing.{pushed}
