@@ -5,6 +5,7 @@ ghost use Rattle.mq_iptun.specs.Answers.{CanTell};
 mod cuts;
 mod ends;
 mod limits;
+mod packets;
 mod rows;
 mod values;
 mod waiting;
@@ -14,7 +15,7 @@ use mq_addr::Kind;
 use mq_machine::Setup;
 use mq_outside::PortPut;
 use mq_policy::Policy;
-use mq_talk::{Call, From, Note, Reply};
+use mq_talk::{Call, From, Judged, Note, Place, Pushed, Reply, Verdict};
 use mq_target::Template;
 use mq_wire::{Bytes, Seq};
 use std::alloc::Global;
@@ -28,13 +29,15 @@ pub const REQUEST: &[u8] =
 pub const SWITCHING: &str =
     "485454502f312e312031303120537769746368696e672050726f746f636f6c730d0a436f6e6e656374696f6e3a20557067726164650d0a557067726164653a20636f6e6e6563742d7564700d0a43617073756c652d50726f746f636f6c3a203f310d0a0d0a";
 
-/// What the outside answers.
+/// What the outside answers. Where an inbox is full, a parcel comes back.
 #[derive(Clone, Copy)]
 pub struct Outside {
     pub binds: bool,
     pub opens: bool,
     pub put: PortPut,
     pub limit: u32,
+    pub verdict: Verdict,
+    pub has_room: bool,
 }
 
 /// One that does all that is asked. It takes what fits into a packet of IPv4.
@@ -43,6 +46,8 @@ pub const WILLING: Outside = Outside {
     opens: true,
     put: PortPut::Sent,
     limit: 65_507,
+    verdict: Verdict::Pass(Place::Net),
+    has_room: true,
 };
 
 pub fn setup(alloc: Global) -> Result<Setup, Fail> {
@@ -72,6 +77,13 @@ fn shown(alloc: Global, bytes: &[u8]) -> Result<String, Fail> {
     Ok(hex::encode(alloc, bytes)?)
 }
 
+fn to_text(alloc: Global, to: Place) -> Result<String, Fail> {
+    Ok(match to {
+        Place::Tunnel { tunnel, actor: _ } => format!(in alloc; "{tunnel}")?,
+        Place::Net => format!(in alloc; "net")?,
+    })
+}
+
 fn from_text(alloc: Global, from: From) -> Result<String, Fail> {
     Ok(match from {
         From::Tunnel(tunnel) => format!(in alloc; "{tunnel}")?,
@@ -90,6 +102,32 @@ pub fn line(alloc: Global, note: &Note) -> Result<String, Fail> {
             stream,
             kind: Kind::Udp,
         } => format!(in alloc; "opened {tunnel} {conn} {stream} udp\n")?,
+        Note::Opened {
+            tunnel,
+            conn,
+            stream,
+            kind: Kind::Ip,
+        } => format!(in alloc; "opened {tunnel} {conn} {stream} ip\n")?,
+        Note::Assigned { tunnel, at, list } => {
+            format!(in alloc; "assigned {tunnel} at {at} #{}\n", list.as_slice().len())?
+        }
+        Note::Advertised { tunnel, at, yes } => {
+            format!(in alloc; "advertised {tunnel} at {at} {yes}\n")?
+        }
+        Note::Passed { from, n, at, to } => {
+            let from = from_text(alloc, *from)?;
+            let to = to_text(alloc, *to)?;
+            format!(in alloc; "passed {from} {n} at {at} to {to}\n")?
+        }
+        Note::PushedNote { from, n, to } => {
+            let from = from_text(alloc, *from)?;
+            let to = to_text(alloc, *to)?;
+            format!(in alloc; "pushed {from} {n} to {to}\n")?
+        }
+        Note::Control { tunnel, capsule } => {
+            let capsule = shown(alloc, capsule.as_slice())?;
+            format!(in alloc; "control {tunnel} {capsule}\n")?
+        }
         Note::Refused {
             conn,
             stream,
@@ -146,8 +184,23 @@ fn reply(alloc: Global, outside: Outside, call: &Call) -> Reply
             entries: 1,
             live: 0,
         },
-        _ => Reply::Closed,
+        Call::Assign { .. } => Reply::Assigned {
+            list: Seq::from_vec(Vec::new(alloc)),
+            at: 1,
+        },
+        Call::Advertise { .. } => Reply::Accepted { yes: true, at: 1 },
+        Call::Close { .. } => Reply::Closed,
     }
+}
+
+/// The parcel is taken, or comes back whole.
+fn push(conn: &mut Conn, outside: Outside) -> Note {
+    let parcel = conn.parcel();
+    conn.pushed(if outside.has_room {
+        Pushed::Taken
+    } else {
+        Pushed::Full(parcel)
+    })
 }
 
 /// The note of what the connection wants, if it wants something.
@@ -156,8 +209,13 @@ pub fn note_of(alloc: Global, conn: &mut Conn, outside: Outside) -> Result<Optio
         Want::Bind { .. } => Ok(Some(conn.bound(outside.binds)?)),
         Want::Ask(call) => Ok(Some(conn.answer(reply(alloc, outside, &call))?)),
         Want::SendUdp { .. } => Ok(Some(conn.sent(outside.put, outside.limit))),
+        Want::Judge { .. } => Ok(Some(conn.judged(Judged {
+            verdict: outside.verdict,
+            at: 2,
+        }))),
+        Want::Push { .. } => Ok(Some(push(conn, outside))),
         Want::Say => Ok(Some(conn.say()?)),
-        _ => Ok(None),
+        Want::Nothing | Want::Ended(_) => Ok(None),
     }
 }
 
@@ -246,10 +304,15 @@ pub fn told(alloc: Global, outside: Outside, pieces: &[&[u8]], ends: bool) -> Re
     Ok(text)
 }
 
-/// A connection whose tunnel is open, and to which nothing is owed.
-pub fn tunneled(alloc: Global) -> Result<Conn, Fail> {
+/// A connection whose tunnel is open by this request, and to which nothing is owed.
+pub fn tunneled_by(alloc: Global, request: &[u8]) -> Result<Conn, Fail> {
     let mut conn = Conn::new(alloc, 0, 0)?;
     let mut text = String::new(alloc);
-    reads(alloc, &mut conn, WILLING, REQUEST, &mut text)?;
+    reads(alloc, &mut conn, WILLING, request, &mut text)?;
     Ok(conn)
+}
+
+/// One with a tunnel for UDP.
+pub fn tunneled(alloc: Global) -> Result<Conn, Fail> {
+    tunneled_by(alloc, REQUEST)
 }

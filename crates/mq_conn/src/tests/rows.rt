@@ -102,10 +102,16 @@ fn requests_that_are_refused(rt: HostRuntime) -> Result<(), Fail> {
             "/.well-known/masque/udp/example.net/443/",
             "502 Bad Gateway",
         ),
+        ("connect-ip", "/.well-known/masque/ip/*/", "404 Not Found"),
         (
             "connect-ip",
-            "/.well-known/masque/ip/*/*/",
-            "501 Not Implemented",
+            "/.well-known/masque/ip/example.net/*/",
+            "502 Bad Gateway",
+        ),
+        (
+            "connect-ip",
+            "/.well-known/masque/ip/*/256/",
+            "400 Bad Request",
         ),
         ("websocket", "/chat", "501 Not Implemented"),
     ];
