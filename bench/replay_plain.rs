@@ -1,7 +1,7 @@
 // The plain program that bench/replay.sh compares with: what `masque replay` does with UDP tunnels over HTTP/1.1, for many links,
 // workers and tunnels, by ordinary Rust. It prints the same lines for the same script, where `workers` is the only setting, and
 // where a connection's bytes begin with a head whose lines end in CR and LF. It proves nothing and refuses nothing. Lines of
-// scripts, targets and capsules of bench/tunnels_plain.rs are read by it too.
+// scripts, targets and capsules of bench/tunnels_plain.rs are read by it too, and lines of bench/ip_plain.rs.
 use std::collections::VecDeque;
 use std::io::{self, BufRead, BufReader, BufWriter, Write};
 use std::net::IpAddr;
@@ -48,12 +48,12 @@ pub enum Actor {
     Net,
 }
 
-fn cut(text: &[u8]) -> Option<(&[u8], &[u8])> {
+pub fn cut(text: &[u8]) -> Option<(&[u8], &[u8])> {
     let space = text.iter().position(|byte| *byte == b' ')?;
     Some((&text[..space], &text[space + 1..]))
 }
 
-fn number(text: &[u8], low: u32, high: u32) -> Option<u32> {
+pub fn number(text: &[u8], low: u32, high: u32) -> Option<u32> {
     if text.is_empty() || text.len() > 10 || (text.len() > 1 && text[0] == b'0') || !text.iter().all(u8::is_ascii_digit) {
         return None;
     }
@@ -69,7 +69,7 @@ fn digit(byte: u8) -> Option<u8> {
     }
 }
 
-fn unhex(text: &[u8]) -> Option<Vec<u8>> {
+pub fn unhex(text: &[u8]) -> Option<Vec<u8>> {
     if text.is_empty() || text.len() % 2 != 0 {
         return None;
     }
@@ -266,7 +266,7 @@ fn refusal(status: u16) -> &'static [u8] {
 
 // ---- capsules
 
-fn varint(bytes: &[u8]) -> Option<(u64, usize)> {
+pub fn varint(bytes: &[u8]) -> Option<(u64, usize)> {
     let first = *bytes.first()?;
     let size = 1usize << (first >> 6);
     let bytes = bytes.get(..size)?;
@@ -281,7 +281,7 @@ pub fn put_varint(out: &mut Vec<u8>, value: u64) {
     }
 }
 
-fn put_datagram(out: &mut Vec<u8>, payload: &[u8]) {
+pub fn put_datagram(out: &mut Vec<u8>, payload: &[u8]) {
     out.push(0);
     put_varint(out, payload.len() as u64 + 1);
     out.push(0);
