@@ -3,3 +3,13 @@ pub mod Heads
 pub mod Told
 pub mod Brought
 pub mod Stages
+pub mod Framed
+pub mod Goings
+pub mod Sendings
+pub mod Doings
+pub mod OneRead
+pub mod Cutting
+pub mod Windows
+pub mod Puts
+pub mod Tellings
+pub mod Waiting

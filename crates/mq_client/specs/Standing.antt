@@ -11,7 +11,7 @@ use Rattle.mq_client.specs.declared.http1.Http1.{Http1}
 use Rattle.mq_client.specs.Heads.{IsAnswered}
 use Rattle.mq_client.specs.Events.{is_last}
 use Rattle.mq_client.specs.Brings.{Brings, DataBrings, switching_protocols}
-use Rattle.mq_client.specs.State.{State, owed}
+use Rattle.mq_client.specs.Exchange.{Exchange, exchange_owed}
 use Rattle.mq_client.specs.Answers.{IsWaiting}
 
 -- these bytes of a data stream were read, and these events told
@@ -47,7 +47,7 @@ Reads old piece before after new = (later : List ClientEvent) × (after ≡ befo
     × ((came : List ℕ) (told : List ClientEvent) → IsReading old came told → IsReading new (came ++ piece) (told ++ later))
 
 -- a client over HTTP/1.1
-pub record IsHttp1 (one : Http1) (s : State) : Type 0 where
+pub record IsHttp1 (one : Http1) (s : Exchange) : Type 0 where
   pub reading : IsReading one.reading s.came s.told
-  pub owed_is : one.owed ≡ owed s
+  pub owed_is : one.owed ≡ exchange_owed s
   pub within : s.written ≤ length s.put

@@ -2,19 +2,40 @@
 #![tactic(auto)]
 
 mod answer;
+mod asking;
+mod block;
 mod client;
+mod codes;
+mod data;
 mod event;
+mod frames;
+mod framing;
 mod front;
+mod headers;
 mod http1;
+mod http2;
 mod laws;
-mod owed;
+mod parts;
 mod payload;
+mod queue;
 mod reading;
 mod request;
+mod sending;
+mod settings;
+mod stage;
+mod status;
+mod telling;
 
 pub use client::Client;
 pub use event::ClientEvent;
-pub use laws::{nothing_follows, told_once};
+pub use laws::{
+    data_is_within_its_windows, nothing_follows, reads_in_any_cutting, told_once,
+    what_is_put_is_framed, what_is_told_is_the_data_stream,
+};
 
+#[cfg(test)]
+mod calls;
+#[cfg(test)]
+mod http2_tests;
 #[cfg(test)]
 mod tests;

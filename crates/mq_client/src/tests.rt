@@ -1,6 +1,6 @@
 //! What answers bring to a client, and what it owes.
-use super::{Client, ClientEvent};
-use mq_wire::Bytes;
+use super::ClientEvent;
+use crate::calls::client;
 use std::alloc::Global;
 use std::process::Abort;
 use std::test::Fail;
@@ -8,13 +8,6 @@ use std::test::Fail;
 /// The answer that opens a tunnel.
 const OPENED: &[u8] =
     b"HTTP/1.1 101 Switching Protocols\r\nConnection: Upgrade\r\nUpgrade: connect-udp\r\nCapsule-Protocol: ?1\r\n\r\n";
-
-/// A client of this path, at this host.
-fn client(alloc: Global) -> Result<Client, Fail> {
-    let path = Vec::from_slice(alloc, b"/.well-known/masque/udp/192.0.2.6/443/")?;
-    let host = Vec::from_slice(alloc, b"127.0.0.1:8080")?;
-    Ok(Client::new(alloc, Bytes::from_vec(path), Bytes::from_vec(host))?)
-}
 
 /// The line of an event.
 fn line(alloc: Global, event: &ClientEvent) -> Result<String, Fail> {
@@ -31,7 +24,7 @@ fn line(alloc: Global, event: &ClientEvent) -> Result<String, Fail> {
 
 /// What these pieces bring to a new client, one behind the other.
 fn told(alloc: Global, pieces: &[&[u8]]) -> Result<String, Fail> {
-    let mut client = client(alloc)?;
+    let mut client = client(alloc, false)?;
     let mut lines = String::new(alloc);
     for piece in pieces {
         let events = client.feed(alloc, piece)?;
@@ -47,7 +40,7 @@ fn owes_the_request_and_then_a_capsule(rt: HostRuntime) -> Result<(), Fail> {
     let alloc = rt.alloc();
     let request: &[u8] =
         b"GET /.well-known/masque/udp/192.0.2.6/443/ HTTP/1.1\r\nHost: 127.0.0.1:8080\r\nConnection: Upgrade\r\nUpgrade: connect-udp\r\nCapsule-Protocol: ?1\r\n\r\n";
-    let mut client = client(alloc)?;
+    let mut client = client(alloc, false)?;
     assert_eq!(rt; client.owed(), request);
     client.wrote(100);
     let (_, rest) = request.split_at(100);

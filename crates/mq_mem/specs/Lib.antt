@@ -5,3 +5,4 @@ pub mod Ports
 pub mod Nets
 pub mod Mails
 pub mod Offices
+pub mod Outsides

@@ -2,6 +2,7 @@
 //! to their book and their inboxes, for tests and for replays.
 #![tactic(auto)]
 
+mod acceptor;
 mod calls;
 mod fitting;
 mod inbox;
@@ -9,6 +10,7 @@ mod link;
 mod mail;
 mod net;
 mod office;
+mod outside;
 mod pieces;
 mod port;
 mod ports;
@@ -20,10 +22,12 @@ mod source;
 #[cfg(test)]
 mod tests;
 
+pub use acceptor::MemAcceptor;
 pub use link::MemLink;
 pub use mail::PlainMail;
 pub use net::MemNet;
 pub use office::PlainOffice;
+pub use outside::{HandedBack, MemBell, MemOutside};
 pub use port::MemPort;
 pub use ports::MemPorts;
 pub use refusing::RefusingOffice;

@@ -178,6 +178,13 @@ impl MemLink {
         self.write_fails = true;
     }
 
+    /// How often its calls failed.
+    pub(crate) fn faults(&self) -> u64
+        ensures { result ≡ self.now.counts.faults }
+    {
+        self.faults
+    }
+
     /// Whether it tells what it holds: it has no room for what it takes, and no call is to fail by its number.
     pub fn tells(&self) -> bool
         ensures { result ≡ is_some (told self.now) }

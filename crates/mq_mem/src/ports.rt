@@ -1,5 +1,5 @@
 //! What binds ports in memory, whose world says which binds fail.
-ghost use Rattle.std.specs.Prelude.{◌≡◌, ◌<◌, ◌≤◌, [], ◌++◌, ◌∷◌, ◌+◌, if◌then◌else◌, nat_lt, length, map, drop, slice_get, true, false, is_some, IfOk, IfNone, IfSome, MatchOption};
+ghost use Rattle.std.specs.Prelude.{◌≡◌, ◌<◌, ◌≤◌, [], ◌++◌, ◌∷◌, ◌+◌, if◌then◌else◌, nat_lt, length, map, drop, slice_get, true, false, is_some, Some, IfOk, IfNone, IfSome, MatchOption};
 ghost use Rattle.std.specs.Option.{option_map};
 ghost use Rattle.std.specs.Vec.{vec_len, vec_capacity};
 ghost use Rattle.std.specs.VecDeque.{deque_len};
@@ -125,6 +125,23 @@ impl MemPorts {
             faults: 0,
             alloc,
         })
+    }
+
+    /// It has no port to bind: each bind fails. Takes no memory.
+    pub(crate) fn none(alloc: Global) -> MemPorts
+        ensures { result ≡ new_ports (Some []) [] }
+    {
+        MemPorts {
+            bind_fails: false,
+            stock: Some(Stock {
+                coming: VecDeque::new(alloc),
+                bound: Vec::new(alloc),
+                retired: Vec::new(alloc),
+            }),
+            calls: Calls::new(Seq::from_vec(Vec::new(alloc))),
+            faults: 0,
+            alloc,
+        }
     }
 
     /// The next bind fails. Takes no memory.

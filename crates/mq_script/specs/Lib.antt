@@ -4,3 +4,4 @@ pub mod Settings
 pub mod Generated
 pub mod Left
 pub mod Laws
+pub mod Counting

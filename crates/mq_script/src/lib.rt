@@ -28,9 +28,10 @@ mod word;
 
 pub use fault::LineFault;
 pub use generator::{Generator, generate};
+pub use hex_piece::parse_payload;
 pub use laws::packets_are_taken;
 pub use line::parse_line;
-pub use print::{print_bad_line, print_idle, print_more, print_note};
+pub use print::{print_bad_line, print_bytes, print_count, print_idle, print_more, print_note};
 pub use settings::Settings;
 
 #[cfg(test)]

@@ -2,6 +2,7 @@
 ghost use Rattle.std.specs.Prelude.{◌≡◌, ◌++◌, ◌∷◌, [], OnOk, OnErr, decimal, map};
 ghost use Rattle.hex.specs.Hex.{encode_lower};
 ghost use Rattle.mq_play.specs.Text.{bytes_text, given_text, newline, spaced};
+ghost use Rattle.mq_script.specs.Counting.{bytes_line};
 ghost use Rattle.mq_script.specs.Words.{Appends, behind_spaces, line_words, part_text};
 
 use itoa::Buffer;
@@ -58,6 +59,14 @@ fn append_bytes(out: &mut Vec<u8>, bytes: &[u8]) -> Result<(), NoMemory>
     } else {
         append_hex(out, bytes)
     }
+}
+
+/// Bytes in hex, or a dash, and a newline.
+pub fn append_bytes_line(out: &mut Vec<u8>, bytes: &[u8]) -> Result<(), NoMemory>
+    ensures { Appends out.old.items (bytes_line bytes.now) out.new.items result }
+{
+    append_bytes(out, bytes)?;
+    append(out, b"\n")
 }
 
 fn append_port(out: &mut Vec<u8>, tunnel: u32) -> Result<(), NoMemory>

@@ -4,9 +4,10 @@ ghost use Rattle.mq_machine.specs.Turn.{WorkerOf, ThePump};
 ghost use Rattle.mq_play.specs.Settings.{kind_text};
 ghost use Rattle.mq_play.specs.Text.{printed, from_text, place_text, why_text, cause_text, yes_text, Says, Idle, More, Bad};
 ghost use Rattle.mq_play.specs.Play.{actor_of};
+ghost use Rattle.mq_script.specs.Counting.{bytes_line, count_line};
 ghost use Rattle.mq_script.specs.Words.{part_text};
 
-use crate::part::{Part, print_line};
+use crate::part::{Part, append_bytes_line, print_line};
 use mq_addr::Kind;
 use mq_talk::{Cause, End, From, Note, Place, Why};
 use mq_wire::NoMemory;
@@ -275,6 +276,27 @@ pub fn print_more(out: &mut Vec<u8>) -> Result<(), NoMemory>
     ensures err { OnErr result (out.new.items ≡ out.old.items) }
 {
     print_line(out, b"more", &[], &[])
+}
+
+/// Prints how many of something there are. An `Err` changes nothing.
+pub fn print_count(out: &mut Vec<u8>, word: &[u8], count: u64) -> Result<(), NoMemory>
+    ensures ok { OnOk result (out.new.items ≡ out.old.items ++ count_line word.now count) }
+    ensures err { OnErr result (out.new.items ≡ out.old.items) }
+{
+    print_line(out, word, &[Part::Number(count)], &[])
+}
+
+/// Prints bytes in hex, or a dash where there are none. An `Err` changes nothing.
+pub fn print_bytes(out: &mut Vec<u8>, bytes: &[u8]) -> Result<(), NoMemory>
+    ensures ok { OnOk result (out.new.items ≡ out.old.items ++ bytes_line bytes.now) }
+    ensures err { OnErr result (out.new.items ≡ out.old.items) }
+{
+    let before = out.len();
+    let appended = append_bytes_line(out, bytes);
+    if appended.is_err() {
+        out.truncate(before);
+    }
+    appended
 }
 
 /// Prints that the line of this number, counted from 1, is bad. An `Err` changes nothing.

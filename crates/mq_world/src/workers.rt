@@ -220,6 +220,13 @@ impl Workers {
 
     // ---- steps
 
+    /// How many entries the book's history has.
+    pub(crate) fn entries(&self) -> u32
+        ensures { (s : machine.State) → IsWorld self.now s → result ≡ length s.shared.book }
+    {
+        self.office.book().count()
+    }
+
     /// How many there are.
     pub(crate) fn count(&self) -> u32
         requires { (s : machine.State) × IsWorld self.now s }

@@ -56,6 +56,13 @@ impl World {
         self.inside.count()
     }
 
+    /// How many entries the book's history has.
+    pub fn entries(&self) -> u32
+        ensures { (s : State) → IsWorld self.now s → result ≡ length s.shared.book }
+    {
+        self.inside.entries()
+    }
+
     /// Something happens: something comes from outside, or an actor takes a step. The actor of the network has the count of
     /// workers as its number. A piece has a byte, a datagram has at most 65,527, and a packet at most 65,535.
     /// `Missing` comes where the event names what never was; it and `NoMemory` change nothing.

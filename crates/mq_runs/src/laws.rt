@@ -1,0 +1,58 @@
+//! Laws of runs, each the contract of a function without a body.
+ghost use Rattle.mq_runs.specs.Laws.{CausesHeld, DeliveredInOrder, IsARun, JudgedOnWhatWasWritten, NoTwoEnds, PutAsItCame, SentInOrder};
+
+use mq_capsule::{is_read_once, is_readable, is_within_limits};
+use mq_machine::stays_lawful;
+
+/// What lines print is what a run prints.
+pub fn is_a_run()
+    ensures { IsARun }
+{}
+
+/// What a note says that the book answered is what the history says.
+pub fn judged_on_what_was_written()
+    ensures { JudgedOnWhatWasWritten }
+{
+    is_within_limits();
+}
+
+/// The cause that is named where a packet is dropped is so.
+pub fn causes_held()
+    ensures { CausesHeld }
+{
+    is_within_limits();
+}
+
+/// No payload has two ends.
+pub fn no_two_ends()
+    ensures { NoTwoEnds }
+{
+    stays_lawful();
+    is_readable();
+    is_read_once();
+}
+
+/// A tunnel delivers the payloads of one origin by rising numbers.
+pub fn delivered_in_order()
+    ensures { DeliveredInOrder }
+{
+    stays_lawful();
+    is_readable();
+    is_read_once();
+}
+
+/// The payloads of one origin are sent by rising numbers.
+pub fn sent_in_order()
+    ensures { SentInOrder }
+{
+    stays_lawful();
+    is_readable();
+    is_read_once();
+}
+
+/// What a worker sends to a port is a payload of its tunnel, whole.
+pub fn put_as_it_came()
+    ensures { PutAsItCame }
+{
+    is_within_limits();
+}

@@ -1,0 +1,13 @@
+//! A client of a proxy at work: payloads are read as lines, sent through a tunnel for UDP, and what comes back is printed.
+#![tactic(auto)]
+
+mod exchange;
+mod input;
+mod outcome;
+mod reading;
+mod talk;
+#[cfg(test)]
+mod tests;
+
+pub use outcome::Outcome;
+pub use talk::{Asked, udp};
