@@ -12,8 +12,8 @@ use Rattle.mq_top.specs.declared.session.Session.{Session}
 use Rattle.mq_top.specs.declared.status.Status.{Status}
 use Rattle.mq_top.specs.declared.status.Status.TheVariants as status
 use Rattle.mq_top.specs.declared.status.Status.TheVariants.{Done, ReadFault, BadScript}
-use Rattle.mq_top.specs.declared.status.Stop.{Stop}
-use Rattle.mq_top.specs.declared.status.Stop.TheVariants.{BadLine, WriteFault, NoMemory}
+use Rattle.mq_output.specs.declared.stop.Stop.{Stop}
+use Rattle.mq_output.specs.declared.stop.Stop.TheVariants.{BadLine, WriteFault, NoMemory}
 
 -- a bad line of which nothing was said
 bad_unsaid : (whole text : List ℕ) (number : ℕ) → IsAtBad whole text number → IsPlayedPart whole text

@@ -4,9 +4,9 @@ use Rattle.mq_play.specs.Script.{IsFrontOf, text_of}
 use Rattle.mq_play.specs.Text.{newline}
 use Rattle.mq_script.specs.Left.{GivesLine}
 use Rattle.mq_top.specs.Generates.{LineShown, LinesWritten}
-use Rattle.mq_top.specs.Printing.{Flushes, Spills}
-use Rattle.mq_top.specs.declared.status.Stop.{Stop}
-use Rattle.mq_top.specs.declared.status.Stop.TheVariants.{BadLine, WriteFault, NoMemory}
+use Rattle.mq_output.specs.Printing.{Flushes, Spills}
+use Rattle.mq_output.specs.declared.stop.Stop.{Stop}
+use Rattle.mq_output.specs.declared.stop.Stop.TheVariants.{BadLine, WriteFault, NoMemory}
 
 -- ---- one line
 

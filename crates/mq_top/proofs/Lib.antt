@@ -9,3 +9,5 @@ pub mod Reading
 pub mod Ending
 pub mod Generating
 pub mod Wording
+pub mod Tallying
+pub mod Counting

@@ -1,5 +1,6 @@
 -- What the parts of a line's play say of the line.
 use Rattle.std.proofs.Common.{◌≡◌, ◌≢◌, ℕ, ◌≤◌, ◌<◌, Bool, true, false, List, [], ◌∷◌, ◌++◌, length, Result, Ok, Err, refl, sym, ap, subst, inl, inr}
+use Rattle.std.specs.List.{AllByRecursion}
 use Rattle.std.specs.Prelude.{if◌then◌else◌}
 use Rattle.std.proofs.lemmas.Bool.{lt-ltb, le-ltb}
 use Rattle.mq_machine.specs.declared.event.Event.{Event}
@@ -12,13 +13,14 @@ use Rattle.mq_play.specs.Lines.{Says, net_number}
 use Rattle.mq_play.specs.Play as spec
 use Rattle.mq_play.specs.Play.{Fate, Until, TheEnd, SomeStop, Settings, Running, opening, opened, actor_of, is_actor, Runs, Goes, LinePlays, IsBadHere, IsWrong, Plays, PlaysLine, line_limit}
 use Rattle.mq_script.specs.Settings.{Made, IsSettings, Adds}
+use Rattle.mq_top.specs.Listening.{MayBeNone}
 use Rattle.mq_top.specs.Playing.{Answers, LedTo, RunsTo, GoesTo, SaidTo, LineTo}
 use Rattle.mq_top.specs.Stages.{IsStage}
 use Rattle.mq_top.specs.Telling.{IsSpoken, AreTold}
 use Rattle.mq_top.specs.declared.stage.Stage.{Stage}
 use Rattle.mq_top.specs.declared.stage.Stage.TheVariants as stage
-use Rattle.mq_top.specs.declared.status.Stop.{Stop}
-use Rattle.mq_top.specs.declared.status.Stop.TheVariants.{BadLine, WriteFault, NoMemory}
+use Rattle.mq_output.specs.declared.stop.Stop.{Stop}
+use Rattle.mq_output.specs.declared.stop.Stop.TheVariants.{BadLine, WriteFault, NoMemory}
 use Rattle.mq_top.proofs.Reading.{plays_more}
 use Rattle.mq_wire.specs.declared.NoMemory as wire
 use Rattle.mq_world.specs.declared.stepped.Stepped.{Stepped}
@@ -56,10 +58,10 @@ pub told_none : (made : Made) → IsSettings made [] → AreTold made
 told_none made stands = record { lines = []; fates = []; text = []; told = []; plays = (refl, refl); stands = stands }
 
 -- one more stands
-pub set_more : (old new : Made) (s : spec.Stage) (said : SettingLine) → IsStage (stage.Settings old) s → ((lines : List SettingLine) → IsSettings old lines → Adds old lines said (Ok true) new)
-    → SaidTo s (line.Setting said) [] (Ok tt) (stage.Settings new)
-set_more old new (Settings lines) said stands adds = let added = adds lines stands in ([], Settings (lines ++ said ∷ []), ((added.0, refl), refl, refl), added.1)
-set_more old new (Running state) said stands adds = absurd stands
+pub set_more : {May : Fate → Type 0} (old new : Made) (s : spec.Stage) (said : SettingLine) → IsStage (stage.Settings old) s → ((lines : List SettingLine) → IsSettings old lines → Adds old lines said (Ok true) new)
+    → SaidTo May s (line.Setting said) [] (Ok tt) (stage.Settings new)
+set_more {May = May} old new (Settings lines) said stands adds = let added = adds lines stands in ([], Settings (lines ++ said ∷ []), (((added.0, refl), refl, refl), tt), added.1)
+set_more {May = May} old new (Running state) said stands adds = absurd stands
 
 -- ---- the world begins
 
@@ -76,55 +78,66 @@ led f Stands Holds Goes Plays IsBad IsWrong shown (Err WriteFault) goes stands b
 led f Stands Holds Goes Plays IsBad IsWrong shown (Err NoMemory) goes stands bad (inl none) = inl none
 led f Stands Holds Goes Plays IsBad IsWrong shown (Err NoMemory) goes stands bad (inr cut) = inr (cut.0, f cut.1, goes SomeStop cut.0 cut.1 cut.2)
 
-pub steps_said : (w : World) (s : spec.Stage) (actor count : ℕ) (shown : List ℕ) (answer : Result (Unit {0}) Stop) → is_actor (opened s) (actor_of actor) ≡ true
-    → RunsTo w (opened s) (actor_of actor) count shown answer → SaidTo s (line.Steps actor count) shown answer (stage.Running w)
-steps_said w s actor count shown answer is told =
-    led Running (IsWorld w) (IsStage (stage.Running w)) (λ until fates t. Runs until (opened s) (actor_of actor) count fates shown t)
-    (λ until fates t. LinePlays until s (line.Steps actor count) fates shown t) ⊥ (IsBadHere s (line.Steps actor count)) shown answer
-    (λ until fates t goes. (is, t, goes, refl)) (λ t stands. stands) (λ none. absurd none) told
+pub steps_said : (May : Fate → Type 0) (w : World) (s : spec.Stage) (actor count : ℕ) (shown : List ℕ) (answer : Result (Unit {0}) Stop) → is_actor (opened s) (actor_of actor) ≡ true
+    → RunsTo May w (opened s) (actor_of actor) count shown answer → SaidTo May s (line.Steps actor count) shown answer (stage.Running w)
+steps_said May w s actor count shown answer is told =
+    led Running (IsWorld w) (IsStage (stage.Running w)) (λ until fates t. Runs until (opened s) (actor_of actor) count fates shown t × AllByRecursion May fates)
+    (λ until fates t. LinePlays until s (line.Steps actor count) fates shown t × AllByRecursion May fates) ⊥ (IsBadHere s (line.Steps actor count)) shown answer
+    (λ until fates t goes. ((is, t, goes.0, refl), goes.1)) (λ t stands. stands) (λ none. absurd none) told
 
-pub turns_said : (w : World) (s : spec.Stage) (count : ℕ) (shown : List ℕ) (answer : Result (Unit {0}) Stop) → GoesTo w (opened s) count shown answer → SaidTo s (line.Run count) shown answer (stage.Running w)
-turns_said w s count shown answer told =
-    led Running (IsWorld w) (IsStage (stage.Running w)) (λ until fates t. Goes until (opened s) 0 count fates shown t)
-    (λ until fates t. LinePlays until s (line.Run count) fates shown t) ⊥ (IsBadHere s (line.Run count)) shown answer
-    (λ until fates t goes. (t, goes, refl)) (λ t stands. stands) (λ none. absurd none) told
+pub turns_said : (May : Fate → Type 0) (w : World) (s : spec.Stage) (count : ℕ) (shown : List ℕ) (answer : Result (Unit {0}) Stop) → GoesTo May w (opened s) count shown answer → SaidTo May s (line.Run count) shown answer (stage.Running w)
+turns_said May w s count shown answer told =
+    led Running (IsWorld w) (IsStage (stage.Running w)) (λ until fates t. Goes until (opened s) 0 count fates shown t × AllByRecursion May fates)
+    (λ until fates t. LinePlays until s (line.Run count) fates shown t × AllByRecursion May fates) ⊥ (IsBadHere s (line.Run count)) shown answer
+    (λ until fates t goes. ((t, goes.0, refl), goes.1)) (λ t stands. stands) (λ none. absurd none) told
 
-pub line_said : (x : Stage) (s : spec.Stage) (bytes : List ℕ) (said : Line) (shown : List ℕ) (answer : Result (Unit {0}) Stop) → length bytes ≤ line_limit → Says bytes said → SaidTo s said shown answer x → LineTo s bytes shown answer x
-line_said x s bytes said shown answer fits says told =
-    led (λ (t : spec.Stage). t) (IsStage x) (IsStage x) (λ until fates t. LinePlays until s said fates shown t)
-    (λ until fates t. PlaysLine until s bytes fates shown t) (IsBadHere s said) (IsWrong s bytes) shown answer
-    (λ until fates t plays. record { said = said; fits = fits; says = says; plays = plays }) (λ t stands. stands) (λ bad. inr (said, says, bad)) told
+pub line_said : (May : Fate → Type 0) (x : Stage) (s : spec.Stage) (bytes : List ℕ) (said : Line) (shown : List ℕ) (answer : Result (Unit {0}) Stop) → length bytes ≤ line_limit → Says bytes said → SaidTo May s said shown answer x → LineTo May s bytes shown answer x
+line_said May x s bytes said shown answer fits says told =
+    led (λ (t : spec.Stage). t) (IsStage x) (IsStage x) (λ until fates t. LinePlays until s said fates shown t × AllByRecursion May fates)
+    (λ until fates t. PlaysLine until s bytes fates shown t × AllByRecursion May fates) (IsBadHere s said) (IsWrong s bytes) shown answer
+    (λ until fates t plays. (record { said = said; fits = fits; says = says; plays = plays.0 }, plays.1)) (λ t stands. stands) (λ bad. inr (said, says, bad)) told
+
+none_heard : (May : Fate → Type 0) (fates : List Fate) → AllByRecursion MayBeNone fates → AllByRecursion May fates
+none_heard May [] h = tt
+none_heard May (fate ∷ fates) h = absurd h.0
+
+-- what took no step may be heard by all
+pub said_any : (May : Fate → Type 0) (s : spec.Stage) (said : Line) (shown : List ℕ) (answer : Result (Unit {0}) Stop) (x : Stage) → SaidTo MayBeNone s said shown answer x → SaidTo May s said shown answer x
+said_any May s said shown answer x told =
+    led (λ (t : spec.Stage). t) (IsStage x) (IsStage x) (λ until fates t. LinePlays until s said fates shown t × AllByRecursion MayBeNone fates)
+    (λ until fates t. LinePlays until s said fates shown t × AllByRecursion May fates) (IsBadHere s said) (IsBadHere s said) shown answer
+    (λ until fates t plays. (plays.0, none_heard May fates plays.1)) (λ t stands. stands) (λ bad. bad) told
 
 -- a line that does nothing
-pub blank_said : (x : Stage) (s : spec.Stage) (said : Line) → said ≡ line.Blank → IsStage x s → SaidTo s said [] (Ok tt) x
-blank_said x s said is stands =
-    let P : Line → Type 0 = λ l. SaidTo s l [] (Ok tt) x in
-    subst P (sym is) ([], s, (refl, refl, refl), stands)
+pub blank_said : {May : Fate → Type 0} (x : Stage) (s : spec.Stage) (said : Line) → said ≡ line.Blank → IsStage x s → SaidTo May s said [] (Ok tt) x
+blank_said {May = May} x s said is stands =
+    let P : Line → Type 0 = λ l. SaidTo May s l [] (Ok tt) x in
+    subst P (sym is) ([], s, ((refl, refl, refl), tt), stands)
 
 -- memory ran out before anything was shown
-pub unsaid_spent : (x : Stage) (s : spec.Stage) (said : Line) (why : Stop) → why ≡ NoMemory → SaidTo s said [] (Err why) x
-unsaid_spent x s said why e =
-    let P : Stop → Type 0 = λ stop. SaidTo s said [] (Err stop) x in
+pub unsaid_spent : (May : Fate → Type 0) (x : Stage) (s : spec.Stage) (said : Line) (why : Stop) → why ≡ NoMemory → SaidTo May s said [] (Err why) x
+unsaid_spent May x s said why e =
+    let P : Stop → Type 0 = λ stop. SaidTo May s said [] (Err stop) x in
     subst P (sym e) (inl refl)
 
 -- ---- what happens
 
-done_so : (w : World) (s : spec.Stage) (e : Event) (stepped : Stepped) → IsOutside e → StepGives (IsWorld w) (opened s) e (Ok stepped) → SaidTo s (line.Happens e) [] (Ok tt) (stage.Running w)
-done_so w s e Done outside told = ([], Running (happen (opened s) e), (told.1, refl, refl, refl), told.2)
-done_so w s e (Did note) outside told = absurd (outside told.2.number told.2.is)
-done_so w s e Idle outside told = absurd (outside told.1.number told.1.is)
-done_so w s e Refused outside told = absurd (outside told.3.number told.3.is)
+done_so : {May : Fate → Type 0} (w : World) (s : spec.Stage) (e : Event) (stepped : Stepped) → IsOutside e → StepGives (IsWorld w) (opened s) e (Ok stepped) → SaidTo May s (line.Happens e) [] (Ok tt) (stage.Running w)
+done_so {May = May} w s e Done outside told = ([], Running (happen (opened s) e), ((told.1, refl, refl, refl), tt), told.2)
+done_so {May = May} w s e (Did note) outside told = absurd (outside told.2.number told.2.is)
+done_so {May = May} w s e Idle outside told = absurd (outside told.1.number told.1.is)
+done_so {May = May} w s e Refused outside told = absurd (outside told.3.number told.3.is)
 
-pub happened : (w : World) (s : spec.Stage) (e : Event) (stepped : Result Stepped WorldFault) (answer : Result (Unit {0}) Stop) → IsOutside e → StepGives (IsWorld w) (opened s) e stepped → Answers stepped answer
-    → SaidTo s (line.Happens e) [] answer (stage.Running w)
-happened w s e (Ok stepped) answer outside told is =
-    let P : Result (Unit {0}) Stop → Type 0 = λ a. SaidTo s (line.Happens e) [] a (stage.Running w) in
+pub happened : (May : Fate → Type 0) (w : World) (s : spec.Stage) (e : Event) (stepped : Result Stepped WorldFault) (answer : Result (Unit {0}) Stop) → IsOutside e → StepGives (IsWorld w) (opened s) e stepped → Answers stepped answer
+    → SaidTo May s (line.Happens e) [] answer (stage.Running w)
+happened May w s e (Ok stepped) answer outside told is =
+    let P : Result (Unit {0}) Stop → Type 0 = λ a. SaidTo May s (line.Happens e) [] a (stage.Running w) in
     subst P (sym is) (done_so w s e stepped outside told)
-happened w s e (Err fault.Missing) answer outside told is =
-    let P : Result (Unit {0}) Stop → Type 0 = λ a. SaidTo s (line.Happens e) [] a (stage.Running w) in
+happened May w s e (Err fault.Missing) answer outside told is =
+    let P : Result (Unit {0}) Stop → Type 0 = λ a. SaidTo May s (line.Happens e) [] a (stage.Running w) in
     subst P (sym is) (told.0, refl)
-happened w s e (Err fault.NoMemory) answer outside told is =
-    let P : Result (Unit {0}) Stop → Type 0 = λ a. SaidTo s (line.Happens e) [] a (stage.Running w) in
+happened May w s e (Err fault.NoMemory) answer outside told is =
+    let P : Result (Unit {0}) Stop → Type 0 = λ a. SaidTo May s (line.Happens e) [] a (stage.Running w) in
     subst P (sym is) (inl refl)
 
 -- ---- the number of an actor

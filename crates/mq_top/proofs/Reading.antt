@@ -1,19 +1,21 @@
 -- The play of the lines that were cut.
 use Rattle.std.proofs.Common.{◌≡◌, ℕ, ◌+◌, ◌≤◌, List, [], ◌∷◌, ◌++◌, length, Result, Ok, Err, refl, sym, ap, subst, ◌∙◌, arith, append_assoc, append-nil, inl, inr}
+use Rattle.std.specs.List.{AllByRecursion}
 use Rattle.std.proofs.lemmas.List.{length-append}
 use Rattle.mq_play.specs.Play.{Fate, Stage, opening, Plays, PlaysLine, TheEnd}
 use Rattle.mq_play.specs.Script.{lines_of, Fits, IsReached, IsBad, IsPlayedPart}
 use Rattle.mq_play.specs.Text.{newline}
 use Rattle.mq_text.specs.Cut.{Lacks}
 use Rattle.mq_top.proofs.Cutting.{begun_more, begun_ended, parts_length, script_lines, reached, line_reached, last_reached, begun_reached, bad_long, bad_past}
+use Rattle.mq_top.specs.Listening.{MayBeAny}
 use Rattle.mq_top.specs.Playing.{LineTo, IsCutOff}
-use Rattle.mq_top.specs.Printing.{IsSilent}
+use Rattle.mq_output.specs.Printing.{IsSilent}
 use Rattle.mq_top.specs.Reading.{IsScript, IsRead, RoomTo, StopsAt, ReadsTo, EndsTo}
 use Rattle.mq_top.specs.Stages.{IsStage}
 use Rattle.mq_top.specs.declared.session.Session.{Session}
 use Rattle.mq_top.specs.declared.stage.Stage as held
-use Rattle.mq_top.specs.declared.status.Stop.{Stop}
-use Rattle.mq_top.specs.declared.status.Stop.TheVariants.{BadLine, WriteFault, NoMemory}
+use Rattle.mq_output.specs.declared.stop.Stop.{Stop}
+use Rattle.mq_output.specs.declared.stop.Stop.TheVariants.{BadLine, WriteFault, NoMemory}
 
 -- one more line
 pub plays_more : (old : Stage) (lines : List (List ℕ)) (before : List (List Fate)) (text : List ℕ) (mid : Stage) (line shown : List ℕ) (here : List Fate) (new : Stage)
@@ -60,7 +62,7 @@ stops_before whole lines after fates state text shown far none = record {
 
 -- it stopped in a line
 stops_in : (whole : List ℕ) (lines others : List (List ℕ)) (fates : List (List Fate)) (state : Stage) (text shown line : List ℕ) → IsReached whole lines (line ∷ others) fates text state → Fits whole (lines ++ line ∷ [])
-    → IsCutOff (λ until here t. PlaysLine until state line here shown t) shown → IsPlayedPart whole (text ++ shown)
+    → IsCutOff (λ until here t. PlaysLine until state line here shown t × AllByRecursion MayBeAny here) shown → IsPlayedPart whole (text ++ shown)
 stops_in whole lines others fates state text shown line far fits (inl none) = stops_before whole lines (line ∷ others) fates state text shown far none
 stops_in whole lines others fates state text shown line far fits (inr cut) = record {
   before = lines;
@@ -71,13 +73,13 @@ stops_in whole lines others fates state text shown line far fits (inr cut) = rec
   last = cut.0;
   part = shown;
   reached = far;
-  stops = inr (inl (record { line = line; others = others; new = cut.1; is = refl; fits = fits; plays = cut.2 }));
+  stops = inr (inl (record { line = line; others = others; new = cut.1; is = refl; fits = fits; plays = cut.2.0 }));
   front = ([], sym (append-nil (text ++ shown)));
 }
 
 -- a whole line was played until its play stopped
 pub line_stops : (whole : List ℕ) (lines others : List (List ℕ)) (fates : List (List Fate)) (state : Stage) (text shown line : List ℕ) (why : Stop) (w : held.Stage) (number : ℕ) → IsReached whole lines (line ∷ others) fates text state
-    → Fits whole (lines ++ line ∷ []) → number ≡ length lines → LineTo state line shown (Err why) w → StopsAt whole (text ++ shown) why number
+    → Fits whole (lines ++ line ∷ []) → number ≡ length lines → LineTo MayBeAny state line shown (Err why) w → StopsAt whole (text ++ shown) why number
 line_stops whole lines others fates state text shown line BadLine w number far fits count told =
     let P : List ℕ → Type 0 = λ all. IsReached whole lines (line ∷ others) fates all state in
     record {
@@ -160,7 +162,7 @@ ended_script script bytes = append_assoc script bytes (newline ∷ [])
 
 -- the begun line ended and was good
 pub line_read : (x y : Session) (script : List ℕ) (lines : List (List ℕ)) (text bytes shown : List ℕ) (now : ℕ) → Lacks newline bytes → (r : IsRead x script lines text)
-    → RoomTo (length x.begun.items + length bytes) (x.count + length bytes) 1 (Ok now) → LineTo r.state (x.begun.items ++ bytes) shown (Ok tt) y.stage
+    → RoomTo (length x.begun.items + length bytes) (x.count + length bytes) 1 (Ok now) → LineTo MayBeAny r.state (x.begun.items ++ bytes) shown (Ok tt) y.stage
     → y.begun.items ≡ [] → y.number ≡ x.number + 1 → y.count ≡ now → IsRead y (script ++ (bytes ++ newline ∷ [])) (lines ++ (x.begun.items ++ bytes) ∷ []) (text ++ shown)
 line_read x y script lines text bytes shown now plain r room told none number count =
     let begun = x.begun.items in
@@ -174,7 +176,7 @@ line_read x y script lines text bytes shown now plain r room told none number co
     record {
       state = told.1;
       fates = r.fates ++ told.0 ∷ [];
-      plays = plays_more opening lines r.fates text r.state line shown told.0 told.1 r.plays told.2;
+      plays = plays_more opening lines r.fates text r.state line shown told.0 told.1 r.plays told.2.0;
       stands = told.3;
       number = omega (arith, number, counted, r.number);
       script_is = subst Q (sym none) (subst P (ended_script script bytes) (begun_ended (script ++ bytes) lines line s));
@@ -185,7 +187,7 @@ line_read x y script lines text bytes shown now plain r room told none number co
 
 -- it ended and stopped the play
 pub line_stopped : (x : Session) (script : List ℕ) (lines : List (List ℕ)) (text bytes shown : List ℕ) (now : ℕ) (why : Stop) (w : held.Stage) → Lacks newline bytes → (r : IsRead x script lines text)
-    → RoomTo (length x.begun.items + length bytes) (x.count + length bytes) 1 (Ok now) → LineTo r.state (x.begun.items ++ bytes) shown (Err why) w
+    → RoomTo (length x.begun.items + length bytes) (x.count + length bytes) 1 (Ok now) → LineTo MayBeAny r.state (x.begun.items ++ bytes) shown (Err why) w
     → (more : List ℕ) → StopsAt (script ++ (bytes ++ newline ∷ []) ++ more) (text ++ shown) why x.number
 line_stopped x script lines text bytes shown now why w plain r room told more =
     let begun = x.begun.items in
@@ -260,11 +262,11 @@ no_bytes (x ∷ xs) h = absurd (omega (arith, h))
 
 -- its last line was played
 pub ends_line : (x y : Session) (script : List ℕ) (lines : List (List ℕ)) (text shown : List ℕ) (answer : Result (Unit {0}) Stop) → (r : IsRead x script lines text) → y.number ≡ x.number
-    → LineTo r.state x.begun.items shown answer y.stage → EndsTo script (text ++ shown) answer y
+    → LineTo MayBeAny r.state x.begun.items shown answer y.stage → EndsTo script (text ++ shown) answer y
 ends_line x y script lines text shown (Ok done) r number told =
     let line = x.begun.items in
     let all = script_lines script lines line r.script_is in
-    let plays = plays_more opening lines r.fates text r.state line shown told.0 told.1 r.plays told.2 in
+    let plays = plays_more opening lines r.fates text r.state line shown told.0 told.1 r.plays told.2.0 in
     let P : List (List ℕ) → Type 0 = λ ls. Plays opening ls (r.fates ++ told.0 ∷ []) (text ++ shown) told.1 in
     let Q : List ℕ → Type 0 = λ out. IsPlayedPart script out in (
       record { fates = r.fates ++ told.0 ∷ []; new = told.1; fits = r.fits; plays = subst P (sym all) plays },

@@ -1,7 +1,7 @@
 -- Steps of all actors in turn.
 use Rattle.std.proofs.Common.{◌≡◌, ℕ, zero, suc, ◌+◌, ◌-◌, ◌≤◌, ◌<◌, Bool, true, false, List, [], ◌∷◌, ◌++◌, map, length, take, drop, Option, Some, None, Result, Ok, Err, refl, sym, ap, subst, ◌∙◌, arith, append_assoc, append-nil, inr}
 use Rattle.std.specs.Prelude.{find, cond, if◌then◌else◌, not}
-use Rattle.std.specs.List.{list_any, slice_get}
+use Rattle.std.specs.List.{list_any, slice_get, AllByRecursion}
 use Rattle.std.specs.Option.{option_or, is_some, option_and_then}
 use Rattle.std.proofs.lemmas.Bool.{le-ltb}
 use Rattle.std.proofs.lemmas.List.{map-append}
@@ -12,9 +12,9 @@ use Rattle.mq_machine.specs.Turn.{Actor, WorkerOf, ThePump, has_turn}
 use Rattle.mq_play.specs.Play.{Fate, Until, TheEnd, SomeStop, Goes, up_to, actors_of, place_behind, more_text}
 use Rattle.mq_play.specs.Text.{printed, More}
 use Rattle.mq_top.specs.Playing.{IsAt, Acts, StepTo, FirstTo, GoesTo, IsCutOff, workers_from}
-use Rattle.mq_top.specs.declared.status.Stop.{Stop}
-use Rattle.mq_top.specs.declared.status.Stop.TheVariants.{BadLine, WriteFault, NoMemory}
-use Rattle.mq_top.proofs.Onward.{steps_same}
+use Rattle.mq_output.specs.declared.stop.Stop.{Stop}
+use Rattle.mq_output.specs.declared.stop.Stop.TheVariants.{BadLine, WriteFault, NoMemory}
+use Rattle.mq_top.proofs.Onward.{steps_same, all_more, all_same}
 use Rattle.mq_world.specs.declared.world.World.{World}
 use Rattle.mq_world.specs.Worlds.{IsWorld}
 
@@ -96,56 +96,56 @@ find_behind : (s : State) (xs ys : List Actor) → find (has_turn s) xs ≡ None
 find_behind s xs ys e = find-append (has_turn s) xs ys ∙ ap (λ (o : Option Actor). option_or o (find (has_turn s) ys)) e
 
 -- what the answer says of these actors, it says of others among which the same is found
-pub first_same : (w : World) (s : State) (xs ys : List Actor) (shown : List ℕ) (answer : Result (Option ℕ) Stop) → find (has_turn s) ys ≡ find (has_turn s) xs → FirstTo w s xs shown answer → FirstTo w s ys shown answer
-first_same w s xs ys shown (Ok (Some next)) e told = (told.0, told.1, e ∙ told.2, told.3, told.4, told.5)
-first_same w s xs ys shown (Ok None) e told = (e ∙ told.0, told.1, told.2)
-first_same w s xs ys shown (Err BadLine) e told = told
-first_same w s xs ys shown (Err WriteFault) e told = (told.0, told.1, e ∙ told.2, told.3)
-first_same w s xs ys shown (Err NoMemory) e told = told
+pub first_same : (May : Fate → Type 0) (w : World) (s : State) (xs ys : List Actor) (shown : List ℕ) (answer : Result (Option ℕ) Stop) → find (has_turn s) ys ≡ find (has_turn s) xs → FirstTo May w s xs shown answer → FirstTo May w s ys shown answer
+first_same May w s xs ys shown (Ok (Some next)) e told = (told.0, told.1, e ∙ told.2, told.3, told.4, told.5)
+first_same May w s xs ys shown (Ok None) e told = (e ∙ told.0, told.1, told.2)
+first_same May w s xs ys shown (Err BadLine) e told = told
+first_same May w s xs ys shown (Err WriteFault) e told = (told.0, told.1, e ∙ told.2, told.3)
+first_same May w s xs ys shown (Err NoMemory) e told = told
 
 -- nothing was shown before
-pub first_shown : (w : World) (s : State) (xs : List Actor) (before shown : List ℕ) (answer : Result (Option ℕ) Stop) → before ≡ [] → FirstTo w s xs shown answer → FirstTo w s xs (before ++ shown) answer
-first_shown w s xs before shown answer none told =
-    let P : List ℕ → Type 0 = λ text. FirstTo w s xs text answer in
+pub first_shown : (May : Fate → Type 0) (w : World) (s : State) (xs : List Actor) (before shown : List ℕ) (answer : Result (Option ℕ) Stop) → before ≡ [] → FirstTo May w s xs shown answer → FirstTo May w s xs (before ++ shown) answer
+first_shown May w s xs before shown answer none told =
+    let P : List ℕ → Type 0 = λ text. FirstTo May w s xs text answer in
     subst P (sym (ap (λ (text : List ℕ). text ++ shown) none)) told
 
 -- one is found among the first of these
-pub first_front : (w : World) (s : State) (xs ys : List Actor) (shown : List ℕ) (next : ℕ) → FirstTo w s xs shown (Ok (Some next)) → FirstTo w s (xs ++ ys) shown (Ok (Some next))
+pub first_front : {May : Fate → Type 0} (w : World) (s : State) (xs ys : List Actor) (shown : List ℕ) (next : ℕ) → FirstTo May w s xs shown (Ok (Some next)) → FirstTo May w s (xs ++ ys) shown (Ok (Some next))
 first_front w s xs ys shown next told = (told.0, told.1, find_front s xs ys told.0 told.2, told.3, told.4, told.5)
 
 -- the search stopped among the first of these
-pub first_stopped : (w : World) (s : State) (xs ys : List Actor) (shown : List ℕ) (why : Stop) → FirstTo w s xs shown (Err why) → FirstTo w s (xs ++ ys) shown (Err why)
-first_stopped w s xs ys shown BadLine told = told
-first_stopped w s xs ys shown WriteFault told = (told.0, told.1, find_front s xs ys told.0 told.2, told.3)
-first_stopped w s xs ys shown NoMemory told = told
+pub first_stopped : (May : Fate → Type 0) (w : World) (s : State) (xs ys : List Actor) (shown : List ℕ) (why : Stop) → FirstTo May w s xs shown (Err why) → FirstTo May w s (xs ++ ys) shown (Err why)
+first_stopped May w s xs ys shown BadLine told = told
+first_stopped May w s xs ys shown WriteFault told = (told.0, told.1, find_front s xs ys told.0 told.2, told.3)
+first_stopped May w s xs ys shown NoMemory told = told
 
 -- none is found among the first of these
-pub first_behind : (w : World) (s : State) (xs ys : List Actor) (before shown : List ℕ) (answer : Result (Option ℕ) Stop) → find (has_turn s) xs ≡ None → before ≡ [] → FirstTo w s ys shown answer
-    → FirstTo w s (xs ++ ys) (before ++ shown) answer
-first_behind w s xs ys before shown answer e none told =
-    first_shown w s (xs ++ ys) before shown answer none (first_same w s ys (xs ++ ys) shown answer (find_behind s xs ys e) told)
+pub first_behind : (May : Fate → Type 0) (w : World) (s : State) (xs ys : List Actor) (before shown : List ℕ) (answer : Result (Option ℕ) Stop) → find (has_turn s) xs ≡ None → before ≡ [] → FirstTo May w s ys shown answer
+    → FirstTo May w s (xs ++ ys) (before ++ shown) answer
+first_behind May w s xs ys before shown answer e none told =
+    first_shown May w s (xs ++ ys) before shown answer none (first_same May w s ys (xs ++ ys) shown answer (find_behind s xs ys e) told)
 
 -- the first of these has a turn
-pub first_acted : (w : World) (s t : State) (actor : Actor) (others : List Actor) (shown : List ℕ) → Acts s actor shown t → IsWorld w t → FirstTo w s (actor ∷ others) shown (Ok (Some (place_behind actor)))
+pub first_acted : {May : Fate → Type 0} (w : World) (s t : State) (actor : Actor) (others : List Actor) (shown : List ℕ) → Acts May s actor shown t → IsWorld w t → FirstTo May w s (actor ∷ others) shown (Ok (Some (place_behind actor)))
 first_acted w s t actor others shown acts stands = (actor, t, find_here s actor others acts.has, refl, acts, stands)
 
 -- its step stopped
-pub first_failed : (w after : World) (s : State) (actor : Actor) (others : List Actor) (shown : List ℕ) (why : Stop) → StepTo after s actor shown (Err why) → FirstTo w s (actor ∷ others) shown (Err why)
-first_failed w after s actor others shown BadLine step = absurd step
-first_failed w after s actor others shown WriteFault step = (actor, step.0, find_here s actor others step.1.has, step.1)
-first_failed w after s actor others shown NoMemory step = step
+pub first_failed : (May : Fate → Type 0) (w after : World) (s : State) (actor : Actor) (others : List Actor) (shown : List ℕ) (why : Stop) → StepTo May after s actor shown (Err why) → FirstTo May w s (actor ∷ others) shown (Err why)
+first_failed May w after s actor others shown BadLine step = absurd step
+first_failed May w after s actor others shown WriteFault step = (actor, step.0, find_here s actor others step.1.has, step.1)
+first_failed May w after s actor others shown NoMemory step = step
 
 -- a worker before these has no turn
 pub found_from : (s : State) (number count less : ℕ) → count ≡ suc less → has_turn s (WorkerOf number) ≡ false → find (has_turn s) (workers_from number count) ≡ find (has_turn s) (workers_from (number + 1) less)
 found_from s number count less e quiet = ap (λ (n : ℕ). find (has_turn s) (workers_from number n)) e ∙ find_later s (WorkerOf number) (workers_from (number + 1) less) quiet
 
 -- what the answer says of the workers from here on, it says of all, where those before have no turn
-pub none_from : (w : World) (s : State) (from number all count less : ℕ) (before shown : List ℕ) (answer : Result (Option ℕ) Stop) → count ≡ suc less → before ≡ []
-    → find (has_turn s) (workers_from from all) ≡ find (has_turn s) (workers_from number count) → FirstTo w s (WorkerOf number ∷ workers_from (number + 1) less) shown answer
-    → FirstTo w s (workers_from from all) (before ++ shown) answer
-none_from w s from number all count less before shown answer e none same told =
-    first_shown w s (workers_from from all) before shown answer none
-    (first_same w s (WorkerOf number ∷ workers_from (number + 1) less) (workers_from from all) shown answer (same ∙ ap (λ (n : ℕ). find (has_turn s) (workers_from number n)) e) told)
+pub none_from : (May : Fate → Type 0) (w : World) (s : State) (from number all count less : ℕ) (before shown : List ℕ) (answer : Result (Option ℕ) Stop) → count ≡ suc less → before ≡ []
+    → find (has_turn s) (workers_from from all) ≡ find (has_turn s) (workers_from number count) → FirstTo May w s (WorkerOf number ∷ workers_from (number + 1) less) shown answer
+    → FirstTo May w s (workers_from from all) (before ++ shown) answer
+none_from May w s from number all count less before shown answer e none same told =
+    first_shown May w s (workers_from from all) before shown answer none
+    (first_same May w s (WorkerOf number ∷ workers_from (number + 1) less) (workers_from from all) shown answer (same ∙ ap (λ (n : ℕ). find (has_turn s) (workers_from number n)) e) told)
 
 -- the network's actor
 pub pump_at : (s : State) (number : ℕ) → number ≡ length s.workers → IsAt s number ThePump
@@ -164,19 +164,19 @@ ring_at s at count all within =
     let P : ℕ → Type 0 = λ n. ring s at ≡ workers_from at (n - at) ++ (ThePump ∷ workers_from 0 at) in
     subst P (sym all) (ring_is s at within)
 
-pub onto_ring : (w : World) (s : State) (at count : ℕ) (shown : List ℕ) (answer : Result (Option ℕ) Stop) → count ≡ length s.workers → at ≤ length s.workers
-    → FirstTo w s (workers_from at (count - at) ++ (ThePump ∷ workers_from 0 at)) shown answer → FirstTo w s (ring s at) shown answer
-onto_ring w s at count shown answer all within told =
-    first_same w s (workers_from at (count - at) ++ (ThePump ∷ workers_from 0 at)) (ring s at) shown answer (ap (λ (xs : List Actor). find (has_turn s) xs) (ring_at s at count all within)) told
+pub onto_ring : (May : Fate → Type 0) (w : World) (s : State) (at count : ℕ) (shown : List ℕ) (answer : Result (Option ℕ) Stop) → count ≡ length s.workers → at ≤ length s.workers
+    → FirstTo May w s (workers_from at (count - at) ++ (ThePump ∷ workers_from 0 at)) shown answer → FirstTo May w s (ring s at) shown answer
+onto_ring May w s at count shown answer all within told =
+    first_same May w s (workers_from at (count - at) ++ (ThePump ∷ workers_from 0 at)) (ring s at) shown answer (ap (λ (xs : List Actor). find (has_turn s) xs) (ring_at s at count all within)) told
 
 -- the network's actor has no turn
-pub first_past : (w : World) (s : State) (at : ℕ) (before shown : List ℕ) (answer : Result (Option ℕ) Stop) → has_turn s ThePump ≡ false → before ≡ [] → FirstTo w s (workers_from 0 (at - 0)) shown answer
-    → FirstTo w s (ThePump ∷ workers_from 0 at) (before ++ shown) answer
-first_past w s at before shown answer quiet none told =
+pub first_past : (May : Fate → Type 0) (w : World) (s : State) (at : ℕ) (before shown : List ℕ) (answer : Result (Option ℕ) Stop) → has_turn s ThePump ≡ false → before ≡ [] → FirstTo May w s (workers_from 0 (at - 0)) shown answer
+    → FirstTo May w s (ThePump ∷ workers_from 0 at) (before ++ shown) answer
+first_past May w s at before shown answer quiet none told =
     let all : at - 0 ≡ at = omega arith in
-    let P : ℕ → Type 0 = λ n. FirstTo w s (workers_from 0 n) shown answer in
-    first_shown w s (ThePump ∷ workers_from 0 at) before shown answer none
-    (first_same w s (workers_from 0 at) (ThePump ∷ workers_from 0 at) shown answer (find_later s ThePump (workers_from 0 at) quiet) (subst P all told))
+    let P : ℕ → Type 0 = λ n. FirstTo May w s (workers_from 0 n) shown answer in
+    first_shown May w s (ThePump ∷ workers_from 0 at) before shown answer none
+    (first_same May w s (workers_from 0 at) (ThePump ∷ workers_from 0 at) shown answer (find_later s ThePump (workers_from 0 at) quiet) (subst P all told))
 
 -- ---- how far they went
 
@@ -191,18 +191,19 @@ place_within s (WorkerOf number) e = let h = within_list s.workers number _ e in
 place_within s ThePump e = omega arith
 
 -- what goes on from here goes on from the start
-pub record Round (s : State) (count : ℕ) (shown : List ℕ) (t : State) (at left : ℕ) : Type 0 where
+pub record Round (May : Fate → Type 0) (s : State) (count : ℕ) (shown : List ℕ) (t : State) (at left : ℕ) : Type 0 where
   pub fates : List Fate
   pub goes : (until : Until) (more : List Fate) (rest : List ℕ) (new : State) → Goes until t at left more rest new → Goes until s 0 count (fates ++ more) (shown ++ rest) new
+  pub heard : AllByRecursion May fates
   pub within : at ≤ length t.workers
 
-pub round_none : (s : State) (count : ℕ) → Round s count [] s 0 count
-round_none s count = record { fates = []; goes = λ until more rest new r. r; within = omega arith }
+pub round_none : {May : Fate → Type 0} (s : State) (count : ℕ) → Round May s count [] s 0 count
+round_none s count = record { fates = []; goes = λ until more rest new r. r; heard = tt; within = omega arith }
 
 -- one more step
-pub round_more : (s t u : State) (actor : Actor) (count at left less next : ℕ) (shown more : List ℕ) → left ≡ suc less → Round s count shown t at left
-    → find (has_turn t) (drop at (actors_of t) ++ take at (actors_of t)) ≡ Some actor → next ≡ place_behind actor → Acts t actor more u → Round s count (shown ++ more) u next less
-round_more s t u actor count at left less next shown more e far first place acts =
+pub round_more : {May : Fate → Type 0} (s t u : State) (actor : Actor) (count at left less next : ℕ) (shown more : List ℕ) → left ≡ suc less → Round May s count shown t at left
+    → find (has_turn t) (drop at (actors_of t) ++ take at (actors_of t)) ≡ Some actor → next ≡ place_behind actor → Acts May t actor more u → Round May s count (shown ++ more) u next less
+round_more {May = May} s t u actor count at left less next shown more e far first place acts =
     let same = steps_same t actor acts.fate more u acts.steps in
     let within = place_within t actor acts.has in
     record {
@@ -214,6 +215,7 @@ round_more s t u actor count at left less next shown more e far first place acts
           let S : ℕ → Type 0 = λ n. Goes until u n less later rest new in
           let here = far.goes until (acts.fate ∷ later) (more ++ rest) new (subst P (sym e) (actor, u, more, rest, first, acts.steps, subst S place r, refl)) in
           subst Q (sym (append_assoc shown more rest)) (subst R (sym (append_assoc far.fates (acts.fate ∷ []) later)) here);
+      heard = all_more May far.fates acts.fate far.heard acts.may;
       within = omega (arith, place, within, same);
     }
 
@@ -222,23 +224,23 @@ turns_stopped : (t : State) (at left : ℕ) → Goes SomeStop t at left [] [] t
 turns_stopped t at zero = (inr refl, refl)
 turns_stopped t at (suc left) = (tt, refl, refl)
 
-pub round_cut : (s t : State) (count at left : ℕ) (shown : List ℕ) → Round s count shown t at left → IsCutOff (λ until fates u. Goes until s 0 count fates shown u) shown
-round_cut s t count at left shown far =
+pub round_cut : {May : Fate → Type 0} (s t : State) (count at left : ℕ) (shown : List ℕ) → Round May s count shown t at left → IsCutOff (λ until fates u. Goes until s 0 count fates shown u × AllByRecursion May fates) shown
+round_cut {May = May} s t count at left shown far =
     let P : List ℕ → Type 0 = λ text. Goes SomeStop s 0 count (far.fates ++ []) text t in
-    inr (far.fates ++ [], t, subst P (append-nil shown) (far.goes SomeStop [] [] t (turns_stopped t at left)))
+    inr (far.fates ++ [], t, (subst P (append-nil shown) (far.goes SomeStop [] [] t (turns_stopped t at left)), all_same May far.fates far.heard))
 
 -- no actor has a step
-pub round_over : (w : World) (s t : State) (count at left less : ℕ) (shown more : List ℕ) → left ≡ suc less → Round s count shown t at left
-    → FirstTo w t (drop at (actors_of t) ++ take at (actors_of t)) more (Ok None) → GoesTo w s count (shown ++ more) (Ok tt)
-round_over w s t count at left less shown more e far told =
+pub round_over : {May : Fate → Type 0} (w : World) (s t : State) (count at left less : ℕ) (shown more : List ℕ) → left ≡ suc less → Round May s count shown t at left
+    → FirstTo May w t (drop at (actors_of t) ++ take at (actors_of t)) more (Ok None) → GoesTo May w s count (shown ++ more) (Ok tt)
+round_over {May = May} w s t count at left less shown more e far told =
     let P : ℕ → Type 0 = λ n. Goes TheEnd t at n [] more t in
-    (far.fates ++ [], t, far.goes TheEnd [] more t (subst P (sym e) (told.0, told.1, refl)), told.2)
+    (far.fates ++ [], t, (far.goes TheEnd [] more t (subst P (sym e) (told.0, told.1, refl)), all_same May far.fates far.heard), told.2)
 
 -- no step is left, and that some actor has one was said where it is so
-pub round_done : (w : World) (s t : State) (count at left : ℕ) (shown end : List ℕ) → left ≡ 0 → Round s count shown t at left → end ≡ more_text t → IsWorld w t → GoesTo w s count (shown ++ end) (Ok tt)
-round_done w s t count at left shown end none far is stands =
+pub round_done : {May : Fate → Type 0} (w : World) (s t : State) (count at left : ℕ) (shown end : List ℕ) → left ≡ 0 → Round May s count shown t at left → end ≡ more_text t → IsWorld w t → GoesTo May w s count (shown ++ end) (Ok tt)
+round_done {May = May} w s t count at left shown end none far is stands =
     let P : ℕ → Type 0 = λ n. Goes TheEnd t at n [] end t in
-    (far.fates ++ [], t, far.goes TheEnd [] end t (subst P (sym none) (is, refl)), stands)
+    (far.fates ++ [], t, (far.goes TheEnd [] end t (subst P (sym none) (is, refl)), all_same May far.fates far.heard), stands)
 
 pub more_said : (s : State) (quiet : Bool) → quiet ≡ not (list_any (has_turn s) (actors_of s)) → quiet ≡ false → printed More ≡ more_text s
 more_said s quiet is loud = by_test (list_any (has_turn s) (actors_of s)) (sym is ∙ loud) where
@@ -253,17 +255,17 @@ more_unsaid s quiet is all = by_test (list_any (has_turn s) (actors_of s)) (sym 
   by_test false e = refl
 
 -- memory ran out behind what was shown
-pub round_spent : (w : World) (s t : State) (count at left : ℕ) (shown : List ℕ) (why : Stop) → why ≡ NoMemory → Round s count shown t at left → GoesTo w s count shown (Err why)
-round_spent w s t count at left shown why e far =
-    let P : Stop → Type 0 = λ stop. GoesTo w s count shown (Err stop) in
+pub round_spent : {May : Fate → Type 0} (w : World) (s t : State) (count at left : ℕ) (shown : List ℕ) (why : Stop) → why ≡ NoMemory → Round May s count shown t at left → GoesTo May w s count shown (Err why)
+round_spent {May = May} w s t count at left shown why e far =
+    let P : Stop → Type 0 = λ stop. GoesTo May w s count shown (Err stop) in
     subst P (sym e) (round_cut s t count at left shown far)
 
 -- a step stopped
-pub round_stopped : (w after : World) (s t : State) (count at left less : ℕ) (shown more : List ℕ) (why : Stop) → left ≡ suc less → Round s count shown t at left
-    → FirstTo after t (drop at (actors_of t) ++ take at (actors_of t)) more (Err why) → GoesTo w s count (shown ++ more) (Err why)
+pub round_stopped : {May : Fate → Type 0} (w after : World) (s t : State) (count at left less : ℕ) (shown more : List ℕ) (why : Stop) → left ≡ suc less → Round May s count shown t at left
+    → FirstTo May after t (drop at (actors_of t) ++ take at (actors_of t)) more (Err why) → GoesTo May w s count (shown ++ more) (Err why)
 round_stopped w after s t count at left less shown more BadLine e far step = absurd step
 round_stopped w after s t count at left less shown more WriteFault e far step =
     round_cut s step.1 count (place_behind step.0) less (shown ++ more) (round_more s t step.1 step.0 count at left less (place_behind step.0) shown more e far step.2 refl step.3)
-round_stopped w after s t count at left less shown more NoMemory e far step =
-    let P : List ℕ → Type 0 = λ text. GoesTo w s count text (Err NoMemory) in
+round_stopped {May = May} w after s t count at left less shown more NoMemory e far step =
+    let P : List ℕ → Type 0 = λ text. GoesTo May w s count text (Err NoMemory) in
     subst P (sym (ap (λ (xs : List ℕ). shown ++ xs) step ∙ append-nil shown)) (round_cut s t count at left shown far)

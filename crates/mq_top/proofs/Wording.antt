@@ -31,9 +31,9 @@ three_words (a ∷ b ∷ c ∷ []) first second third x y z least below i j k p 
 three_words (a ∷ b ∷ c ∷ d ∷ rest) first second third x y z least below i j k p q r = absurd (omega arith)
 
 -- words tell one seed and one count
-pub one_script : (words : List (String Global)) (a m b n : ℕ) → AsksScript words a m → AsksScript words b n → (a ≡ b) × (m ≡ n)
-one_script words a m b n p q =
-    let same : codes "gen" ∷ decimal a ∷ decimal m ∷ [] ≡ codes "gen" ∷ decimal b ∷ decimal n ∷ [] = sym p.are ∙ q.are in
+pub one_script : (word : List ℕ) (words : List (String Global)) (a m b n : ℕ) → AsksScript word words a m → AsksScript word words b n → (a ≡ b) × (m ≡ n)
+one_script word words a m b n p q =
+    let same : word ∷ decimal a ∷ decimal m ∷ [] ≡ word ∷ decimal b ∷ decimal n ∷ [] = sym p.are ∙ q.are in
     let most_m : m ≤ 50000 = p.count_most in
     let most_n : n ≤ 50000 = q.count_most in
     let small_m : m < 2 ^ 64 = omega (arith, most_m) in
@@ -41,3 +41,12 @@ one_script words a m b n p q =
       decimal_injective a b p.seed_most q.seed_most (ap (λ (texts : List (List ℕ)). get_or texts 1 []) same),
       decimal_injective m n small_m small_n (ap (λ (texts : List (List ℕ)). get_or texts 2 []) same),
     )
+
+-- and one first word
+pub one_first : (a b : List ℕ) (words : List (String Global)) (seed count other number : ℕ) → AsksScript a words seed count → AsksScript b words other number → a ≡ b
+one_first a b words seed count other number p q =
+    let same : a ∷ decimal seed ∷ decimal count ∷ [] ≡ b ∷ decimal other ∷ decimal number ∷ [] = sym p.are ∙ q.are in
+    ap (λ (texts : List (List ℕ)). get_or texts 0 []) same
+
+pub gen_or_soak : codes "gen" ≡ codes "soak" → ⊥
+gen_or_soak e = let size : 3 ≡ 4 = ap (λ (text : List ℕ). length text) e in absurd (omega (arith, size))

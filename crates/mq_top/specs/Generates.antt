@@ -3,11 +3,11 @@ use Rattle.std.specs.Prelude.{◌≡◌, ℕ, List, [], ◌∷◌, ◌++◌, Boo
 use Rattle.mq_play.specs.Script.{IsFrontOf, text_of}
 use Rattle.mq_play.specs.Text.{newline}
 use Rattle.mq_script.specs.Generated.{generated}
-use Rattle.mq_top.specs.Printing.{Adds}
+use Rattle.mq_output.specs.Printing.{Adds}
 use Rattle.mq_top.specs.declared.status.Status.{Status}
 use Rattle.mq_top.specs.declared.status.Status.TheVariants as status
-use Rattle.mq_top.specs.declared.status.Stop.{Stop}
-use Rattle.mq_top.specs.declared.status.Stop.TheVariants.{BadLine, WriteFault, NoMemory}
+use Rattle.mq_output.specs.declared.stop.Stop.{Stop}
+use Rattle.mq_output.specs.declared.stop.Stop.TheVariants.{BadLine, WriteFault, NoMemory}
 
 -- By the status: all of a text was written, or a front of it. No other status comes.
 abbrev pub WritesOf : List ℕ → List ℕ → Status → Type 0

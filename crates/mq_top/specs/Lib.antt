@@ -1,9 +1,12 @@
 pub mod Telling
 pub mod Stages
-pub mod Printing
+pub mod Listening
 pub mod Playing
 pub mod Reading
 pub mod Replay
 pub mod Generates
+pub mod Tallies
+pub mod Joined
+pub mod Soaking
 pub mod Words
 pub mod Standard

@@ -11,8 +11,8 @@ use Rattle.mq_top.specs.Replay.{Replays}
 use Rattle.mq_top.specs.declared.status.Status.{Status}
 use Rattle.mq_top.specs.declared.status.Status.TheVariants as status
 use Rattle.mq_top.specs.declared.status.Status.TheVariants.{Done, ReadFault, BadScript}
-use Rattle.mq_top.specs.declared.status.Stop.{Stop}
-use Rattle.mq_top.specs.declared.status.Stop.TheVariants.{BadLine, WriteFault, NoMemory}
+use Rattle.mq_output.specs.declared.stop.Stop.{Stop}
+use Rattle.mq_output.specs.declared.stop.Stop.TheVariants.{BadLine, WriteFault, NoMemory}
 
 -- the script is these lines with their newlines, and then a begun one
 pub record IsScript (script : List ℕ) (lines : List (List ℕ)) (begun : List ℕ) : Type 0 where

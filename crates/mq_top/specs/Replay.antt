@@ -5,7 +5,7 @@ use Rattle.mq_play.specs.Script.{IsPlayed, IsPlayedSoFar, IsPlayedBad, IsPlayedP
 use Rattle.mq_outside.specs.Outside.{Rose, Gives}
 use Rattle.mq_top.specs.declared.status.Status.{Status}
 use Rattle.mq_top.specs.declared.status.Status.TheVariants.{Done, ReadFault, WriteFault, BadScript, NoMemory}
-use Rattle.mq_top.specs.Printing.{Adds}
+use Rattle.mq_output.specs.Printing.{Adds}
 
 -- whatever follows, the first bad line of the script is this one, and the lines before it were played
 abbrev pub StaysBad : List ℕ → List ℕ → Type 0

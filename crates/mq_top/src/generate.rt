@@ -1,11 +1,11 @@
 //! A generated script is printed, each line as it is drawn.
 ghost use Rattle.std.specs.Prelude.{◌≡◌, ℕ, List, []};
 ghost use Rattle.mq_top.specs.Generates.{Generates, LineShown, LinesWritten};
-ghost use Rattle.mq_top.specs.Printing.{Prints, StopCounts, Takes};
+ghost use Rattle.mq_output.specs.Printing.{Prints, StopCounts, Takes};
 ghost use Rattle.mq_top.specs.Replay.{SinkCounts};
 
-use crate::output::Output;
-use crate::status::{Status, Stop};
+use crate::status::Status;
+use mq_output::{Output, Stop};
 use mq_outside::Sink;
 use mq_script::Generator;
 use std::alloc::Global;

@@ -1,18 +1,21 @@
 //! A script is read from a source, played in the world of all actors, and what happens is printed to a sink. Or a script is
-//! generated, and printed to a sink.
+//! generated, and printed to a sink, or played and counted.
 #![tactic(auto)]
 
 mod command;
 mod entry;
 mod generate;
-mod output;
+mod listener;
 mod play;
+mod printing;
 mod script;
 mod session;
+mod soaking;
 mod stage;
 mod standard;
 mod status;
 mod steps;
+mod tally;
 #[cfg(test)]
 mod tests;
 mod told;
@@ -23,5 +26,6 @@ pub use command::run;
 pub use entry::program;
 pub use generate::print_script;
 pub use script::replay;
+pub use soaking::soak;
 pub use standard::{StandardSink, StandardSource};
 pub use status::Status;

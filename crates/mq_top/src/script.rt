@@ -1,13 +1,13 @@
 //! A script is read to its end, played and printed.
 ghost use Rattle.std.specs.Prelude.{◌≡◌, ℕ, ◌<◌, List, [], ◌++◌, length, Option, Some, None, MatchOption};
 ghost use Rattle.mq_outside.specs.Outside.{Gives};
-ghost use Rattle.mq_top.specs.Printing.{Prints, Takes};
+ghost use Rattle.mq_output.specs.Printing.{Prints, Takes};
 ghost use Rattle.mq_top.specs.Reading.{IsRead, StopsAt, SaysTo, IsSaid, IsWritten, PlayCounts, StoppedCounts, PlaysTo, FinishesTo, GoesOn};
 ghost use Rattle.mq_top.specs.Replay.{Replayed, Replays, SourceCounts, SinkCounts};
 
-use crate::output::Output;
 use crate::session::Session;
-use crate::status::{Status, Stop};
+use crate::status::Status;
+use mq_output::{Output, Stop};
 use mq_outside::{Got, Sink, Source};
 use mq_script::print_bad_line;
 use std::alloc::Global;

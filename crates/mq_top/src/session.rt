@@ -4,20 +4,20 @@ ghost use Rattle.mq_play.specs.Play as spec;
 ghost use Rattle.mq_play.specs.Play.{line_limit};
 ghost use Rattle.mq_top.specs.Stages.{IsStage};
 ghost use Rattle.mq_text.specs.Cut.{Lacks};
-ghost use Rattle.mq_top.specs.Printing.{Prints, StopCounts, IsSilent};
+ghost use Rattle.mq_output.specs.Printing.{Prints, StopCounts, IsSilent};
+ghost use Rattle.mq_top.specs.Listening.{MayBeAny};
 ghost use Rattle.mq_top.specs.Playing.{LineTo};
 ghost use Rattle.mq_top.specs.Reading.{IsRead, RoomTo, ReadsTo, EndsTo};
 
-use crate::output::Output;
 use crate::play::play_line;
 use crate::stage::Stage;
-use crate::status::Stop;
+use mq_output::{Output, Stop};
 use mq_outside::Sink;
 use mq_text::cut;
 use std::alloc::Global;
 
 /// The most bytes of a line, without its newline.
-const LINE_LIMIT: usize = 200_000;
+pub const LINE_LIMIT: usize = 200_000;
 
 /// The most bytes of a script.
 const SCRIPT_LIMIT: usize = 67_108_864;
@@ -139,7 +139,7 @@ fn play_whole<K: Sink>(
 ) -> Result<(), Stop>
     requires { length begun.old.items + length end.now ≤ line_limit }
     ensures line { (shown : List ℕ) × Prints K.taken output.old output.new shown
-        × ((s : spec.Stage) → IsStage stage.old s → LineTo s (begun.old.items ++ end.now) shown result stage.new) }
+        × ((s : spec.Stage) → IsStage stage.old s → LineTo MayBeAny s (begun.old.items ++ end.now) shown result stage.new) }
     ensures counts { StopCounts (K.faults output.old.sink.now) (K.faults output.new.sink.now) result }
 {
     if begun.is_empty() {

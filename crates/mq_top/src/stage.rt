@@ -6,14 +6,15 @@ ghost use Rattle.mq_play.specs.Events.{state_of};
 ghost use Rattle.mq_play.specs.Play as spec;
 ghost use Rattle.mq_play.specs.Settings.{plan_of};
 ghost use Rattle.mq_script.specs.Settings.{IsSettings};
+ghost use Rattle.mq_top.specs.Listening.{MayBeNone};
 ghost use Rattle.mq_top.specs.Playing.{SaidTo};
-ghost use Rattle.mq_top.specs.Printing.{IsSilent};
+ghost use Rattle.mq_output.specs.Printing.{IsSilent};
 ghost use Rattle.mq_top.specs.Stages.{IsRunning, IsStage};
 ghost use Rattle.mq_top.specs.Telling.{IsSpoken};
 ghost use Rattle.mq_world.specs.Worlds.{IsWorld};
 
-use crate::status::Stop;
 use crate::told::Told;
+use mq_output::Stop;
 use mq_play::SettingLine;
 use mq_wire::NoMemory;
 use mq_world::World;
@@ -49,7 +50,7 @@ impl Stage {
     /// One more setting. Behind a line that is none it is bad, and so it is where it may not stand behind those before it.
     pub fn set(&mut self, line: SettingLine) -> Result<(), Stop>
         requires { IsSpoken (said.Setting line) }
-        ensures sets { (s : spec.Stage) → IsStage self.old s → SaidTo s (said.Setting line) [] result self.new }
+        ensures sets { (s : spec.Stage) → IsStage self.old s → SaidTo MayBeNone s (said.Setting line) [] result self.new }
         ensures silent { IsSilent result }
     {
         match self {

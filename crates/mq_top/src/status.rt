@@ -1,8 +1,6 @@
-//! How a replay ends, and why it stops before its end.
+//! How a replay ends.
 ghost use Rattle.std.specs.Prelude.{◌≡◌};
 ghost use Rattle.mq_top.specs.Replay.{code_of};
-
-use mq_wire::NoMemory;
 
 /// How a replay ends.
 #[derive(Clone, Copy, Debug, PartialEq, Eq)]
@@ -30,24 +28,5 @@ impl Status {
             Status::BadScript => 5,
             Status::NoMemory => 7,
         }
-    }
-}
-
-/// Why the play of a script stops before its end.
-#[derive(Clone, Copy, Debug, PartialEq, Eq)]
-pub enum Stop {
-    BadLine,
-    WriteFault,
-    NoMemory,
-}
-
-impl From<NoMemory> for Stop {
-    ghost use Rattle.std.specs.Prelude.{◌≡◌};
-    ghost use Rattle.mq_top.specs.declared.status.Stop.TheVariants as stop;
-
-    ghost from_gives = { λ _ e. e ≡ stop.NoMemory };
-
-    fn from(_: NoMemory) -> Stop {
-        Stop::NoMemory
     }
 }

@@ -9,10 +9,12 @@ mod network;
 mod packets;
 mod requests;
 mod rows;
+mod soak;
 
 use crate::{StandardSink, StandardSource, Status, replay, run};
 use mq_mem::{MemSink, MemSource};
 use mq_wire::{Bytes, NoMemory, Seq};
+use packets::{SESSION, SESSION_PRINTS};
 use rows::{
     BAD, BAD_PRINTS, BIND_FAILS, BIND_FAILS_PRINTS, CUT_CAPSULE, CUT_CAPSULE_PRINTS, DENIED,
     DENIED_PRINTS, FIRST, FIRST_PRINTS, FULL_WORKER, FULL_WORKER_PRINTS, HISTORY_FULL,
@@ -126,7 +128,11 @@ fn any_cutting_prints_the_same(rt: HostRuntime) -> Result<(), Fail> {
 
 #[test]
 fn failing_reads_end_with_what_was_played(rt: HostRuntime) -> Result<(), Fail> {
-    for (script, text) in [(FIRST, FIRST_PRINTS), (REFUSED, REFUSED_PRINTS)] {
+    for (script, text) in [
+        (FIRST, FIRST_PRINTS),
+        (REFUSED, REFUSED_PRINTS),
+        (SESSION, SESSION_PRINTS),
+    ] {
         let mut ended = Status::ReadFault;
         for fail_read in 0..400 {
             let way = Way {
@@ -151,9 +157,13 @@ fn failing_reads_end_with_what_was_played(rt: HostRuntime) -> Result<(), Fail> {
 
 #[test]
 fn failing_writes_end_with_a_front(rt: HostRuntime) -> Result<(), Fail> {
-    for (script, text) in [(FIRST, FIRST_PRINTS), (REFUSED, REFUSED_PRINTS)] {
+    for (script, text) in [
+        (FIRST, FIRST_PRINTS),
+        (REFUSED, REFUSED_PRINTS),
+        (SESSION, SESSION_PRINTS),
+    ] {
         let mut ended = Status::WriteFault;
-        for fail_write in 0..400 {
+        for fail_write in 0..800 {
             let way = Way {
                 fail_read: NEVER,
                 read: u32::MAX,

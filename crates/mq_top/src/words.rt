@@ -14,6 +14,8 @@ pub enum Command {
     Replay,
     /// The script of a seed with so many packets is printed.
     Gen { seed: u64, count: u32 },
+    /// That script is played, and what happens is counted.
+    Soak { seed: u64, count: u32 },
 }
 
 /// The seed of a generated script, which a word tells in decimal.
@@ -43,6 +45,10 @@ pub fn read_words(words: &[String]) -> Option<Command>
     match words {
         [word] if word.as_str() == "replay" => Some(Command::Replay),
         [word, seed, count] if word.as_str() == "gen" => Some(Command::Gen {
+            seed: seed_of(seed)?,
+            count: count_of(count)?,
+        }),
+        [word, seed, count] if word.as_str() == "soak" => Some(Command::Soak {
             seed: seed_of(seed)?,
             count: count_of(count)?,
         }),

@@ -17,7 +17,7 @@ const LAST_OF_2000: &[u8] =
 
 /// Does what words say, over a source with a script and a sink with so much room, of which one write fails and each takes at
 /// most so many bytes. Answers the status and what the sink took.
-fn done(
+pub fn done(
     alloc: Global,
     words: &[&str],
     room: u32,

@@ -2,7 +2,7 @@ use Rattle.std.proofs.Common.{◌≡◌, ◌++◌, ◌∷◌, [], refl, ◌∙�
 use Rattle.std.proofs.lemmas.Result.{err_from_is_err_and}
 use Rattle.mq_play.specs.Text.{newline}
 use Rattle.mq_top.proofs.Generating.{line_given, none_shown, line_begun, line_owed, line_spilled}
-use Rattle.mq_top.proofs.Shown.{prints_said, prints_shown, prints_unsaid}
+use Rattle.mq_output.proofs.Shown.{prints_said, prints_shown, prints_unsaid}
 use Rattle.mq_top.proofs.generate.print_line.Goals as goal
 
 pub returns-in_err-next_line-clause-prints : goal.returns-in_err-next_line-clause-prints

@@ -1,6 +1,6 @@
 use Rattle.std.proofs.Common.{◌≡◌, ℕ, List, ◌++◌, length}
 use Rattle.mq_play.specs.Script.{text_of}
-use Rattle.mq_top.specs.Printing.{Prints}
+use Rattle.mq_output.specs.Printing.{Prints}
 use Rattle.mq_top.proofs.generate.print_lines.Given as goal
 
 -- what was shown and what is left make all lines

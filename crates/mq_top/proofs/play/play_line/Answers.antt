@@ -1,7 +1,6 @@
 use Rattle.std.proofs.Common.{[], Err, refl, ap, inl}
 use Rattle.mq_script.specs.declared.fault.LineFault.{LineFault}
 use Rattle.mq_top.proofs.Playing.{line_said}
-use Rattle.mq_top.proofs.Shown.{prints_none}
 use Rattle.mq_top.proofs.play.play_line.Goals as goal
 
 pub returns-in-Ok-clause-line : goal.returns-in-Ok-clause-line
@@ -9,8 +8,8 @@ returns-in-Ok-clause-line g c =
     let told = c.play_said.ensures.said in (
       told.0,
       told.1,
-      λ s stands. line_said c.play_said.new.stage s c.args.text.now c.in-Ok.said told.0 c.play_said.result c.requires c.in-Ok.ensures.ok (told.2 s stands),
+      λ s stands. line_said g.L.Listener.may_hear c.play_said.new.stage s c.args.text.now c.in-Ok.said told.0 c.play_said.result c.requires c.in-Ok.ensures.ok (told.2 s stands),
     )
 
 pub returns-in-Err-Syntax-clause-line : goal.returns-in-Err-Syntax-clause-line
-returns-in-Err-Syntax-clause-line g c = ([], prints_none _ _, λ s stands. (inl (c.in-Err-Syntax.ensures.syntax (ap (λ (e : LineFault). Err e) c.in-Err-Syntax.field-0-is)), refl))
+returns-in-Err-Syntax-clause-line g c = ([], g.met.L.Listener.hears_none _, λ s stands. (inl (c.in-Err-Syntax.ensures.syntax (ap (λ (e : LineFault). Err e) c.in-Err-Syntax.field-0-is)), refl))

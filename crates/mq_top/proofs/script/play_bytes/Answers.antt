@@ -1,6 +1,7 @@
 use Rattle.std.proofs.Common.{ℕ, ◌++◌, List, subst, append_assoc}
 use Rattle.mq_top.proofs.Ending.{all_written, fault_part, says_written}
-use Rattle.mq_top.proofs.Shown.{prints_more, prints_flushed}
+use Rattle.mq_output.proofs.Shown.{prints_flushed}
+use Rattle.mq_output.specs.Joined.{prints_more}
 use Rattle.mq_top.specs.Reading.{IsRead, SaysTo}
 use Rattle.mq_top.proofs.script.play_bytes.Goals as goal
 

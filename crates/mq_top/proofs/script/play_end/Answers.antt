@@ -1,7 +1,8 @@
 use Rattle.std.proofs.Common.{ℕ, ◌++◌, List, subst, append_assoc}
 use Rattle.mq_play.specs.Script.{IsPlayed}
 use Rattle.mq_top.proofs.Ending.{all_written, from_none, part_front, says_written, says_finish}
-use Rattle.mq_top.proofs.Shown.{prints_more, prints_flushed}
+use Rattle.mq_output.proofs.Shown.{prints_flushed}
+use Rattle.mq_output.specs.Joined.{prints_more}
 use Rattle.mq_top.specs.Reading.{SaysTo}
 use Rattle.mq_top.proofs.script.play_end.Goals as goal
 

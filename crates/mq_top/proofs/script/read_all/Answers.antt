@@ -1,7 +1,7 @@
 use Rattle.std.proofs.Common.{◌++◌, [], refl, ◌∙◌, inl}
 use Rattle.mq_top.proofs.Ending.{gives_none, gives_more}
 use Rattle.mq_top.proofs.Reading.{nothing_yet, no_memory}
-use Rattle.mq_top.proofs.Shown.{takes_none, takes_more}
+use Rattle.mq_output.specs.Joined.{takes_none, takes_more}
 use Rattle.mq_top.proofs.script.read_all.Goals as goal
 
 pub returns-in_default-clause-replays : goal.returns-in_default-clause-replays

@@ -1,6 +1,6 @@
 use Rattle.std.proofs.Common.{◌≡◌, ℕ, List, []}
 use Rattle.mq_outside.specs.Outside.{Gives}
-use Rattle.mq_top.specs.Printing.{Takes}
+use Rattle.mq_output.specs.Printing.{Takes}
 use Rattle.mq_top.specs.Reading.{IsRead}
 use Rattle.mq_top.proofs.script.read_all.Given as goal
 

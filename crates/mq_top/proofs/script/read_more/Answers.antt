@@ -3,7 +3,7 @@ use Rattle.mq_outside.specs.Outside.{Gives}
 use Rattle.mq_top.specs.Replay.{Replays}
 use Rattle.mq_top.proofs.Ending.{plays_on, finishes, nothing_left, gives_none, so_far, option_source, play_source}
 use Rattle.mq_top.proofs.Reading.{read_none}
-use Rattle.mq_top.proofs.Shown.{takes_none}
+use Rattle.mq_output.specs.Joined.{takes_none}
 use Rattle.mq_top.proofs.script.read_more.Goals as goal
 
 pub returns-in-Bytes-clause-reads : goal.returns-in-Bytes-clause-reads

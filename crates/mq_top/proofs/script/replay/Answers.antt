@@ -1,5 +1,5 @@
 use Rattle.std.proofs.Common.{subst, rules}
-use Rattle.mq_top.specs.Printing.{Adds}
+use Rattle.mq_output.specs.Printing.{Adds}
 use Rattle.mq_top.specs.Replay.{SinkCounts}
 use Rattle.mq_top.proofs.script.replay.Goals as goal
 

@@ -1,6 +1,7 @@
 use Rattle.std.proofs.Common.{[], refl}
 use Rattle.mq_top.proofs.Ending.{unsaid, says_part}
-use Rattle.mq_top.proofs.Shown.{prints_none, prints_shown}
+use Rattle.mq_output.proofs.Shown.{prints_shown}
+use Rattle.mq_output.specs.Joined.{prints_none}
 use Rattle.mq_top.proofs.script.stop.Goals as goal
 
 pub returns-then-eq-clause-stops : goal.returns-then-eq-clause-stops

@@ -1,6 +1,7 @@
 use Rattle.std.proofs.Common.{◌≡◌, ℕ, ◌++◌, List, length, sym, ap, ◌∙◌, subst, arith}
 use Rattle.std.proofs.lemmas.Grind.{common_steps}
 use Rattle.mq_top.proofs.Reading.{no_bytes}
+use Rattle.mq_top.specs.Listening.{MayBeAny}
 use Rattle.mq_top.specs.Playing.{LineTo}
 use Rattle.mq_top.proofs.session.play_whole.Goals as goal
 
@@ -12,7 +13,7 @@ returns-then-is_empty-clause-line g c =
       told.0,
       told.1,
       λ s stands.
-          let P : List ℕ → Type 0 = λ line. LineTo s line told.0 c.play_line.result c.play_line.new.stage in
+          let P : List ℕ → Type 0 = λ line. LineTo MayBeAny s line told.0 c.play_line.result c.play_line.new.stage in
           subst P (sym (ap (λ (xs : List ℕ). xs ++ end) (no_bytes c.args.begun.now.items zero))) (told.2 s stands),
     )
 
@@ -23,6 +24,6 @@ returns-clause-line g c =
       told.0,
       told.1,
       λ s stands.
-          let P : List ℕ → Type 0 = λ line. LineTo s line told.0 c.play_line-2.result c.play_line-2.new.stage in
+          let P : List ℕ → Type 0 = λ line. LineTo MayBeAny s line told.0 c.play_line-2.result c.play_line-2.new.stage in
           subst P (c.as_slice.ensures.value ∙ all) (told.2 s stands),
     )

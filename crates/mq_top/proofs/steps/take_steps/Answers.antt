@@ -3,12 +3,11 @@ use Rattle.std.proofs.lemmas.Result.{err_from_is_err_and}
 use Rattle.mq_play.specs.Play.{actor_of}
 use Rattle.mq_play.specs.Text.{printed, Idle}
 use Rattle.mq_top.proofs.Onward.{steps_same, at_same, far_none, far_more, far_done, far_idle, far_spent, far_stopped}
-use Rattle.mq_top.proofs.Shown.{prints_none, prints_said, prints_unsaid, prints_more}
 use Rattle.mq_top.specs.Playing.{RunsTo}
 use Rattle.mq_top.proofs.steps.take_steps.Goals as goal
 
 pub loop-left-init : goal.loop-left-init
-loop-left-init g c = ([], prints_none _ _, (λ s is at. (s, is, at, far_none s (actor_of c.args.name) c.args.count)), refl)
+loop-left-init g c = ([], g.met.L.Listener.hears_none _, (λ s is at. (s, is, at, far_none s (actor_of c.args.name) c.args.count)), refl)
 
 pub loop-left-preserved : goal.loop-left-preserved
 loop-left-preserved g c =
@@ -18,7 +17,7 @@ loop-left-preserved g c =
     let left = c.loop-left.left in
     let e : left ≡ suc (left - 1) = omega arith in (
       inv.0 ++ step.0,
-      prints_more _ _ _ _ inv.0 step.0 inv.1 step.1,
+      g.met.L.Listener.hears_more _ _ _ inv.0 step.0 inv.1 step.1,
       (λ s is at.
           let far = inv.2 s is at in
           let told = rw c.in-Acted.is at (step.2 far.0 actor far.1 far.2) in
@@ -35,7 +34,7 @@ returns-in_err-take_step-clause-runs g c =
     let left = c.loop-left.left in
     let e : left ≡ suc (left - 1) = omega arith in (
       inv.0 ++ step.0,
-      prints_more _ _ _ _ inv.0 step.0 inv.1 step.1,
+      g.met.L.Listener.hears_more _ _ _ inv.0 step.0 inv.1 step.1,
       λ s is at.
           let far = inv.2 s is at in
           let p = err_from_is_err_and c.from_residual.result c.from_residual.ensures.1 in
@@ -51,31 +50,31 @@ returns-in-Idle-clause-runs g c =
     let idle = printed (Idle actor) in
     let left = c.loop-left.left in
     let e : left ≡ suc (left - 1) = omega arith in
-    let before = prints_more _ _ _ _ inv.0 step.0 inv.1 step.1 in (
+    let before = g.met.L.Listener.hears_more _ _ _ inv.0 step.0 inv.1 step.1 in (
       (inv.0 ++ step.0) ++ idle,
-      prints_more _ _ _ _ (inv.0 ++ step.0) idle before (prints_said _ _ _ idle refl c.in_ok-print_idle-in-Idle.ensures.ok),
+      g.met.L.Listener.hears_more _ _ _ (inv.0 ++ step.0) idle before (c.in_ok-idle-in-Idle.ensures.ok),
       λ s is at.
           let far = inv.2 s is at in
           let told = rw c.in-Idle.is at (step.2 far.0 actor far.1 far.2) in
-          let P : List ℕ → Type 0 = λ text. RunsTo c.take_step.new.world s actor c.args.count (text ++ idle) (Ok tt) in
+          let P : List ℕ → Type 0 = λ text. RunsTo g.L.Listener.may_hear c.take_step.new.world s actor c.args.count (text ++ idle) (Ok tt) in
           subst P (sym (ap (λ (text : List ℕ). inv.0 ++ text) told.1 ∙ append-nil inv.0))
           (far_idle c.take_step.new.world s far.0 actor c.args.count left (left - 1) inv.0 idle e far.3 told.0 refl told.2),
     )
 
-pub returns-in_err-print_idle-in-Idle-clause-runs : goal.returns-in_err-print_idle-in-Idle-clause-runs
-returns-in_err-print_idle-in-Idle-clause-runs g c =
+pub returns-in_err-idle-in-Idle-clause-runs : goal.returns-in_err-idle-in-Idle-clause-runs
+returns-in_err-idle-in-Idle-clause-runs g c =
     let inv = c.loop-left.invariant in
     let step = c.in_ok-take_step.ensures.step in
     let actor = actor_of c.args.name in
-    let before = prints_more _ _ _ _ inv.0 step.0 inv.1 step.1 in (
+    let before = g.met.L.Listener.hears_more _ _ _ inv.0 step.0 inv.1 step.1 in (
       (inv.0 ++ step.0) ++ [],
-      prints_more _ _ _ _ (inv.0 ++ step.0) [] before (prints_unsaid _ _ _ refl c.in_err-print_idle-in-Idle.ensures.err),
+      g.met.L.Listener.hears_more _ _ _ (inv.0 ++ step.0) [] before (c.in_err-idle-in-Idle.ensures.err),
       λ s is at.
           let far = inv.2 s is at in
           let told = rw c.in-Idle.is at (step.2 far.0 actor far.1 far.2) in
-          let answer = c.from_residual-in_err-print_idle-in-Idle in
+          let answer = c.from_residual-in_err-idle-in-Idle in
           let p = err_from_is_err_and answer.result answer.ensures.1 in
-          let P : List ℕ → Type 0 = λ text. RunsTo c.take_step.new.world s actor c.args.count text answer.result in
+          let P : List ℕ → Type 0 = λ text. RunsTo g.L.Listener.may_hear c.take_step.new.world s actor c.args.count text answer.result in
           let none : (inv.0 ++ step.0) ++ [] ≡ inv.0 = append-nil (inv.0 ++ step.0) ∙ ap (λ (text : List ℕ). inv.0 ++ text) told.1 ∙ append-nil inv.0 in
           subst P (sym none) (rw p.1 (far_spent c.take_step.new.world s far.0 actor c.args.count c.loop-left.left inv.0 _ p.2 far.3)),
     )

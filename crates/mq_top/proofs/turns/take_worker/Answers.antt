@@ -4,12 +4,11 @@ use Rattle.std.proofs.lemmas.Result.{err_from_is_err_and}
 use Rattle.mq_machine.specs.Turn.{WorkerOf, has_turn}
 use Rattle.mq_top.proofs.Onward.{worker_at}
 use Rattle.mq_top.proofs.Round.{first_acted, first_failed, found_from, none_from}
-use Rattle.mq_top.proofs.Shown.{prints_none, prints_more}
 use Rattle.mq_top.specs.Playing.{workers_from}
 use Rattle.mq_top.proofs.turns.take_worker.Goals as goal
 
 pub loop-number-init : goal.loop-number-init
-loop-number-init g c = ([], prints_none _ _, (λ s is within. (refl, is, refl)), refl)
+loop-number-init g c = ([], g.met.L.Listener.hears_none _, (λ s is within. (refl, is, refl)), refl)
 
 pub loop-number-preserved : goal.loop-number-preserved
 loop-number-preserved g c =
@@ -19,7 +18,7 @@ loop-number-preserved g c =
     let to = c.args.to in
     let e : to - number ≡ suc (to - (number + 1)) = omega arith in (
       inv.0 ++ step.0,
-      prints_more _ _ _ _ inv.0 step.0 inv.1 step.1,
+      g.met.L.Listener.hears_more _ _ _ inv.0 step.0 inv.1 step.1,
       (λ s is within.
           let far = inv.2 s is within in
           let told = rw c.in-Idle.is at (step.2 s (WorkerOf number) far.1 (worker_at s number (omega (arith, within)))) in
@@ -36,15 +35,15 @@ returns-in_err-take_step-clause-first g c =
     let to = c.args.to in
     let e : to - number ≡ suc (to - (number + 1)) = omega arith in (
       inv.0 ++ step.0,
-      prints_more _ _ _ _ inv.0 step.0 inv.1 step.1,
+      g.met.L.Listener.hears_more _ _ _ inv.0 step.0 inv.1 step.1,
       λ s is within.
           let far = inv.2 s is within in
           let w = c.take_step.new.world in
           let why = c.in_err-take_step.field-0.0 in
           let p = err_from_is_err_and c.from_residual.result c.from_residual.ensures.1 in
           let told = step.2 s (WorkerOf number) far.1 (worker_at s number (omega (arith, within))) in
-          let here = first_failed w w s (WorkerOf number) (workers_from (number + 1) (to - (number + 1))) step.0 why told in
-          rw (p.1, p.2) (none_from w s from number (to - from) (to - number) (to - (number + 1)) inv.0 step.0 (Err why) e far.0 far.2 here),
+          let here = first_failed g.L.Listener.may_hear w w s (WorkerOf number) (workers_from (number + 1) (to - (number + 1))) step.0 why told in
+          rw (p.1, p.2) (none_from g.L.Listener.may_hear w s from number (to - from) (to - number) (to - (number + 1)) inv.0 step.0 (Err why) e far.0 far.2 here),
     )
 
 pub returns-in-Acted-clause-first : goal.returns-in-Acted-clause-first
@@ -56,13 +55,13 @@ returns-in-Acted-clause-first g c =
     let to = c.args.to in
     let e : to - number ≡ suc (to - (number + 1)) = omega arith in (
       inv.0 ++ step.0,
-      prints_more _ _ _ _ inv.0 step.0 inv.1 step.1,
+      g.met.L.Listener.hears_more _ _ _ inv.0 step.0 inv.1 step.1,
       λ s is within.
           let far = inv.2 s is within in
           let w = c.take_step.new.world in
           let told = rw c.in-Acted.is at (step.2 s (WorkerOf number) far.1 (worker_at s number (omega (arith, within)))) in
           let here = first_acted w s told.0 (WorkerOf number) (workers_from (number + 1) (to - (number + 1))) step.0 told.1 told.2 in
-          none_from w s from number (to - from) (to - number) (to - (number + 1)) inv.0 step.0 (Ok (Some (number + 1))) e far.0 far.2 here,
+          none_from g.L.Listener.may_hear w s from number (to - from) (to - number) (to - (number + 1)) inv.0 step.0 (Ok (Some (number + 1))) e far.0 far.2 here,
     )
 
 pub returns-clause-first : goal.returns-clause-first

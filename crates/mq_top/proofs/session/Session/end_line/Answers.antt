@@ -1,7 +1,7 @@
 use Rattle.std.proofs.Common.{ℕ, ◌+◌, ◌++◌, ◌∷◌, List, [], refl, sym, subst, arith, append-nil}
 use Rattle.std.proofs.lemmas.Result.{err_from_is_err_and}
 use Rattle.mq_top.proofs.Reading.{too_much, nothing_played, line_read, line_stopped}
-use Rattle.mq_top.proofs.Shown.{prints_none}
+use Rattle.mq_output.specs.Joined.{prints_none}
 use Rattle.mq_top.specs.Reading.{StopsAt}
 use Rattle.mq_top.specs.declared.session.Session.{Session}
 use Rattle.mq_top.proofs.session.Session.end_line.Goals as goal

@@ -1,7 +1,8 @@
 use Rattle.std.proofs.Common.{◌++◌, ◌∷◌, [], Ok, Err, refl, ◌∙◌}
 use Rattle.std.proofs.lemmas.Result.{err_from_is_err_and}
 use Rattle.mq_top.proofs.Reading.{read_none, cut_here, regrouped, regrouped_last, stops_more}
-use Rattle.mq_top.proofs.Shown.{prints_none, prints_more, silent_counts}
+use Rattle.mq_output.proofs.Shown.{silent_counts}
+use Rattle.mq_output.specs.Joined.{prints_none, prints_more}
 use Rattle.mq_top.proofs.session.Session.feed.Goals as goal
 
 pub loop-end-init : goal.loop-end-init

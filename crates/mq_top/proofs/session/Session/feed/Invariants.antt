@@ -1,5 +1,5 @@
 use Rattle.std.proofs.Common.{◌≡◌, ℕ, ◌++◌, List, length}
-use Rattle.mq_top.specs.Printing.{Prints}
+use Rattle.mq_output.specs.Printing.{Prints}
 use Rattle.mq_top.specs.Reading.{IsRead}
 use Rattle.mq_top.proofs.session.Session.feed.Given as goal
 

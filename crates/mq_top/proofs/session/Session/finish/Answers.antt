@@ -1,5 +1,6 @@
 use Rattle.std.proofs.Common.{ℕ, List, refl, subst}
 use Rattle.mq_top.proofs.Reading.{ends_line}
+use Rattle.mq_top.specs.Listening.{MayBeAny}
 use Rattle.mq_top.specs.Playing.{LineTo}
 use Rattle.mq_top.specs.declared.session.Session.{Session}
 use Rattle.mq_top.proofs.session.Session.finish.Goals as goal
@@ -12,6 +13,6 @@ returns-clause-ends g c =
       ran.0,
       ran.1,
       λ script lines text r.
-          let P : List ℕ → Type 0 = λ line. LineTo r.state line ran.0 c.play_line.result c.play_line.new.stage in
+          let P : List ℕ → Type 0 = λ line. LineTo MayBeAny r.state line ran.0 c.play_line.result c.play_line.new.stage in
           ends_line old new script lines text ran.0 c.play_line.result r refl (subst P c.as_slice.ensures.value (ran.2 r.state r.stands)),
     )
