@@ -1,18 +1,19 @@
 #!/usr/bin/env bash
-# Times `masque gen` beside a plain Rust program that does the same (bench/generate_plain.rs): bench/generate.sh [COUNT]. Both
-# must print the same bytes. A time is processor time, of the program and of the system for it, the best of nine runs that take
-# turns. The memory is the most that was resident, where /usr/bin/time is there.
-# MASQUE names the program, where it isn't the built one. Build first: (cd crates/masque && rt run -- replay < /dev/null)
+# Times `masque gen` and `masque soak` beside plain Rust programs that do the same (bench/generate_plain.rs and
+# bench/soak_plain.rs): bench/generate.sh [COUNT]. Both of a pair must print the same bytes. A time is processor time, of the
+# program and of the system for it, the median of 41 runs that take turns. The memory is the most that was resident, where
+# /usr/bin/time is there, for so many packets and for half as many.
+# MASQUE names the program, where it isn't the built one. Build first: tools/build
 set -eu
 cd "$(dirname "$0")/.."
 program=${MASQUE:-crates/masque/out/masque}
-[ -x "$program" ] || { echo "build it first: (cd crates/masque && rt run -- replay < /dev/null)" >&2; exit 1; }
+[ -x "$program" ] || { echo "build it first: tools/build" >&2; exit 1; }
 work=$(mktemp -d)
 trap 'rm -rf "$work"' EXIT
 command -v rustc > /dev/null || { echo "rustc isn't there, which builds the plain program" >&2; exit 1; }
-rustc -O --edition 2024 -o "$work/plain" bench/generate_plain.rs
+for word in generate soak; do rustc -O --edition 2024 -o "$work/$word" "bench/${word}_plain.rs"; done
 python3 - "$(realpath "$program")" "$work" "${1:-50000}" <<'PY'
-import os, subprocess, sys
+import os, statistics, subprocess, sys
 program, work, count = sys.argv[1:]
 
 def run(words, printed):
@@ -31,13 +32,15 @@ def memory(words):
     with open(f"{work}/memory") as told:
         return f"{int(told.read()) / 1024:.1f}"
 
-ours, plain = [program, "gen", "7", count], [f"{work}/plain", "7", count]
-times = []
-for _ in range(9):
-    times.append((run(ours, f"{work}/ours"), run(plain, f"{work}/same")))
-    subprocess.run(["cmp", f"{work}/ours", f"{work}/same"], check=True)
-mine, other = (min(one) for one in zip(*times))
-size = os.path.getsize(f"{work}/ours")
-print(f"{count} packets, {size:,} bytes: {mine:.0f} ms, plain {other:.0f} ms, ratio {mine / other:.2f};"
-      f" {memory(ours)} MiB, plain {memory(plain)} MiB")
+half = str(int(count) // 2)
+for word, other in (("gen", "generate"), ("soak", "soak")):
+    ours, plain = [program, word, "7", count], [f"{work}/{other}", "7", count]
+    times = []
+    for _ in range(41):
+        times.append((run(ours, f"{work}/ours"), run(plain, f"{work}/same")))
+        subprocess.run(["cmp", f"{work}/ours", f"{work}/same"], check=True)
+    mine, theirs = (statistics.median(one) for one in zip(*times))
+    print(f"{word} 7 {count}, {os.path.getsize(f'{work}/ours'):,} bytes printed: {mine:.0f} ms, plain {theirs:.0f} ms,"
+          f" ratio {mine / theirs:.2f}; {memory(ours)} MiB, plain {memory(plain)} MiB; of {half} packets"
+          f" {memory(ours[:-1] + [half])} MiB, plain {memory(plain[:-1] + [half])} MiB")
 PY

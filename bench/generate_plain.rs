@@ -27,7 +27,7 @@ fn packet(client: u8, target: [u8; 4], payload: &[u8]) -> Vec<u8> {
     bytes
 }
 
-fn script(seed: u64, count: u32, out: &mut impl Write) -> std::io::Result<()> {
+pub fn script(seed: u64, count: u32, out: &mut impl Write) -> std::io::Result<()> {
     out.write_all(b"workers 2\npool 10.0.0.0/16\nroute 0.0.0.0 255.255.255.255 0\nhost 203.0.113.5\n")?;
     out.write_all(b"conn 0\nconn 1\nconn 0\nconn 1\n")?;
     for client in 0..4 {

@@ -6,7 +6,8 @@
 # system for it, the best of nine runs that take turns with those of the other program; RUNS says another count. `growth` is
 # the time over that of half as many packets. The memory is the most that was resident, where /usr/bin/time is there. Of what
 # waits it is what that adds to an empty script's, by the run with the least of ten, which differs by some 100 KiB all the same;
-# and what it adds to the most of the heap, as valgrind counts that.
+# and what it adds to the most of the heap, as valgrind counts that. Last it tells how often the program copies a packet as a
+# whole, where cc is there, which builds what counts that (bench/copies.c).
 # MASQUE names the program, where it isn't the built one. Build first: (cd crates/masque && rt run -- replay < /dev/null)
 set -eu
 cd "$(dirname "$0")/.."
@@ -214,4 +215,20 @@ for title, load, count, size in (
     assert len([it for it in printed.splitlines() if it.endswith(b"Full")]) == 2, "not the two last packets were dropped"
     over = (None if a is None else a - b for a, b in zip(most, empty))
     line(title.format(count, size), f"{count * size:,}", *(cell(it, ",.0f") for it in over))
+
+def copied(*steps, target=address(1), size=60_000):
+    """The bytes that the program copies, a thousand or more at once, where such a packet arrives and these steps are taken."""
+    write([*begun(65_535), piece(0, capsule(udp(address(0), target, bytes(size - 28)))), *steps])
+    with open(f"{work}/script") as script:
+        sums = dict(os.environ, LD_PRELOAD=f"{work}/copies.so", COPIES="1000")
+        ran = subprocess.run(ours, stdin=script, stdout=subprocess.DEVNULL, stderr=subprocess.PIPE, check=True, env=sums)
+    return int(ran.stderr) / size
+
+if shutil.which("cc"):
+    subprocess.run(["cc", "-O2", "-shared", "-fPIC", "-o", f"{work}/copies.so", "bench/copies.c"], check=True)
+    arrived = copied()
+    print(flush=True)
+    table("a packet of 60,000 bytes", "how often its bytes are copied")
+    line("from its link to the bytes that are owed to another", f"{copied('run 999') - arrived:.2f}")
+    line("to a host, and back to the bytes that are owed to its link", f"{copied('run 999', target=HOST) - arrived:.2f}")
 PY

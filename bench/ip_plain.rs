@@ -949,7 +949,7 @@ impl Pump {
 
 // ---- the world
 
-struct World {
+pub struct World {
     workers: Vec<Worker>,
     /// For each link its worker.
     links: Vec<usize>,
@@ -959,7 +959,7 @@ struct World {
 }
 
 impl World {
-    fn new() -> World {
+    pub fn new() -> World {
         let mut world = World {
             workers: Vec::new(),
             links: Vec::new(),
@@ -1060,8 +1060,13 @@ impl World {
         Some(())
     }
 
+    /// How many entries the book has.
+    pub fn entries(&self) -> usize {
+        self.shared.book.entries
+    }
+
     /// Plays a line. False where it is bad.
-    fn play(&mut self, line: &[u8], out: &mut impl Write) -> io::Result<bool> {
+    pub fn play(&mut self, line: &[u8], out: &mut impl Write) -> io::Result<bool> {
         let (word, text) = replay::cut(line).unwrap_or((line, b""));
         match word {
             b"pool" | b"reach" | b"route" | b"host" | b"mtu" | b"workers" => {

@@ -1,100 +1,92 @@
 #!/usr/bin/env bash
-# Refuses the program one allocation after another: bench/refuse_memory.sh [SCRIPT [FIRST]]
-# The program is run as it is, unproved, and is built for each run. FIRST is the first allocation that is refused, 1 without it.
-# Each run must end with status 0, 5 or 7. At status 7 it prints a front of what the run without a refusal prints, which is the
-# whole. At status 0 it prints such a front, and behind it that the tunnels closed and the connection ended which was refused
-# memory, and who is idle then. At status 5 it prints the same, and then that a line is bad: one for a tunnel that hadn't opened.
-# Or its link stayed offered and was accepted a step later: then it prints the whole but for its last line. Or it prints the
-# whole, since it got by with less: where room for a whole name is refused, room for less of it is asked for. Where three runs in
-# a row print the whole, no allocation is taken to be left.
-# SCRIPT has one connection. Its lines of steps have as many as there are to do, and the last line has one more. Had one more of
-# them, nothing would be missing where a link stayed offered. No tunnel of it closes with its connection.
+# Refuses the built program one allocation after another: bench/refuse_memory.sh [SCRIPT ..]. Without a script it takes
+# first_datagram, ip_session and ip_session_h2 of the examples: a tunnel for UDP and one for IP packets, over both protocols.
+# A script has one connection, and enough steps for all that there is to do, also where one of them does nothing.
+#
+# Each run must end with status 0, 5 or 7; `idle` and `more` lines aren't looked at.
+# - Status 7: what it prints is a front of what the run without a refusal prints, which is the whole.
+# - Status 0: it prints the lines of the whole, in another order at most, as a step came later; or the connection ended which was
+#   refused memory. Then each tunnel that opened is closed, and perhaps one that the book had opened; and the other lines are some
+#   of the whole's, in their order, or say that a packet for a tunnel that had closed was dropped, or goes nowhere.
+# - Status 5: the same end, and then that a line is bad: one for a tunnel that hadn't opened.
+# MASQUE names the program, where it isn't the built one. Build first: tools/build
 set -eu
 cd "$(dirname "$0")/.."
-script=$(realpath "${1:-examples/first_datagram.script}")
-first=${2:-1}
+program=${MASQUE:-crates/masque/out/masque}
+[ -x "$program" ] || { echo "build it first: tools/build" >&2; exit 1; }
+command -v cc > /dev/null || { echo "cc isn't there, which builds what refuses" >&2; exit 1; }
 work=$(mktemp -d)
 trap 'rm -rf "$work"' EXIT
-cd crates/masque
+cc -O2 -shared -fPIC -o "$work/refuse.so" bench/refuse.c
+[ $# -gt 0 ] || set -- examples/first_datagram.script examples/ip_session.script examples/ip_session_h2.script
+python3 - "$(realpath "$program")" "$work/refuse.so" "$@" <<'PY'
+import os, re, subprocess, sys
 
-fail() {
-  echo "allocation $number: $1" >&2
-  exit 1
-}
+program, refuses, *scripts = sys.argv[1:]
 
-is_front() {
-  head -c "$(wc -c < "$1")" "$work/whole" | cmp -s - "$1"
-}
+def run(script, number):
+    """The status, what is printed, and what is told."""
+    with open(script, "rb") as lines:
+        ran = subprocess.run([program, "replay"], stdin=lines, capture_output=True, text=True,
+                             env=dict(os.environ, LD_PRELOAD=refuses, REFUSE=str(number)))
+    return ran.returncode, ran.stdout, ran.stderr
 
-# What is printed is a front of the whole and then an end: of each tunnel that opened and hasn't closed, and of one more, if its
-# opening was refused memory behind the book's answer. Or as much of an end as there are steps, which the refused one is of too.
-is_end() {
-  sed -e '/^closed [0-9]* Conn left [0-9]*$/d' -e '/^ended [0-9]* NoMemory$/d' -e '/^idle [0-9]*$/d' -e '/^bad line [0-9]*$/d' \
-    "$work/printed" > "$work/front"
-  is_front "$work/front" || fail "what is printed is no front of the whole and an end"
-  opened=$(grep -c '^opened ' "$work/printed" || true)
-  closed=$(grep -c '^closed ' "$work/printed" || true)
-  if grep -q '^ended ' "$work/printed"; then
-    [ "$closed" -eq "$opened" ] || [ "$closed" -eq $((opened + 1)) ] || fail "$opened tunnels opened, and $closed closed"
-  else
-    [ $(($(wc -l < "$work/printed") + 1)) -eq "$(wc -l < "$work/whole")" ] || fail "a step was left, and it hasn't ended"
-  fi
-}
+def without(lines, pattern):
+    return [line for line in lines if not re.fullmatch(pattern, line)]
 
-# The last line that is printed is that a line is bad, which is for a tunnel that hadn't opened.
-is_bad_line() {
-  line=$(sed -n '$s/^bad line //p' "$work/printed")
-  tunnel=$(sed -n "${line:-0}s/^dgram \([0-9]*\) .*/\1/p" "$script" 2> /dev/null)
-  [ -n "$tunnel" ] || fail "a line is bad that is none for a tunnel"
-  ! grep -q "^opened $tunnel " "$work/printed" || fail "a line for a tunnel that had opened is bad"
-}
+def is_among(some, whole):
+    """Whether the lines are some of the whole's, in their order."""
+    rest = iter(whole)
+    return all(line in rest for line in some)
 
-rt try -- replay < "$script" > "$work/whole" 2> /dev/null || true
-tail -n 1 "$work/whole" | grep -q '^idle ' || { echo "the last step of $script has something to do" >&2; exit 1; }
-sed '$d' "$work/whole" > "$work/later"
+def end_is_whole(printed, whole):
+    """Why what a run printed is no end of a connection behind a part of the whole, or nothing."""
+    ended = [at for at, line in enumerate(printed) if re.fullmatch(r"ended \d+ NoMemory", line)]
+    if len(ended) != 1:
+        return "not one connection has ended"
+    opened = sum(line.startswith("opened ") for line in printed)
+    closed = sum(line.startswith("closed ") for line in printed)
+    if closed not in (opened, opened + 1):
+        return f"{opened} tunnels opened, and {closed} closed"
+    rest = without(printed, r"closed \d+ Conn left \d+|ended \d+ NoMemory|dropped \S+ \d+ (Gone|NoRoute)")
+    return None if is_among(rest, whole) else "what is printed is no part of the whole and an end"
 
-number=$first
-stopped=0
-ended=0
-bad=0
-offered=0
-got_by=0
-in_a_row=0
-while [ "$in_a_row" -lt 3 ]; do
-  rt try --fail-alloc "$number" -- replay < "$script" > "$work/printed" 2> "$work/told" || true
-  status=$(sed -n 's/^checked: ended status=//p' "$work/told")
-  in_a_row=$((in_a_row + 1))
-  case "$status" in
-    0)
-      if cmp -s "$work/whole" "$work/printed"; then
-        got_by=$((got_by + 1))
-      elif grep -q '^ended [0-9]* NoMemory$\|^closed [0-9]* Conn ' "$work/printed"; then
-        is_end
-        ended=$((ended + 1))
-        in_a_row=0
-      else
-        cmp -s "$work/later" "$work/printed" || fail "what is printed is neither an end nor the whole a step later"
-        offered=$((offered + 1))
-        in_a_row=0
-      fi
-      ;;
-    5)
-      grep -q '^ended [0-9]* NoMemory$' "$work/printed" || fail "a line is bad, and the connection hasn't ended"
-      is_end
-      is_bad_line
-      bad=$((bad + 1))
-      in_a_row=0
-      ;;
-    7)
-      is_front "$work/printed" || fail "what is printed is no front of the whole"
-      stopped=$((stopped + 1))
-      in_a_row=0
-      ;;
-    *) fail "status ${status:-not told}" ;;
-  esac
-  number=$((number + 1))
-done
-echo "allocations $first to $((number - 4)), refused one by one: $stopped runs ended with status 7," \
-  "$ended with status 0 and the end of their connection, $bad with status 5 behind that end," \
-  "$offered with status 0 and a step that accepted nothing," \
-  "and $((got_by - 3)) got by with less"
+def is_for_no_tunnel(script, number, printed):
+    with open(script) as lines:
+        line = lines.read().split("\n")[int(number) - 1]
+    named = re.match(r"dgram (\d+) ", line)
+    return named and not any(line.startswith(f"opened {named[1]} ") for line in printed)
+
+def looked_at(script, number, whole):
+    """Refuses one allocation. Answers what that came to, and why it is wrong, or None."""
+    status, text, _ = run(script, number)
+    printed = without(text.split("\n")[:-1], r"idle \S+|more")
+    if status == 7:
+        return "status 7", None if is_among(printed, whole) and printed == whole[:len(printed)] else "it is no front of the whole"
+    if status == 0:
+        if sorted(printed) == sorted(whole):
+            return "the whole" if printed == whole else "the whole in another order", None
+        return "an end", end_is_whole(printed, whole)
+    if status == 5:
+        bad = re.fullmatch(r"bad line (\d+)", printed.pop()) if printed else None
+        if not bad or not is_for_no_tunnel(script, bad[1], printed):
+            return "a bad line", "a line is bad that is none for a tunnel that hadn't opened"
+        return "a bad line behind an end", end_is_whole(printed, whole)
+    return f"status {status}", "there is no such status here"
+
+wrong = 0
+for script in scripts:
+    status, text, told = run(script, 0)
+    assert status == 0, (script, status)
+    whole = without(text.split("\n")[:-1], r"idle \S+|more")
+    counts = {}
+    for number in range(1, int(told) + 1):
+        kind, why = looked_at(script, number, whole)
+        counts[kind] = counts.get(kind, 0) + 1
+        if why:
+            wrong += 1
+            print(f"{script}: allocation {number}: {why}")
+    said = ", ".join(f"{count} {kind}" for kind, count in sorted(counts.items()))
+    print(f"{script}: {told.strip()} allocations, refused one by one: {said}")
+sys.exit(1 if wrong else 0)
+PY
