@@ -5,5 +5,5 @@ use mq_top::program;
 use std::process::ExitCode;
 
 fn main(rt: HostRuntime) -> ExitCode {
-    program(&rt)
+    program(&rt, &rt)
 }

@@ -45,6 +45,10 @@ use Rattle.mq_actor.proofs.Stages.{Untried, Upper, AllUpper, Lower, AllTried, In
 abbrev pub begun : {L : Type 0} → Ring L → Ring L
 begun self = record self { ended = None }
 
+-- what an accept did behind that
+pub from_begun : {L : Type 0} (self m s : Ring L) (result : Result (Option Note) NoMemory) → m ≡ begun self → AcceptGives true m s result → AcceptGives true (begun self) s result
+from_begun self m s result is gives = subst (λ (r : Ring _). AcceptGives true r s result) is gives
+
 -- a moment in which these are the connections, and the mail tells this
 abbrev pub among : {L Q : Type 0} → List (HeldBy L) → Option Boxes → Moment L Q → Moment L Q
 among hs mail m = record m { conns = hs; boxes = mail }

@@ -13,7 +13,7 @@ use Rattle.mq_machine.specs.declared.act.StreamAct.{StreamAct}
 use Rattle.mq_machine.specs.declared.act.StreamAct.TheVariants as stream
 use Rattle.mq_machine.specs.declared.act.Due.{Due}
 use Rattle.mq_machine.specs.State.{Conn, Tunnel, values}
-use Rattle.mq_machine.specs.Want.{Want, Ask, Push, Answer, Replied, Judged, Pushed, stream_want, most_values}
+use Rattle.mq_machine.specs.Want.{Want, Ask, Answer, Replied, Judged, Pushed, stream_want, most_values}
 use Rattle.mq_machine.specs.Done.{Done, done, done_by, due_done, tunnel_done, stream_done}
 use Rattle.mq_machine.specs.Settle.{settle}
 use Rattle.mq_machine.specs.Steps.{settled_note}

@@ -1,5 +1,5 @@
 //! One step of a worker.
-ghost use Rattle.std.specs.Prelude.{◌≡◌, ◌+◌};
+ghost use Rattle.std.specs.Prelude.{◌≡◌, ◌+◌, None};
 ghost use Rattle.mq_machine.specs.State.{Worker};
 ghost use Rattle.mq_talk.specs.Offices.{IsSound};
 ghost use Rattle.mq_machine.specs.Acting.{Outside, Known, Steps, binder};
@@ -18,6 +18,16 @@ use mq_wire::NoMemory;
 use std::alloc::Global;
 
 impl<L: WriteReady> Ring<L> {
+    /// Drops the connection that the last step ended, if its link wasn't taken. Where there is none, nothing is written: it has
+    /// the size of a connection, and most steps end none.
+    fn forget(&mut self)
+        ensures { self.new ≡ record self.old { ended = None } }
+    {
+        if self.ended.is_some() {
+            self.ended = None;
+        }
+    }
+
     /// The first seat that can act acts, in the ring that begins behind the seat that acted last. None where none can. Where
     /// memory is refused, the connection whose turn it was is ending.
     pub fn step<P: Ports, O: Office, M: Mail>(
@@ -48,7 +58,7 @@ impl<L: WriteReady> Ring<L> {
         ensures inboxes { M.count mail.new ≡ M.count mail.old }
         ensures balanced { IsBalanced P.P.place (P.past table.old.ports) table.old.table.slots → IsBalanced P.P.place (P.past table.new.ports) table.new.table.slots }
     {
-        self.ended = None;
+        self.forget();
         if let Some(note) = self.accept(alloc, true)? {
             return Ok(Some(note));
         }

@@ -1,6 +1,7 @@
 //! The request for a tunnel over HTTP/2 (RFC 9298, section 3.4).
 ghost use Rattle.std.specs.Prelude.{◌≡◌, ◌+◌, ◌≤◌, ◌++◌, length, IfOk, OnOk};
 ghost use Rattle.mq_client.specs.Asking.{field, request_fields, request_frame, preface};
+ghost use Rattle.mq_client.specs.Requests.{target_limit};
 
 use crate::parts::STREAM;
 use mq_frame::write_headers;
@@ -47,7 +48,7 @@ fn request_fields(alloc: Global, path: &[u8], host: &[u8]) -> Result<Vec<Field>,
 
 /// HEADERS with the request.
 pub fn request_frame(alloc: Global, path: &[u8], host: &[u8]) -> Result<Bytes, NoMemory>
-    requires { length path.now + length host.now ≤ 8192 }
+    requires { length path.now + length host.now ≤ target_limit }
     ensures { IfOk result (λ bytes. bytes ≡ request_frame path.now host.now) }
 {
     let fields = request_fields(alloc, path, host)?;

@@ -23,14 +23,10 @@ pub fn client(alloc: Global, h2: bool) -> Result<Client, Fail> {
     Ok(Client::new(alloc, h2, Bytes::from_vec(path), Bytes::from_vec(host))?)
 }
 
-fn number(word: &str) -> u32 {
-    word.parse::<u32>().unwrap_or(0)
-}
-
 fn add_word(alloc: Global, out: &mut Vec<u8>, word: &str) -> Result<(), Fail> {
     if let Some((byte, count)) = word.split_once('*') {
         let byte = hex::decode(alloc, byte)?;
-        for _ in 0..number(count) {
+        for _ in 0..count.parse::<u32>()? {
             out.extend_from_slice(byte.as_slice())?;
         }
         return Ok(());
@@ -79,6 +75,24 @@ pub fn fed(alloc: Global, client: &mut Client, piece: &[u8]) -> Result<String, F
             text.push_str("; ")?;
         }
         text.push_str(event_text(alloc, event)?.as_str())?;
+    }
+    Ok(text)
+}
+
+fn add_events(text: &mut String, events: &str) -> Result<(), Fail> {
+    if !text.is_empty() && !events.is_empty() {
+        text.push_str("; ")?;
+    }
+    text.push_str(events)?;
+    Ok(())
+}
+
+/// The events of pieces, one behind the other.
+pub fn fed_all(alloc: Global, client: &mut Client, pieces: &[&[u8]]) -> Result<String, Fail> {
+    let mut text = String::new(alloc);
+    for piece in pieces {
+        let events = fed(alloc, client, piece)?;
+        add_events(&mut text, events.as_str())?;
     }
     Ok(text)
 }

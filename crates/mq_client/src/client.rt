@@ -1,6 +1,6 @@
 //! The client of a proxy.
 ghost use Rattle.std.specs.Prelude.{◌≡◌, ◌≢◌, ◌↔◌, ◌+◌, ◌≤◌, [], length, IfOk, OnOk, OnErr, IsErr, IsTrue};
-ghost use Rattle.mq_client.specs.Requests.{AreVisible};
+ghost use Rattle.mq_client.specs.Requests.{AreVisible, target_limit};
 ghost use Rattle.mq_client.specs.State.{State, Reads, begun, sent, wrote, owed, waiting};
 ghost use Rattle.mq_client.specs.Client.{StandsFor, IsSpent};
 
@@ -28,7 +28,7 @@ impl Client {
     /// A client that asks for a tunnel with this path and query, at this host. Over HTTP/1.1 it owes the request (RFC 9298,
     /// section 3.2). Over HTTP/2 it owes the preface, and the request (section 3.4) once the proxy's SETTINGS came.
     pub fn new(alloc: Global, h2: bool, path: Bytes, host: Bytes) -> Result<Client, NoMemory>
-        requires size { length path + length host ≤ 8192 }
+        requires size { length path + length host ≤ target_limit }
         requires path_visible { AreVisible path }
         requires host_visible { AreVisible host }
         ensures { IfOk result (λ client. StandsFor client (begun h2 path host)) }

@@ -1,5 +1,6 @@
 //! A client over HTTP/2: what it reads, and what it owes.
 ghost use Rattle.std.specs.Prelude.{◌≡◌, ◌+◌, ◌≤◌, length, drop, IfOk, OnOk, OnErr, IsErr};
+ghost use Rattle.mq_client.specs.Requests.{target_limit};
 ghost use Rattle.mq_client.specs.Sending.{sends_until};
 ghost use Rattle.mq_client.specs.Talk.{Talk, talk_begun, is_over, ReadsFrames, talk_sent, talk_wrote};
 ghost use Rattle.mq_client.specs.Talking.{IsHttp2, phase_behind};
@@ -42,7 +43,7 @@ pub struct Http2 {
 impl Http2 {
     /// Owes the preface. The request with this path and query, to this host, is put once the proxy's SETTINGS came.
     pub fn new(alloc: Global, path: &[u8], host: &[u8]) -> Result<Http2, NoMemory>
-        requires { length path.now + length host.now ≤ 8192 }
+        requires { length path.now + length host.now ≤ target_limit }
         ensures { IfOk result (λ two. IsHttp2 two (talk_begun path.now host.now)) }
     {
         let mut owed = Vec::new(alloc);

@@ -1,6 +1,9 @@
 //! Rows of calls on a client over HTTP/2, with what they give.
-use crate::calls::{bytes, check, client, fed, opened, write_all};
+use crate::Client;
+use crate::calls::{bytes, check, client, fed, fed_all, opened, write_all};
+use crate::sessions::SESSIONS;
 use std::alloc::Global;
+use std::process::Abort;
 use std::test::Fail;
 
 #[test]
@@ -28,6 +31,11 @@ feed 000006040000000000000800000001 000000040100000000 =>
 feed 00002e010400000001 88408b20eb45b4156aec3a4e43d1023f317683a8f2176196dd6d5f4a09f5349fba82009c5021b8dbd700153168df => opened
 feed 0000050000000000010003006869 => payload 6869
 feed 000000000100000001 => closed";
+
+#[test]
+fn a_proxy_of_another_make_is_understood(rt: HostRuntime) -> Result<(), Fail> {
+    check(&rt, rt.alloc(), SESSIONS)
+}
 
 #[test]
 fn a_proxy_offers_extended_connect_or_is_not_asked(rt: HostRuntime) -> Result<(), Fail> {
@@ -229,21 +237,16 @@ owed => 000004080000000000 00004000 000004080000000001 00004000
 feed 004000000000000001 00*16384 =>
 owed => 000004080000000000 00004000 000004080000000001 00004000";
 
-/// What a client tells and owes of these pieces.
+/// What a client tells of these pieces, and owes then.
+fn told_and_owed(alloc: Global, client: &mut Client, pieces: &[&[u8]]) -> Result<String, Fail> {
+    let told = fed_all(alloc, client, pieces)?;
+    let owed = hex::encode(alloc, client.owed())?;
+    Ok(format!(in alloc; "{told} {owed}")?)
+}
+
 fn told(alloc: Global, pieces: &[&[u8]]) -> Result<String, Fail> {
     let mut client = client(alloc, true)?;
-    let mut text = String::new(alloc);
-    for piece in pieces {
-        let events = fed(alloc, &mut client, piece)?;
-        if !text.is_empty() && !events.is_empty() {
-            text.push_str("; ")?;
-        }
-        text.push_str(events.as_str())?;
-    }
-    text.push_str(" ")?;
-    let owed = hex::encode(alloc, client.owed())?;
-    text.push_str(owed.as_str())?;
-    Ok(text)
+    told_and_owed(alloc, &mut client, pieces)
 }
 
 #[test]
@@ -268,17 +271,25 @@ fn each_cutting_gives_the_same(rt: HostRuntime) -> Result<(), Fail> {
     Ok(())
 }
 
-#[test]
-fn a_thousand_payloads_go_both_ways(rt: HostRuntime) -> Result<(), Fail> {
-    let alloc = rt.alloc();
-    let mut client = opened(alloc)?;
+/// A payload goes each way: the proxy's in this frame.
+fn exchange(rt: &impl Abort, alloc: Global, client: &mut Client, frame: &[u8]) -> Result<(), Fail> {
+    assert_eq!(rt; fed(alloc, client, frame)?.as_str(), "payload #44");
+    client.send(b"abcdefghijklmnopqrstuvwxyz012345")?;
+    assert!(rt; !client.waiting());
+    write_all(client);
+    Ok(())
+}
+
+fn exchange_all(rt: &impl Abort, alloc: Global, client: &mut Client) -> Result<(), Fail> {
     let frame = bytes(alloc, "00002f000000000001 002d00 61*44")?;
     for _ in 0..1000 {
-        let text = fed(alloc, &mut client, frame.as_slice())?;
-        assert_eq!(rt; text.as_str(), "payload #44");
-        client.send(b"abcdefghijklmnopqrstuvwxyz012345")?;
-        assert!(rt; !client.waiting());
-        write_all(&mut client);
+        exchange(rt, alloc, client, frame.as_slice())?;
     }
     Ok(())
+}
+
+#[test]
+fn a_thousand_payloads_go_both_ways(rt: HostRuntime) -> Result<(), Fail> {
+    let mut client = opened(rt.alloc())?;
+    exchange_all(&rt, rt.alloc(), &mut client)
 }

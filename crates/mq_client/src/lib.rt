@@ -38,4 +38,6 @@ mod calls;
 #[cfg(test)]
 mod http2_tests;
 #[cfg(test)]
+mod sessions;
+#[cfg(test)]
 mod tests;

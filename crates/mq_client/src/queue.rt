@@ -73,6 +73,7 @@ impl Queue {
             Err(_) => Err(NoMemory),
         }
     }
+
     /// Puts DATA frames with these bytes. An `Err` changes nothing.
     pub fn put_data(&mut self, bytes: &[u8]) -> Result<(), NoMemory>
         ensures ok { OnOk result (self.new ≡ self.old ++ data_frames bytes.now) }

@@ -1,6 +1,6 @@
 //! What answers bring to a client, and what it owes.
-use super::ClientEvent;
-use crate::calls::client;
+use crate::Client;
+use crate::calls::{client, fed, fed_all};
 use std::alloc::Global;
 use std::process::Abort;
 use std::test::Fail;
@@ -9,50 +9,37 @@ use std::test::Fail;
 const OPENED: &[u8] =
     b"HTTP/1.1 101 Switching Protocols\r\nConnection: Upgrade\r\nUpgrade: connect-udp\r\nCapsule-Protocol: ?1\r\n\r\n";
 
-/// The line of an event.
-fn line(alloc: Global, event: &ClientEvent) -> Result<String, Fail> {
-    Ok(match event {
-        ClientEvent::Opened => format!(in alloc; "opened;")?,
-        ClientEvent::Refused { status } => format!(in alloc; "refused {status};")?,
-        ClientEvent::Datagram { payload } => {
-            format!(in alloc; "datagram of {};", payload.as_slice().len())?
-        }
-        ClientEvent::Closed => format!(in alloc; "closed;")?,
-        ClientEvent::BadPeer { code } => format!(in alloc; "bad peer {code};")?,
-    })
-}
-
 /// What these pieces bring to a new client, one behind the other.
 fn told(alloc: Global, pieces: &[&[u8]]) -> Result<String, Fail> {
     let mut client = client(alloc, false)?;
-    let mut lines = String::new(alloc);
-    for piece in pieces {
-        let events = client.feed(alloc, piece)?;
-        for event in events.as_slice() {
-            lines.push_str(line(alloc, event)?.as_str())?;
-        }
-    }
-    Ok(lines)
+    fed_all(alloc, &mut client, pieces)
+}
+
+const REQUEST: &[u8] =
+    b"GET /.well-known/masque/udp/192.0.2.6/443/ HTTP/1.1\r\nHost: 127.0.0.1:8080\r\nConnection: Upgrade\r\nUpgrade: connect-udp\r\nCapsule-Protocol: ?1\r\n\r\n";
+
+/// What is owed is this, and so much of it is written.
+fn write_some(rt: &impl Abort, client: &mut Client, owed: &[u8], count: u32) {
+    assert_eq!(rt; client.owed(), owed);
+    client.wrote(count);
+}
+
+fn ask_and_send(rt: &impl Abort, alloc: Global, client: &mut Client) -> Result<(), Fail> {
+    let (_, rest) = REQUEST.split_at(100);
+    write_some(rt, client, REQUEST, 100);
+    assert_eq!(rt; client.owed(), rest);
+    assert_eq!(rt; fed(alloc, client, OPENED)?.as_str(), "opened");
+    client.send(b"hi")?;
+    client.wrote(40);
+    write_some(rt, client, b"\r\n\x00\x03\x00hi", 2);
+    assert_eq!(rt; client.owed(), b"\x00\x03\x00hi".as_slice());
+    Ok(())
 }
 
 #[test]
 fn owes_the_request_and_then_a_capsule(rt: HostRuntime) -> Result<(), Fail> {
-    let alloc = rt.alloc();
-    let request: &[u8] =
-        b"GET /.well-known/masque/udp/192.0.2.6/443/ HTTP/1.1\r\nHost: 127.0.0.1:8080\r\nConnection: Upgrade\r\nUpgrade: connect-udp\r\nCapsule-Protocol: ?1\r\n\r\n";
-    let mut client = client(alloc, false)?;
-    assert_eq!(rt; client.owed(), request);
-    client.wrote(100);
-    let (_, rest) = request.split_at(100);
-    assert_eq!(rt; client.owed(), rest);
-    let events = client.feed(alloc, OPENED)?;
-    assert!(rt; matches!(events.as_slice(), [ClientEvent::Opened]));
-    client.send(b"hi")?;
-    client.wrote(40);
-    assert_eq!(rt; client.owed(), b"\r\n\x00\x03\x00hi".as_slice());
-    client.wrote(2);
-    assert_eq!(rt; client.owed(), b"\x00\x03\x00hi".as_slice());
-    Ok(())
+    let mut client = client(rt.alloc(), false)?;
+    ask_and_send(&rt, rt.alloc(), &mut client)
 }
 
 #[test]
@@ -61,22 +48,22 @@ fn answers_bring_their_events(rt: HostRuntime) -> Result<(), Fail> {
     let cases: [(&[u8], &str); 9] = [
         (
             b"HTTP/1.1 403 Forbidden\r\nConnection: close\r\nContent-Length: 0\r\n\r\n",
-            "refused 403;",
+            "refused 403",
         ),
-        (b"HTTP/1.1 200 OK\r\n\r\n\x00\x03\x00ok", "refused 200;"),
-        (b"\r\nHTTP/1.0 502\n\n", "refused 502;"),
-        (b"x\r\n\r\n", "bad peer 1;"),
-        (b"HTTP/2.0 101 Switching Protocols\r\n\r\n", "bad peer 1;"),
+        (b"HTTP/1.1 200 OK\r\n\r\n\x00\x03\x00ok", "refused 200"),
+        (b"\r\nHTTP/1.0 502\n\n", "refused 502"),
+        (b"x\r\n\r\n", "bad peer 1"),
+        (b"HTTP/2.0 101 Switching Protocols\r\n\r\n", "bad peer 1"),
         (b"HTTP/1.1 101 Switching Protocols\r\n", ""),
         (
             b"HTTP/1.1 101\r\n\r\n\x00\x03\x00ok\x04\x01a\x00\x02\x02a\x00\x01\x00",
-            "opened;datagram of 2;datagram of 0;",
+            "opened; payload 6f6b; payload ",
         ),
         (
             b"HTTP/1.1 101\r\n\r\n\x00\x03\x00ok\x00\x00\x00\x03\x00ok",
-            "opened;datagram of 2;bad peer 1;",
+            "opened; payload 6f6b; bad peer 1",
         ),
-        (b"HTTP/1.1 101\r\n\r\n\x00\x01\x40", "opened;bad peer 1;"),
+        (b"HTTP/1.1 101\r\n\r\n\x00\x01\x40", "opened; bad peer 1"),
     ];
     for (bytes, want) in cases {
         let lines = told(alloc, &[bytes, b"\x00\x03\x00ok"])?;
@@ -98,7 +85,7 @@ fn each_cutting_brings_the_same(rt: HostRuntime) -> Result<(), Fail> {
         let lines = told(alloc, &[front, rest, b"o"])?;
         assert_eq!(rt;
             lines.as_str(),
-            "opened;datagram of 2;datagram of 2;",
+            "opened; payload 6f6b; payload 6b6f",
             "cut at {at}"
         );
     }
@@ -132,14 +119,14 @@ fn heads_have_limits(rt: HostRuntime) -> Result<(), Fail> {
     let many = head_of_fields(alloc, 65)?;
     let long = head_of_bytes(alloc, 8192 - 41)?;
     let longer = head_of_bytes(alloc, 8192 - 40)?;
-    assert_eq!(rt; told(alloc, &[few.as_slice()])?.as_str(), "opened;");
-    assert_eq!(rt; told(alloc, &[many.as_slice()])?.as_str(), "bad peer 1;");
+    assert_eq!(rt; told(alloc, &[few.as_slice()])?.as_str(), "opened");
+    assert_eq!(rt; told(alloc, &[many.as_slice()])?.as_str(), "bad peer 1");
     assert_eq!(rt; long.as_slice().len(), 8192);
-    assert_eq!(rt; told(alloc, &[long.as_slice()])?.as_str(), "opened;");
-    assert_eq!(rt; told(alloc, &[longer.as_slice()])?.as_str(), "bad peer 1;");
+    assert_eq!(rt; told(alloc, &[long.as_slice()])?.as_str(), "opened");
+    assert_eq!(rt; told(alloc, &[longer.as_slice()])?.as_str(), "bad peer 1");
     let (begun, _) = longer.as_slice().split_at(longer.len().min(8191));
     assert_eq!(rt; told(alloc, &[begun])?.as_str(), "");
-    assert_eq!(rt; told(alloc, &[begun, b"b"])?.as_str(), "bad peer 1;");
+    assert_eq!(rt; told(alloc, &[begun, b"b"])?.as_str(), "bad peer 1");
     Ok(())
 }
 
@@ -161,12 +148,12 @@ fn payloads_have_a_limit(rt: HostRuntime) -> Result<(), Fail> {
     let other = tunnel_with(alloc, b"\x00\x80\x00\xff\xf9\x01", 65_528)?;
     assert_eq!(rt;
         told(alloc, &[longest.as_slice()])?.as_str(),
-        "opened;datagram of 65527;"
+        "opened; payload #65527"
     );
     assert_eq!(rt;
         told(alloc, &[longer.as_slice()])?.as_str(),
-        "opened;bad peer 1;"
+        "opened; bad peer 1"
     );
-    assert_eq!(rt; told(alloc, &[other.as_slice()])?.as_str(), "opened;");
+    assert_eq!(rt; told(alloc, &[other.as_slice()])?.as_str(), "opened");
     Ok(())
 }

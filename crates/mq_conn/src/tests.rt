@@ -77,19 +77,23 @@ fn shown(alloc: Global, bytes: &[u8]) -> Result<String, Fail> {
     Ok(hex::encode(alloc, bytes)?)
 }
 
+fn numbered(alloc: Global, word: &str, number: u32) -> Result<String, Fail> {
+    Ok(format!(in alloc; "{word}{number}")?)
+}
+
 fn to_text(alloc: Global, to: Place) -> Result<String, Fail> {
-    Ok(match to {
-        Place::Tunnel { tunnel, actor: _ } => format!(in alloc; "{tunnel}")?,
-        Place::Net => format!(in alloc; "net")?,
-    })
+    match to {
+        Place::Tunnel { tunnel, actor: _ } => numbered(alloc, "", tunnel),
+        Place::Net => Ok(String::from_str(alloc, "net")?),
+    }
 }
 
 fn from_text(alloc: Global, from: From) -> Result<String, Fail> {
-    Ok(match from {
-        From::Tunnel(tunnel) => format!(in alloc; "{tunnel}")?,
-        From::Net => format!(in alloc; "net")?,
-        From::Port(tunnel) => format!(in alloc; "port{tunnel}")?,
-    })
+    match from {
+        From::Tunnel(tunnel) => numbered(alloc, "", tunnel),
+        From::Net => Ok(String::from_str(alloc, "net")?),
+        From::Port(tunnel) => numbered(alloc, "port", tunnel),
+    }
 }
 
 /// The line of a note, where a connection gives such a one.

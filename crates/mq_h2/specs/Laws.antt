@@ -9,6 +9,7 @@ use Rattle.mq_frame.specs.Writing.{spelling_of, AreWritten}
 use Rattle.mq_hpack.specs.declared.field.Field.{Field}
 use Rattle.mq_streams.specs.Answers.{send_window, connection_send_window}
 use Rattle.mq_streams.specs.History.{total, arrived_on, consumed_on, highest}
+use Rattle.mq_streams.specs.Windows.{PassesNoWindow}
 use Rattle.mq_streams.specs.declared.answers.Began.{Began}
 use Rattle.mq_streams.specs.declared.answers.Began.TheVariants as began
 use Rattle.mq_h2.specs.declared.block.OpenBlock.{OpenBlock}
@@ -17,6 +18,8 @@ use Rattle.mq_h2.specs.Acts.{responds, data_room, sends, ends_stream, resets_str
 use Rattle.mq_h2.specs.State.{State}
 use Rattle.mq_h2.specs.Reading.{asks, told_in, ReadTo}
 use Rattle.mq_h2.specs.Reached.{IsReached}
+use Rattle.mq_h2.specs.Stand.{IsH2}
+use Rattle.mq_h2.specs.declared.h2.H2.{H2}
 
 -- a read gives one list of events, and leads to one state
 abbrev pub IsOneRead : Type 0
@@ -32,6 +35,11 @@ abbrev pub SendsWithin : Type 0
 SendsWithin = (id size : ℕ) (s : State)
     → (data_room id size s ≤ send_window id s.history) × (data_room id size s ≤ connection_send_window s.history)
     × (data_room id size s ≤ max_frame_size) × (data_room id size s ≤ size)
+
+-- in each state that a core stands for, all DATA that came and was sent so far was within its windows then, and what made a
+-- window grow left it within the largest (section 6.9.1)
+abbrev pub WindowsHold : Type 0
+WindowsHold = (v : H2) (s : State) → IsH2 v s → PassesNoWindow s.history
 
 -- What arrived on a stream and isn't consumed grows by what a read tells: the events that last tell the DATA that is still
 -- to be consumed.

@@ -77,8 +77,8 @@ fn event_text(alloc: Global, event: &StreamEvent) -> Result<String, Fail> {
     }
 }
 
-fn number(word: &str) -> u32 {
-    word.parse::<u32>().unwrap_or(0)
+fn number(word: &str) -> Result<u32, Fail> {
+    Ok(word.parse::<u32>()?)
 }
 
 fn add_headers(
@@ -89,9 +89,9 @@ fn add_headers(
     block: &str,
 ) -> Result<(), Fail> {
     let block = hex::decode(alloc, block)?;
-    let length = u8::try_from(block.len()).unwrap_or(0);
+    let length = u8::try_from(block.len())?;
     out.extend_from_slice(&[0, 0, length, 1, flags])?;
-    out.extend_from_slice(&number(stream).to_be_bytes())?;
+    out.extend_from_slice(&number(stream)?.to_be_bytes())?;
     out.extend_from_slice(block.as_slice())?;
     Ok(())
 }
@@ -99,7 +99,7 @@ fn add_headers(
 fn add_word(alloc: Global, out: &mut Vec<u8>, word: &str) -> Result<(), Fail> {
     if let Some((byte, count)) = word.split_once('*') {
         let byte = hex::decode(alloc, byte)?;
-        for _ in 0..number(count) {
+        for _ in 0..number(count)? {
             out.extend_from_slice(byte.as_slice())?;
         }
         return Ok(());
@@ -164,7 +164,57 @@ fn field(alloc: Global, name: &str, value: &str) -> Result<Field, Fail> {
     })
 }
 
-fn respond(alloc: Global, h2: &mut H2, stream: u32, status: &str) -> Result<(), Fail> {
+/// What is done with a connection.
+#[derive(Clone, Copy)]
+enum Call {
+    /// Another takes its place, of which nothing was read.
+    New,
+    /// One that was fed `P`.
+    Begin,
+    Feed,
+    Wrote,
+    Act,
+    Begun,
+    /// What is owed, which is written then.
+    Owed,
+    Respond,
+    Send,
+    Fits,
+    Room,
+    Live,
+    End,
+    Reset,
+    Consumed,
+}
+
+const CALLS: [(&str, Call); 15] = [
+    ("new", Call::New),
+    ("begin", Call::Begin),
+    ("feed", Call::Feed),
+    ("wrote", Call::Wrote),
+    ("act", Call::Act),
+    ("begun", Call::Begun),
+    ("owed", Call::Owed),
+    ("respond", Call::Respond),
+    ("send", Call::Send),
+    ("fits", Call::Fits),
+    ("room", Call::Room),
+    ("live", Call::Live),
+    ("end", Call::End),
+    ("reset", Call::Reset),
+    ("consumed", Call::Consumed),
+];
+
+fn call_of(word: &str) -> Result<Call, Fail> {
+    for (name, call) in CALLS {
+        if name == word {
+            return Ok(call);
+        }
+    }
+    Err(Fail::from("no such call"))
+}
+
+fn respond(alloc: Global, h2: &mut H2, stream: u32, status: &str) -> Result<String, Fail> {
     let mut fields = Vec::new(alloc);
     fields.push(field(alloc, ":status", status)?)?;
     let accepts = status == "200";
@@ -172,7 +222,14 @@ fn respond(alloc: Global, h2: &mut H2, stream: u32, status: &str) -> Result<(), 
         fields.push(field(alloc, "capsule-protocol", "?1")?)?;
     }
     h2.respond(stream, fields.as_slice(), !accepts)?;
-    Ok(())
+    Ok(String::new(alloc))
+}
+
+/// Sends bytes from two slices, and says how many were.
+fn send(alloc: Global, h2: &mut H2, stream: u32, words: &str) -> Result<String, Fail> {
+    let piece = bytes(alloc, words)?;
+    let (front, rest) = piece.as_slice().split_at(piece.len() / 2);
+    shown(alloc, h2.send_parts(stream, front, rest)?)
 }
 
 /// What is owed, which is written then.
@@ -182,66 +239,85 @@ pub fn taken(alloc: Global, h2: &mut H2) -> Result<String, Fail> {
     Ok(text)
 }
 
+/// Another connection takes the place of this one.
+fn replaced(alloc: Global, h2: &mut H2, other: H2) -> String {
+    *h2 = other;
+    String::new(alloc)
+}
+
+fn shown(alloc: Global, number: u32) -> Result<String, Fail> {
+    Ok(format!(in alloc; "{number}")?)
+}
+
+/// Does a call that answers nothing: one on a stream, with a number where it takes one.
+fn does(h2: &mut H2, call: Call, stream: u32, count: u32) {
+    match call {
+        Call::End => h2.end_stream(stream),
+        Call::Reset => h2.reset(stream, count),
+        Call::Consumed => h2.consumed(stream, count),
+        Call::Wrote => h2.wrote(stream),
+        _ => h2.end_act(),
+    }
+}
+
 /// Does a call on a stream, with what else it is given, and says what it gives.
 fn done_on(
     alloc: Global,
     h2: &mut H2,
-    word: &str,
+    call: Call,
     stream: u32,
     rest: &str,
 ) -> Result<String, Fail> {
-    match word {
-        "respond" => respond(alloc, h2, stream, rest)?,
-        "send" => {
-            let piece = bytes(alloc, rest)?;
-            let (front, rest) = piece.as_slice().split_at(piece.len() / 2);
-            return Ok(format!(in alloc; "{}", h2.send_parts(stream, front, rest)?)?);
+    match call {
+        Call::Respond => respond(alloc, h2, stream, rest),
+        Call::Send => send(alloc, h2, stream, rest),
+        Call::Fits => shown(alloc, h2.data_room(stream, number(rest)? as usize)),
+        Call::Room => shown(alloc, h2.room(stream)),
+        Call::Live => shown(alloc, u32::from(h2.is_live(stream))),
+        _ => {
+            let count = if rest.is_empty() { 0 } else { number(rest)? };
+            does(h2, call, stream, count);
+            Ok(String::new(alloc))
         }
-        "fits" => {
-            let size = number(rest) as usize;
-            return Ok(format!(in alloc; "{}", h2.data_room(stream, size))?);
-        }
-        "room" => return Ok(format!(in alloc; "{}", h2.room(stream))?),
-        "live" => return Ok(format!(in alloc; "{}", u8::from(h2.is_live(stream)))?),
-        "end" => h2.end_stream(stream),
-        "reset" => h2.reset(stream, number(rest)),
-        "consumed" => h2.consumed(stream, number(rest)),
-        _ => return Ok(format!(in alloc; "no such call")?),
     }
-    Ok(String::new(alloc))
 }
 
 /// Does a call, and says what it gives.
-fn done(alloc: Global, h2: &mut H2, call: &str) -> Result<String, Fail> {
-    let (word, rest) = call.split_once(' ').unwrap_or((call, ""));
-    match word {
-        "feed" => return fed(alloc, h2, bytes(alloc, rest)?.as_slice()),
-        "wrote" => h2.wrote(number(rest)),
-        "act" => h2.end_act(),
-        "begun" => return Ok(format!(in alloc; "{}", u8::from(h2.begun()))?),
-        "owed" => return taken(alloc, h2),
+fn done(alloc: Global, h2: &mut H2, call: Call, words: &str) -> Result<String, Fail> {
+    match call {
+        Call::New => Ok(replaced(alloc, h2, H2::new(alloc)?)),
+        Call::Begin => Ok(replaced(alloc, h2, begun(alloc)?)),
+        Call::Feed => fed(alloc, h2, bytes(alloc, words)?.as_slice()),
+        Call::Begun => shown(alloc, u32::from(h2.begun())),
+        Call::Owed => taken(alloc, h2),
+        Call::Act => done_on(alloc, h2, call, 0, words),
         _ => {
-            let (stream, rest) = rest.split_once(' ').unwrap_or((rest, ""));
-            return done_on(alloc, h2, word, number(stream), rest);
+            let (stream, rest) = words.split_once(' ').unwrap_or((words, ""));
+            done_on(alloc, h2, call, number(stream)?, rest)
         }
     }
-    Ok(String::new(alloc))
+}
+
+/// What a call is to give: bytes in hex, where they are owed.
+fn wanted(alloc: Global, call: Call, want: &str) -> Result<String, Fail> {
+    match call {
+        Call::Owed => Ok(hex::encode(alloc, bytes(alloc, want)?.as_slice())?),
+        _ => Ok(format!(in alloc; "{want}")?),
+    }
 }
 
 fn check_call(
     rt: &impl Abort,
     alloc: Global,
     h2: &mut H2,
-    call: &str,
+    text: &str,
     want: &str,
 ) -> Result<(), Fail> {
-    let seen = done(alloc, h2, call)?;
-    if call == "owed" {
-        let want = hex::encode(alloc, bytes(alloc, want)?.as_slice())?;
-        assert_eq!(rt; seen.as_str(), want.as_str(), "{call}");
-    } else {
-        assert_eq!(rt; seen.as_str(), want, "{call}");
-    }
+    let (word, words) = text.split_once(' ').unwrap_or((text, ""));
+    let call = call_of(word)?;
+    let seen = done(alloc, h2, call, words)?;
+    let want = wanted(alloc, call, want.strip_prefix(' ').unwrap_or(""))?;
+    assert_eq!(rt; seen.as_str(), want.as_str(), "{text}");
     Ok(())
 }
 
@@ -249,19 +325,8 @@ fn check_call(
 pub fn check(rt: &impl Abort, alloc: Global, lines: &str) -> Result<(), Fail> {
     let mut h2 = H2::new(alloc)?;
     for line in lines.lines() {
-        let Some((call, want)) = line.split_once(" =>") else {
-            continue;
-        };
-        match call {
-            "new" => h2 = H2::new(alloc)?,
-            "begin" => h2 = begun(alloc)?,
-            _ => check_call(
-                rt,
-                alloc,
-                &mut h2,
-                call,
-                want.strip_prefix(' ').unwrap_or(""),
-            )?,
+        if let Some((text, want)) = line.split_once(" =>") {
+            check_call(rt, alloc, &mut h2, text, want)?;
         }
     }
     Ok(())

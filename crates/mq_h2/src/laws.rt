@@ -1,5 +1,5 @@
 //! Laws of the definitions that the core goes by. The functions do nothing.
-ghost use Rattle.mq_h2.specs.Laws.{IsOneRead, HasOutcome, SendsWithin, IsTold, PutsWholeFrames, ReadsBack, ReadsApart, IsAskedOnce, KeepsAsked};
+ghost use Rattle.mq_h2.specs.Laws.{IsOneRead, HasOutcome, SendsWithin, IsTold, PutsWholeFrames, ReadsBack, ReadsApart, IsAskedOnce, KeepsAsked, WindowsHold};
 
 use mq_frame::{are_read_back, fits_fields, is_read_once, is_readable, stays_bounded, stays_read};
 use mq_hpack::has_one_reading;
@@ -26,6 +26,13 @@ pub fn each_read_has_an_outcome()
 pub fn data_is_within_its_windows()
     ensures { SendsWithin }
 {}
+
+/// Whatever was read and done, all DATA that came and was sent was within its windows, and no window grew past the largest.
+pub fn no_window_is_passed()
+    ensures { WindowsHold }
+{
+    mq_streams::no_window_is_passed();
+}
 
 /// The DATA that a read tells is that which arrived in it and isn't consumed.
 pub fn what_is_told_is_held()

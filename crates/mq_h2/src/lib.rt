@@ -23,8 +23,8 @@ pub use event::StreamEvent;
 pub use fields::{is_connect, is_value, value_of};
 pub use h2::H2;
 pub use laws::{
-    data_is_within_its_windows, each_read_has_an_outcome, is_asked_once, one_read,
-    reads_stand_apart, what_is_owed_is_read_back, what_is_put_is_whole_frames,
+    data_is_within_its_windows, each_read_has_an_outcome, is_asked_once, no_window_is_passed,
+    one_read, reads_stand_apart, what_is_owed_is_read_back, what_is_put_is_whole_frames,
     what_is_told_is_held,
 };
 

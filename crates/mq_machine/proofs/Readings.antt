@@ -16,7 +16,7 @@ use Rattle.mq_talk.specs.declared.goal.Goal.{Goal}
 use Rattle.mq_target.specs.declared.target.Matched.{Matched}
 use Rattle.mq_target.specs.declared.target.Matched.TheVariants.{No, Bad, Yes}
 use Rattle.mq_target.specs.Laws.{HasOneReading}
-use Rattle.mq_target.specs.Template.{IsTemplate}
+use Rattle.mq_target.specs.Told.{IsTold}
 use Rattle.mq_machine.specs.declared.act.StreamAct.{StreamAct}
 use Rattle.mq_machine.specs.declared.act.Due.{Due}
 use Rattle.mq_machine.specs.declared.setup.Setup.{Setup}
@@ -89,16 +89,14 @@ one_matched known setup No a b x y = x ∙ sym y
 one_matched known setup Bad a b x y = x ∙ sym y
 one_matched known setup (Yes target) a b x y = x.2 ∙ ap decided (known.decision setup.policy target x.0 y.0 x.1 y.1) ∙ sym y.2
 
--- each kind has a template that a text tells
-told_kind : (setup : Setup) → IsToldSetup setup → (kind : Kind) → (text : List ℕ) × IsTemplate text (template_of setup kind)
-told_kind setup told kind.Udp = (told.udp_text, told.udp)
-told_kind setup told kind.Ip = (told.ip_text, told.ip)
+told_kind : (setup : Setup) → IsToldSetup setup → (kind : Kind) → IsTold (template_of setup kind)
+told_kind setup told kind.Udp = told.udp
+told_kind setup told kind.Ip = told.ip
 
 one_meaning : Known → (setup : Setup) → IsToldSetup setup → (kind : Kind) (path : List ℕ) (a b : Meaning) → PathMeans setup kind path a → PathMeans setup kind path b → a ≡ b
 one_meaning known setup told kind path a b x y =
-    let text = told_kind setup told kind in
     let P : Matched → Type 0 = λ m. MatchedMeans setup m b in
-    let same = known.reading text.0 (template_of setup kind) path x.0 y.0 text.1 x.1 y.1 in
+    let same = known.reading (template_of setup kind) path x.0 y.0 (told_kind setup told kind) x.1 y.1 in
     one_matched known setup x.0 a b x.2 (subst P (sym same) y.2)
 
 one_head : Known → (setup : Setup) → IsToldSetup setup → (before bytes : List ℕ) (step : HeadStep) (e f : List StreamEvent) (a b : Front)

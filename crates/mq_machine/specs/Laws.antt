@@ -19,7 +19,7 @@ use Rattle.mq_machine.specs.State.{Conn, Front, Head, OverHttp1, OverHttp2, Held
 use Rattle.mq_machine.specs.Want.{Answer}
 use Rattle.mq_machine.specs.Done.{done}
 use Rattle.mq_machine.specs.Steps.{can_read}
-use Rattle.mq_target.specs.Template.{IsTemplate}
+use Rattle.mq_target.specs.Told.{IsTold}
 use Rattle.mq_machine.specs.Reading.{TookNext}
 use Rattle.mq_machine.specs.Silent.{Reached, ConnStarves, SilentTurn}
 use Rattle.mq_machine.specs.Acting.{Sight, TellsAll, HasTold, StepGives, PlainGives}
@@ -102,14 +102,12 @@ IsToldStep = (orders : Orders) (old new : Sight) (boxes : List (List Parcel)) (s
     → TellsAll old.outside s → HasTold new.outside t → old.seen.is_whole ≡ true → old.boxes ≡ Some boxes
     → StepGives orders old new s result t → PlainGives orders old new boxes s result t
 
--- its templates are ones that texts tell
+-- the values of its templates can be told from their literals, as those of each template that a text is
 pub record IsToldSetup (setup : Setup) : Type 0 where
-  pub udp_text : List ℕ
-  pub udp : IsTemplate udp_text setup.udp
-  pub ip_text : List ℕ
-  pub ip : IsTemplate ip_text setup.ip
+  pub udp : IsTold setup.udp
+  pub ip : IsTold setup.ip
 
--- a read brings one thing, by a setup whose templates are ones that texts tell
+-- a read brings one thing, by such a setup
 abbrev pub BringsOnce : Type 0
 BringsOnce = (setup : Setup) → IsToldSetup setup → ReadsOnce setup
 

@@ -83,7 +83,7 @@ fn office(alloc: Global, refused: u64) -> Result<RefusingOffice, NoMemory>
 }
 
 /// What a step gave, in a word. None where it gave no note.
-fn word(step: Result<Option<Note>, NoMemory>) -> Option<&'static str> {
+fn word(step: &Result<Option<Note>, NoMemory>) -> Option<&'static str> {
     match step {
         Ok(None) => None,
         Err(NoMemory) => Some("no memory"),
@@ -119,7 +119,7 @@ fn steps<M: Mail>(
 {
     let mut gave = Vec::new(alloc);
     for _ in 0..20 {
-        let Some(word) = word(worker.step(office, mail)) else {
+        let Some(word) = word(&worker.step(office, mail)) else {
             break;
         };
         gave.push(word)?;

@@ -7,6 +7,7 @@ use Rattle.mq_talk.specs.declared.book.Entry.{Entry}
 use Rattle.mq_machine.specs.declared.setup.Setup.{Setup}
 use Rattle.mq_machine.specs.State.{State, new_worker}
 use Rattle.mq_machine.specs.Laws.{BringsOnce, IsToldSetup, ReadsOnceIn, SaysOne}
+use Rattle.mq_target.specs.Told.{is_told}
 use Rattle.mq_play.specs.declared.line.SettingLine.{SettingLine}
 use Rattle.mq_play.specs.Settings.{plan_of}
 use Rattle.mq_play.specs.Events.{new_workers}
@@ -31,11 +32,11 @@ LawfulStage (Running s) = Lawful s
 pub lawful_opening : LawfulStage (Settings [])
 lawful_opening = none_kept
 
--- a plan's templates are ones that texts tell
+-- a plan's templates are ones that texts are
 told_by : (lines : List SettingLine) → IsKept lines → IsToldSetup (plan_of lines).setup
 told_by lines h =
     let setup = (kept_plan lines h).setup in
-    record { udp_text = setup.udp.0; udp = setup.udp.1.0; ip_text = setup.ip.0; ip = setup.ip.1.0 }
+    record { udp = is_told setup.udp.0 _ setup.udp.1.0; ip = is_told setup.ip.0 _ setup.ip.1.0 }
 
 given_new : (setup : Setup) (n : ℕ) → IsToldSetup setup → AllByRecursion (GivenWorker 0) (new_workers setup n)
 given_new setup zero p = tt

@@ -132,7 +132,7 @@ fn a_parcel_goes_to_the_network(rt: HostRuntime) -> Result<(), Fail> {
     let note = pump.step(&mut office, &mut mail)?;
     assert!(rt;
         matches!(
-            note,
+            &note,
             Some(Note::Dropped {
                 from: From::Tunnel(0),
                 n: 5,

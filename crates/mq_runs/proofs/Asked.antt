@@ -234,7 +234,7 @@ module _ (mtu : ℕ) where
   dues_longer old new (due.Fault code ∷ ds) longer h = (tt, dues_longer old new ds longer h.1)
 
   module _ (limits : IsWithinLimits) where
-    bytes_ask : (s : Stream) (bytes : List ℕ) (ends : Bool) (acts : List StreamAct) (x : BytesAsk mtu s bytes ends acts) → Asks mtu (x.before ++ x.items) acts
+    pub bytes_ask : (s : Stream) (bytes : List ℕ) (ends : Bool) (acts : List StreamAct) (x : BytesAsk mtu s bytes ends acts) → Asks mtu (x.before ++ x.items) acts
     bytes_ask s bytes ends acts x =
         let all = x.before ++ x.items in
         let kind = kind_of s.goal in

@@ -1,21 +1,13 @@
 -- What becomes of an inbox in a step: a parcel comes to its end, or leaves its front.
-use Rattle.std.proofs.Common.{◌≡◌, ◌⊎◌, ℕ, zero, suc, Bool, true, false, cond, List, [], ◌∷◌, ◌++◌, length, nat_le, nat_lt, slice_get, slice_set, Option, Some, None, refl, sym, subst, ap, ◌∙◌, inl, inr}
-use Rattle.std.specs.Bool.{MatchBool}
+use Rattle.std.proofs.Common.{◌≡◌, ◌⊎◌, ℕ, zero, suc, Bool, true, false, cond, List, [], ◌∷◌, ◌++◌, nat_le, slice_get, slice_set, Option, Some, None, refl, sym, ap, ◌∙◌, inl, inr}
 use Rattle.std.specs.Option.{unwrap_or}
 use Rattle.mq_addr.specs.declared.entry.Asked.{Asked}
-use Rattle.mq_addr.specs.declared.range.Flow.{Flow}
-use Rattle.mq_outside.specs.Nets.{Arrival}
 use Rattle.mq_talk.specs.declared.book.Call.TheVariants as call
 use Rattle.mq_talk.specs.declared.note.End.{End}
-use Rattle.mq_talk.specs.declared.note.Note.{Note}
 use Rattle.mq_talk.specs.declared.place.Origin.TheVariants as origin
 use Rattle.mq_talk.specs.declared.place.Parcel.{Parcel}
 use Rattle.mq_talk.specs.declared.place.Place.{Place}
-use Rattle.mq_talk.specs.declared.place.Verdict.{Verdict}
-use Rattle.mq_talk.specs.declared.place.Verdict.TheVariants as verdict
-use Rattle.mq_talk.specs.Judging.{IsJudged}
-use Rattle.mq_talk.specs.Mails.{box_at, has_room, with_parcel}
-use Rattle.mq_talk.specs.Packets.{flow_of}
+use Rattle.mq_talk.specs.Mails.{box_at, with_parcel}
 use Rattle.mq_machine.specs.declared.act.Act.TheVariants as act
 use Rattle.mq_machine.specs.declared.act.StreamAct.{StreamAct}
 use Rattle.mq_machine.specs.declared.act.StreamAct.TheVariants as stream
@@ -23,18 +15,14 @@ use Rattle.mq_machine.specs.declared.act.Due.{Due}
 use Rattle.mq_machine.specs.declared.act.Due.TheVariants as due
 use Rattle.mq_machine.specs.declared.event.Event.{Event}
 use Rattle.mq_machine.specs.declared.event.Event.TheVariants as event
-use Rattle.mq_machine.specs.declared.setup.Setup.{Setup}
 use Rattle.mq_play.specs.Events.{happen}
 use Rattle.mq_machine.specs.Settle.{gives_up}
 use Rattle.mq_machine.specs.Shared.{Answers, pushing, inbox_of}
 use Rattle.mq_machine.specs.Silent.{Reached, Heard, SeatStarves, takes_memory}
-use Rattle.mq_machine.specs.State.{Conn, Tunnel, Held, Worker, Pump, Shared, State, owed, tunnel_on, values}
-use Rattle.mq_machine.specs.Steps.{failed, port_failed}
-use Rattle.mq_machine.specs.Turn.{PumpTry, PushHeld, SendHeld, SendNext, Receives, PumpNext, parcel_pushed, net_sent, net_popped, net_judged, IsMet, IsReceived, with_arrivals, last_of, Try, Seat, Offers, Inbox, Of}
+use Rattle.mq_machine.specs.State.{Conn, Tunnel, Held, Worker, Shared, State, owed, tunnel_on, values}
+use Rattle.mq_machine.specs.Turn.{Try, Seat, Offers, Inbox, Of}
 use Rattle.mq_machine.specs.Want.{Want, Nothing, Say, Bind, Ask, Judge, Push, Send, Over, Answer, Said, Bound, Replied, Judged, Pushed, Put, want_of, want_by, due_want, tunnel_want, stream_want, ending_want, over_want, most_values}
-use Rattle.mq_play.proofs.Lists.{if_both, some_same}
-use Rattle.mq_runs.proofs.Facts.{InFront, OnlyCloses, failed_closes, port_failed_closes}
-use Rattle.mq_runs.proofs.Walks.{HandlesHeld, map_was}
+use Rattle.mq_runs.proofs.Facts.{InFront}
 
 -- ---- a push is in front
 
@@ -122,26 +110,6 @@ answer_boxes actor sh want answer after x = absurd x
 abbrev pub HeldBoxes : Held → Shared → Shared → Type 0
 HeldBoxes old sh after = (after.boxes ≡ sh.boxes) ⊎ ((parcel : Parcel) × PushFront old.conn parcel × PushesIn sh parcel after)
 
-closes_boxes : (old : Held) (base : Conn) (sh after : Shared) → OnlyCloses base → AnswerBoxes sh (want_of base) after → HeldBoxes old sh after
-closes_boxes old base sh after only (inl same) = inl same
-closes_boxes old base sh after only (inr (parcel, want, pushes)) = let f = want_push base parcel want in absurd (only (stream.Push f.n f.to f.packet) f.front)
-
-own_boxes : (old : Held) (sh after : Shared) → AnswerBoxes sh (want_of old.conn) after → HeldBoxes old sh after
-own_boxes old sh after (inl same) = inl same
-own_boxes old sh after (inr (parcel, want, pushes)) = inr (parcel, want_push old.conn parcel want, pushes)
-
-pub handles_boxes : (setup : Setup) (old : Held) (sh : Shared) → HandlesHeld setup old sh (λ said new after. HeldBoxes old sh after)
-handles_boxes setup old sh = record {
-  acts = λ answer said new after x. own_boxes old sh after (answer_boxes old.conn.actor sh (want_of old.conn) answer after x.answers);
-  link_fails = λ link answer said new after x. closes_boxes old (failed old.conn) sh after (failed_closes old.conn) (answer_boxes old.conn.actor sh (want_of (failed old.conn)) answer after x.answers);
-  port_fails = λ p t answer said new after is can x. closes_boxes old (port_failed old.conn t) sh after (port_failed_closes old.conn t) (answer_boxes old.conn.actor sh (want_of (port_failed old.conn t)) answer after x.answers);
-  frames = λ d is. inl refl;
-  writes = inl refl;
-  reads = λ first c link took. inl refl;
-  ends = λ inside x can. inl refl;
-  receives = λ p datagram others d port arrived came. inl refl;
-}
-
 -- where it was refused memory
 no_push_memory : (want : Want) (parcel : Parcel) → takes_memory want ≡ true → want ≡ Push parcel → ⊥
 no_push_memory (Push p) parcel h e = absurd cc
@@ -203,57 +171,9 @@ abbrev pub HoldsNet : Option Parcel → Type 0
 HoldsNet None = Unit {0}
 HoldsNet (Some parcel) = parcel.from ≡ origin.Net
 
-pub record PumpBoxes (p : Pump) (sh : Shared) (d : Note × Pump × Shared) : Type 0 where
-  pub boxes : (d.2.boxes ≡ sh.boxes) ⊎ (((parcel : Parcel) × (p.to_push ≡ Some parcel) × PushesIn sh parcel d.2) ⊎ ((i : ℕ) × (parcel : Parcel) × (rest : List Parcel) × (slice_get sh.boxes i ≡ Some (parcel ∷ rest)) × (d.2.boxes ≡ slice_set sh.boxes i rest)))
-  pub hand : HoldsNet d.1.to_push
-
-pushed_boxes : (p : Pump) (sh : Shared) (parcel : Parcel) (b : Bool) → p.to_push ≡ Some parcel → PumpBoxes p sh (parcel_pushed p sh parcel b)
-pushed_boxes p sh parcel true is = record { boxes = inr (inl (parcel, is, record { is = refl })); hand = tt }
-pushed_boxes p sh parcel false is = record { boxes = inl refl; hand = tt }
-
-sent_boxes : (p : Pump) (sh : Shared) (parcel : Parcel) → HoldsNet p.to_push → PumpBoxes p sh (net_sent p sh parcel)
-sent_boxes p sh parcel h =
-    if_both (PumpBoxes p sh) p.net.holds.send_fails _ _ (record { boxes = inl refl; hand = h })
-    (if_both (PumpBoxes p sh) p.net.holds.send_waits _ _ (record { boxes = inl refl; hand = h }) (record { boxes = inl refl; hand = h }))
-
-sent_next : (p : Pump) (sh : Shared) (i : ℕ) (parcel : Parcel) (rest : List Parcel) → HoldsNet p.to_push → slice_get sh.boxes i ≡ Some (parcel ∷ rest) → PumpBoxes p sh (net_sent p (record sh { boxes = slice_set sh.boxes i rest }) parcel)
-sent_next p sh i parcel rest h e =
-    if_both (PumpBoxes p sh) p.net.holds.send_fails _ _ (record { boxes = inr (inr (i, parcel, rest, e, refl)); hand = h })
-    (if_both (PumpBoxes p sh) p.net.holds.send_waits _ _ (record { boxes = inr (inr (i, parcel, rest, e, refl)); hand = h }) (record { boxes = inr (inr (i, parcel, rest, e, refl)); hand = h }))
-
 pub box_was : (o : Option (List Parcel)) (parcel : Parcel) (rest : List Parcel) → unwrap_or o [] ≡ parcel ∷ rest → o ≡ Some (parcel ∷ rest)
 box_was None parcel rest e = absurd cc
 box_was (Some box) parcel rest e = ap Some e
-
-next_boxes : (p : Pump) (sh : Shared) (i : ℕ) (box : List Parcel) (d : Note × Pump × Shared) → HoldsNet p.to_push → box_at sh.boxes i ≡ box → net_popped p sh i box ≡ Some d → PumpBoxes p sh d
-next_boxes p sh i [] d h is e = absurd cc
-next_boxes p sh i (parcel ∷ rest) d h is e = subst (PumpBoxes p sh) (some_same e) (sent_next p sh i parcel rest h (box_was (slice_get sh.boxes i) parcel rest is))
-
-judged_boxes : (p q : Pump) (sh : Shared) (n : ℕ) (packet : List ℕ) (said : Verdict) → HoldsNet q.to_push → PumpBoxes p sh (net_judged q sh n packet said)
-judged_boxes p q sh n packet (verdict.Pass to) h = record { boxes = inl refl; hand = refl }
-judged_boxes p q sh n packet verdict.Source h = record { boxes = inl refl; hand = h }
-judged_boxes p q sh n packet verdict.NoRoute h = record { boxes = inl refl; hand = h }
-
-fits_boxes : (b : Bool) (p q : Pump) (sh : Shared) (n : ℕ) (packet : List ℕ) (flow : Flow) (first d : Note × Pump × Shared) → HoldsNet q.to_push → PumpBoxes p sh first
-    → MatchBool b (d ≡ first) ((said : Verdict) × IsJudged sh.config sh.book origin.Net flow said × (d ≡ net_judged q sh n packet said)) → PumpBoxes p sh d
-fits_boxes true p q sh n packet flow first d h f x = subst (PumpBoxes p sh) (sym x) f
-fits_boxes false p q sh n packet flow first d h f x = subst (PumpBoxes p sh) (sym x.2) (judged_boxes p q sh n packet x.0 h)
-
-met_boxes : (p q : Pump) (sh : Shared) (n : ℕ) (packet : List ℕ) (o : Option Flow) (d : Note × Pump × Shared) → HoldsNet q.to_push → IsMet q sh n packet o d → PumpBoxes p sh d
-met_boxes p q sh n packet None d h x = subst (PumpBoxes p sh) (sym x) (record { boxes = inl refl; hand = h })
-met_boxes p q sh n packet (Some flow) d h x = fits_boxes (nat_lt q.mtu (length packet)) p q sh n packet flow _ d h (record { boxes = inl refl; hand = h }) x
-
-received_boxes : (p : Pump) (sh : Shared) (arrived : List Arrival) (d : Note × Pump × Shared) → HoldsNet p.to_push → IsReceived p sh arrived d → PumpBoxes p sh d
-received_boxes p sh [] d h x = absurd x
-received_boxes p sh (first ∷ others) d h x = met_boxes p (record p { net = with_arrivals others p.net }) sh p.net.received first.packet (flow_of first.packet) d h x
-
-pub pump_boxes : (p : Pump) (sh : Shared) (try : PumpTry) (d : Note × Pump × Shared) → HoldsNet p.to_push → PumpNext p sh try d → PumpBoxes p sh d
-pump_boxes p sh PushHeld d h x =
-    let was = map_was (λ (parcel : Parcel). parcel_pushed p sh parcel (has_room sh.boxes (inbox_of sh.boxes parcel.to))) p.to_push d x in
-    subst (PumpBoxes p sh) was.2 (pushed_boxes p sh was.0 (has_room sh.boxes (inbox_of sh.boxes was.0.to)) was.1)
-pump_boxes p sh SendHeld d h x = let was = map_was (net_sent p sh) p.to_send d x in subst (PumpBoxes p sh) was.2 (sent_boxes p sh was.0 h)
-pump_boxes p sh SendNext d h x = next_boxes p sh (last_of sh.boxes) (box_at sh.boxes (last_of sh.boxes)) d h refl x
-pump_boxes p sh Receives d h x = received_boxes p sh p.net.holds.arrived d h x
 
 -- ---- what happens leaves them
 

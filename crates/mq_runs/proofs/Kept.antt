@@ -1,5 +1,5 @@
 -- What each step of a connection keeps holds of every connection in every run from the first state of a plan.
-use Rattle.std.proofs.Common.{◌≡◌, ◌≤◌, ◌⊎◌, ℕ, zero, suc, Bool, true, false, nat_lt, map, List, [], ◌∷◌, length, Option, Some, None, slice_set, option_map, refl, sym, subst, ap, ◌∙◌, inl, inr, append-nil}
+use Rattle.std.proofs.Common.{◌≡◌, ◌≤◌, ◌⊎◌, ℕ, zero, suc, Bool, true, false, nat_lt, List, [], ◌∷◌, length, Option, Some, None, slice_set, option_map, refl, sym, subst, ap, ◌∙◌, inl, inr, append-nil}
 use Rattle.std.specs.Prelude.{find, ◌==◌}
 use Rattle.std.specs.Bool.{MatchBool}
 use Rattle.std.specs.List.{AllByRecursion}
@@ -23,7 +23,7 @@ use Rattle.mq_machine.specs.declared.event.Event.{Event}
 use Rattle.mq_machine.specs.declared.event.Event.TheVariants as event
 use Rattle.mq_machine.specs.declared.setup.Setup.{Setup}
 use Rattle.mq_machine.specs.Words.{onward}
-use Rattle.mq_machine.specs.State.{Conn, new_conn, Tunnel, Link, Port, Held, Offer, Worker, new_worker, Pump, Shared, State, tunnel_of, kind_of}
+use Rattle.mq_machine.specs.State.{Conn, new_conn, Tunnel, Port, Held, Offer, Worker, new_worker, Pump, Shared, State, tunnel_of, kind_of}
 use Rattle.mq_machine.specs.Want.{Want, Over, Answer, want_of, may_wait}
 use Rattle.mq_machine.specs.Done.{Done, done}
 use Rattle.mq_machine.specs.Reading.{TookNext}
@@ -32,9 +32,10 @@ use Rattle.mq_machine.specs.Silent.{Reached, Heard, SeatStarves, SilentTurn, tun
 use Rattle.mq_machine.specs.Steps.{can_read, framed, wrote, finished, failed, given_up, starved, queued, passed_on, settled_note, received, port_failed}
 use Rattle.mq_machine.specs.Turn.{HeldDone, with_conn, over_or, ActNext, write_count, Seat, Offers, Inbox, Of, accepted, replace, came_to, tunnel_in, popped, has_tunnel, SeatNext, source_of, PumpTry, PushHeld, SendHeld, SendNext, Receives, PumpNext, parcel_pushed, net_sent, net_popped, net_judged, IsMet, IsReceived, with_arrivals, last_of, Actor, WorkerOf, ThePump, Turn}
 use Rattle.mq_play.specs.declared.plan.Plan.{Plan}
-use Rattle.mq_play.specs.Events.{new_workers, state_of, at_held, at_worker, with_ports, with_held_ports, offered_to, happen}
-use Rattle.mq_play.proofs.Lists.{if_both, each_append, each_map, each_at, each_set, each_found}
+use Rattle.mq_play.specs.Events.{new_workers, state_of, happen}
+use Rattle.mq_play.proofs.Lists.{if_both, each_append, each_at, each_set, each_found}
 use Rattle.mq_runs.specs.Runs.{Moment, Happened, Noted, Refused, Goes, Run}
+use Rattle.mq_runs.proofs.Conns.{replaced_have, happen_have}
 use Rattle.mq_runs.proofs.Books.{Grows, grows_same, grows_on, grows_long, IsGivenAt, answer_grows}
 use Rattle.mq_runs.proofs.Walks.{HandlesHeld, try_walk}
 
@@ -135,11 +136,6 @@ module _ (K : Setup → ℕ → Conn → Type 0) (keeps : Keeps K) where
 
   -- ---- a worker
 
-  replaced : (setup : Setup) (n k : ℕ) (new : Option Held) (hs : List Held) → Became setup n new → AllByRecursion (HeldHas setup n) hs → AllByRecursion (HeldHas setup n) (replace k new hs)
-  replaced setup n k new [] b h = tt
-  replaced setup n k None (g ∷ hs) b h = if_both (λ hs. AllByRecursion (HeldHas setup n) hs) (g.conn.number == k) hs (g ∷ replace k None hs) h.1 (h.0, replaced setup n k None hs b h.1)
-  replaced setup n k (Some f) (g ∷ hs) b h = if_both (λ hs. AllByRecursion (HeldHas setup n) hs) (g.conn.number == k) (f ∷ hs) (g ∷ replace k (Some f) hs) (b, h.1) (h.0, replaced setup n k (Some f) hs b h.1)
-
   abbrev Found : Setup → ℕ → Option (Held × Tunnel) → Type 0
   Found setup n None = Unit {0}
   Found setup n (Some found) = HeldHas setup n found.0
@@ -172,7 +168,7 @@ module _ (K : Setup → ℕ → Conn → Type 0) (keeps : Keeps K) where
         | inr (found, some) ↦ (
             let p : Found w.setup n (Some found) = subst (Found w.setup n) some (found_in w.setup n w parcel.to h) in
             let came = passed_has w.setup n found.0.conn found.1 (source_of parcel.from) parcel.n (onward parcel.packet) p in
-            rw some (replaced w.setup n found.0.conn.number (Some (came_to found.0 found.1 parcel).1) w.conns came h))
+            rw some (replaced_have (λ setup c. K setup n c) w.setup found.0.conn.number (Some (came_to found.0 found.1 parcel).1) w.conns came h))
       ]
 
   abbrev Accepts : ℕ → Option (Note × Worker) → Type 0
@@ -192,7 +188,7 @@ module _ (K : Setup → ℕ → Conn → Type 0) (keeps : Keeps K) where
       → next.setup ≡ old.setup → next.conns ≡ replace k new old.conns → TurnSo sh next after
   turn_held old sh k new after next h step setup conns =
       let n = length after.book in
-      let all = replaced old.setup n k new old.conns step.held (held_more old.setup (length sh.book) n old.conns (grows_long sh after step.grows) h) in
+      let all = replaced_have (λ setup c. K setup n c) old.setup k new old.conns step.held (held_more old.setup (length sh.book) n old.conns (grows_long sh after step.grows) h) in
       record {
         worker = subst (λ (s : Setup). AllByRecursion (HeldHas s n) next.conns) (sym setup) (subst (λ (hs : List Held). AllByRecursion (HeldHas old.setup n) hs) (sym conns) all);
         grows = step.grows;
@@ -321,34 +317,19 @@ module _ (K : Setup → ℕ → Conn → Type 0) (keeps : Keeps K) where
 
   -- ---- what happens
 
-  have_link : (n k : ℕ) (change : Link → Link) (ws : List Worker) → AllByRecursion (Have n) ws → AllByRecursion (Have n) (map (at_worker k change) ws)
-  have_link n k change ws h =
-      each_map (Have n) (Have n) (at_worker k change) ws
-      (λ w p. each_map (HeldHas w.setup n) (HeldHas w.setup n) (at_held k change) w.conns (λ g q. if_both (HeldHas w.setup n) (g.conn.number == k) (record g { link = change g.link }) g q q) p) h
-
-  have_port : (n k : ℕ) (change : Port → Port) (ws : List Worker) → AllByRecursion (Have n) ws → AllByRecursion (Have n) (map (with_held_ports k change) ws)
-  have_port n k change ws h =
-      each_map (Have n) (Have n) (with_held_ports k change) ws
-      (λ w p. each_map (HeldHas w.setup n) (HeldHas w.setup n) (with_ports k change) w.conns (λ g q. q) p) h
-
-  have_offered : (n actor number : ℕ) (ws : List Worker) → AllByRecursion (Have n) ws → AllByRecursion (Have n) (offered_to actor number ws)
-  have_offered n actor number [] h = tt
-  have_offered n zero number (w ∷ ws) h = (h.0, h.1)
-  have_offered n (suc actor) number (w ∷ ws) h = (h.0, have_offered n actor number ws h.1)
-
   pub on_happen : (s : State) (e : Event) → AllHave s → On s (happen s e)
-  on_happen s (event.Conn actor) h = record { have = have_offered (length s.shared.book) actor (length s.links) s.workers h; grows = grows_same s.shared }
-  on_happen s (event.Piece conn bytes) h = record { have = have_link (length s.shared.book) conn _ s.workers h; grows = grows_same s.shared }
-  on_happen s (event.End conn) h = record { have = have_link (length s.shared.book) conn _ s.workers h; grows = grows_same s.shared }
-  on_happen s (event.Room conn room) h = record { have = have_link (length s.shared.book) conn _ s.workers h; grows = grows_same s.shared }
-  on_happen s (event.FailRead conn) h = record { have = have_link (length s.shared.book) conn _ s.workers h; grows = grows_same s.shared }
-  on_happen s (event.FailWrite conn) h = record { have = have_link (length s.shared.book) conn _ s.workers h; grows = grows_same s.shared }
-  on_happen s (event.Datagram tunnel bytes) h = record { have = have_port (length s.shared.book) tunnel _ s.workers h; grows = grows_same s.shared }
-  on_happen s (event.FailPort tunnel) h = record { have = have_port (length s.shared.book) tunnel _ s.workers h; grows = grows_same s.shared }
-  on_happen s event.FailBind h = record { have = h; grows = record { config = refl; more = []; book = sym (append-nil s.shared.book) } }
-  on_happen s event.FailNet h = record { have = h; grows = grows_same s.shared }
-  on_happen s (event.Packet count bytes) h = record { have = h; grows = grows_same s.shared }
-  on_happen s (event.Step actor) h = record { have = h; grows = grows_same s.shared }
+  on_happen s (event.Conn actor) h = record { have = happen_have (λ setup c. K setup (length s.shared.book) c) s (event.Conn actor) h; grows = grows_same s.shared }
+  on_happen s (event.Piece conn bytes) h = record { have = happen_have (λ setup c. K setup (length s.shared.book) c) s (event.Piece conn bytes) h; grows = grows_same s.shared }
+  on_happen s (event.End conn) h = record { have = happen_have (λ setup c. K setup (length s.shared.book) c) s (event.End conn) h; grows = grows_same s.shared }
+  on_happen s (event.Room conn room) h = record { have = happen_have (λ setup c. K setup (length s.shared.book) c) s (event.Room conn room) h; grows = grows_same s.shared }
+  on_happen s (event.FailRead conn) h = record { have = happen_have (λ setup c. K setup (length s.shared.book) c) s (event.FailRead conn) h; grows = grows_same s.shared }
+  on_happen s (event.FailWrite conn) h = record { have = happen_have (λ setup c. K setup (length s.shared.book) c) s (event.FailWrite conn) h; grows = grows_same s.shared }
+  on_happen s (event.Datagram tunnel bytes) h = record { have = happen_have (λ setup c. K setup (length s.shared.book) c) s (event.Datagram tunnel bytes) h; grows = grows_same s.shared }
+  on_happen s (event.FailPort tunnel) h = record { have = happen_have (λ setup c. K setup (length s.shared.book) c) s (event.FailPort tunnel) h; grows = grows_same s.shared }
+  on_happen s event.FailBind h = record { have = happen_have (λ setup c. K setup (length s.shared.book) c) s event.FailBind h; grows = record { config = refl; more = []; book = sym (append-nil s.shared.book) } }
+  on_happen s event.FailNet h = record { have = happen_have (λ setup c. K setup (length s.shared.book) c) s event.FailNet h; grows = grows_same s.shared }
+  on_happen s (event.Packet count bytes) h = record { have = happen_have (λ setup c. K setup (length s.shared.book) c) s (event.Packet count bytes) h; grows = grows_same s.shared }
+  on_happen s (event.Step actor) h = record { have = happen_have (λ setup c. K setup (length s.shared.book) c) s (event.Step actor) h; grows = grows_same s.shared }
 
   -- ---- runs
 

@@ -1,5 +1,12 @@
 mod Bridge
 mod Walks
+mod Wells
+mod Pushes
+mod Behind
+mod Came
+mod Conns
+mod Passing
+mod Passes
 mod Books
 mod Facts
 mod Kept

@@ -23,7 +23,8 @@ use Rattle.mq_runs.specs.Order.{delivered_of, IsRising}
 use Rattle.mq_runs.specs.Runs.{Moment, Happened, Noted, Refused, Goes, Run, notes_of}
 use Rattle.mq_runs.proofs.Books.{grows_long}
 use Rattle.mq_runs.proofs.Bounds.{hit_parts}
-use Rattle.mq_runs.proofs.Boxes.{HoldsNet, pump_boxes}
+use Rattle.mq_runs.proofs.Boxes.{HoldsNet}
+use Rattle.mq_runs.proofs.Pushes.{pump_boxes}
 use Rattle.mq_runs.proofs.Bridge.{run_append, notes_append}
 use Rattle.mq_runs.proofs.Flight.{Key, past, in_what, waits_in, end_of}
 use Rattle.mq_runs.proofs.Keeping.{Sound, keeps_sound}

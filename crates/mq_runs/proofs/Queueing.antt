@@ -124,7 +124,7 @@ handles_says setup w box old sh among = record {
 -- ---- through the inbox
 
 -- the tunnel that is found has the number of the place
-abbrev FoundNumber : Place → Option (Held × Tunnel) → Type 0
+abbrev pub FoundNumber : Place → Option (Held × Tunnel) → Type 0
 FoundNumber to None = Unit {0}
 FoundNumber to (Some found) = (actor : ℕ) × (to ≡ place.Tunnel found.1.id actor)
 
@@ -132,7 +132,7 @@ number_for_ip : (to : Place) (h : Held) (t : Tunnel) (k : Kind) → ((actor : �
 number_for_ip to h t kind.Udp p o none some = subst (FoundNumber to) (sym (none refl)) tt
 number_for_ip to h t kind.Ip p o none some = subst (FoundNumber to) (sym (some refl)) p
 
-found_number : (w : Worker) (to : Place) → FoundNumber to (tunnel_in w to)
+pub found_number : (w : Worker) (to : Place) → FoundNumber to (tunnel_in w to)
 found_number w place.Net = tt
 found_number w (place.Tunnel tunnel actor) =
     elim (cases_of (find (has_tunnel tunnel) w.conns)) [

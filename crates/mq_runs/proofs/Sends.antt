@@ -13,18 +13,18 @@ use Rattle.mq_machine.specs.declared.act.Due.TheVariants as due
 use Rattle.mq_machine.specs.Lawful.{IsLawful, IsAsked, IsAskedOf, IsOfIp, IsOfUdp, Follows, kind_on}
 use Rattle.mq_machine.specs.Shared.{inbox_of}
 use Rattle.mq_machine.specs.State.{Conn, Tunnel, Held, Worker, Shared, State, kind_of}
-use Rattle.mq_machine.specs.Turn.{source_of, Seat, Offers, Inbox, Of, SeatNext, last_of}
+use Rattle.mq_machine.specs.Turn.{source_of, Seat, SeatNext, last_of}
 use Rattle.mq_machine.specs.Want.{Answer}
-use Rattle.mq_runs.proofs.Boxes.{PushFront, PushesIn, HeldBoxes, handles_boxes, BoxPushed, pushed_box, BoxPopped, popped_box}
+use Rattle.mq_runs.proofs.Boxes.{PushFront, PushesIn, BoxPushed, pushed_box, BoxPopped, popped_box}
 use Rattle.mq_runs.proofs.Facts.{InFront}
 use Rattle.mq_runs.proofs.Flight.{Key, is_own}
 use Rattle.mq_runs.proofs.Measures.{Measure, Takes, sum_state}
 use Rattle.mq_runs.proofs.Moving.{parcel_hit, in_boxes}
 use Rattle.mq_runs.proofs.Pumps.{in_hand}
+use Rattle.mq_runs.proofs.Pushes.{seat_pushes}
 use Rattle.mq_runs.proofs.Ranks.{behind, behind_push, zero_or, Among, found_among}
 use Rattle.mq_runs.proofs.Sums.{total, total_append, total_push, cond_fewer}
 use Rattle.mq_runs.proofs.Tokens.{past_one, early, waits_push, own_book, own_less, own_opens}
-use Rattle.mq_runs.proofs.Walks.{try_walk}
 use Rattle.mq_runs.proofs.Whole.{in_state}
 use Rattle.mq_runs.proofs.Workers.{box_sum}
 
@@ -103,16 +103,13 @@ SeatBoxes w sh after =
     (after.boxes ≡ sh.boxes) ⊎ (((h : Held) × (parcel : Parcel) × Among h w.conns × PushFront h.conn parcel × PushesIn sh parcel after)
     ⊎ ((parcel : Parcel) × (rest : List Parcel) × (slice_get sh.boxes w.id ≡ Some (parcel ∷ rest)) × (after.boxes ≡ slice_set sh.boxes w.id rest)))
 
-held_seat : (w : Worker) (h : Held) (sh after : Shared) → Among h w.conns → HeldBoxes h sh after → SeatBoxes w sh after
-held_seat w h sh after among (inl same) = inl same
-held_seat w h sh after among (inr (parcel, p, pushes)) = inr (inl (h, parcel, among, p, pushes))
-
 pub seat_boxes : (w : Worker) (sh : Shared) (seat : Seat) (answer : Answer) (said : Note) (new : Worker) (after : Shared) → SeatNext w sh seat answer said new after → SeatBoxes w sh after
-seat_boxes w sh Offers answer said new after x = inl (ap (λ (s : Shared). s.boxes) x.2)
-seat_boxes w sh Inbox answer said new after x = inr (inr (x.1.parcel, x.1.rest, x.1.box, ap (λ (s : Shared). s.boxes) x.1.after_is))
-seat_boxes w sh (Of n) answer said new after x =
-    let among = found_among (λ (h : Held). h.conn.number == n) w.conns x.held x.has in
-    held_seat w x.held sh after among (try_walk w.setup x.held sh (λ said new after. HeldBoxes x.held sh after) (handles_boxes w.setup x.held sh) x.try answer said x.became after x.tries x.next)
+seat_boxes w sh seat answer said new after x =
+    elim (seat_pushes w sh seat answer said new after x) [
+      | inl same ↦ inl same
+      | inr (inl push) ↦ inr (inl (push.held, push.parcel, found_among (λ (h : Held). h.conn.number == push.conn) w.conns push.held push.has, push.front, push.pushes))
+      | inr (inr popped) ↦ inr (inr popped)
+    ]
 
 module _ (k : Key) (a last : ℕ) where
   abbrev pub sooner : Key

@@ -19,7 +19,8 @@ use Rattle.mq_machine.specs.Turn.{source_of, Seat, Offers, Inbox, Of, SeatNext, 
 use Rattle.mq_play.specs.Events.{happen}
 use Rattle.mq_play.proofs.Lists.{each_at}
 use Rattle.mq_runs.proofs.Bounds.{hit_parts, no_parcel, push_least, hand_least, port_least, push_none_left, hand_none_left, port_none_left}
-use Rattle.mq_runs.proofs.Boxes.{PushesIn, HeldBoxes, handles_boxes, starves_boxes, BoxPushed, pushed_box, BoxPopped, popped_box, HoldsNet, pump_boxes, happen_boxes}
+use Rattle.mq_runs.proofs.Boxes.{PushesIn, HeldBoxes, starves_boxes, BoxPushed, pushed_box, BoxPopped, popped_box, HoldsNet, happen_boxes}
+use Rattle.mq_runs.proofs.Pushes.{pump_boxes, try_boxes}
 use Rattle.mq_runs.proofs.Flight.{Key, past}
 use Rattle.mq_runs.proofs.Measures.{Measure, AllTake, seat_sum, starves_sum, worker_sum, other_sum, sum_worker, sum_if, sum_state, happen_sum}
 use Rattle.mq_runs.proofs.Moving.{parcel_hit}
@@ -28,7 +29,6 @@ use Rattle.mq_runs.proofs.Ranks.{behind, behind_push, behind_front, zero_or, Amo
 use Rattle.mq_runs.proofs.Sums.{total, total_append, total_zero, cond_fewer}
 use Rattle.mq_runs.proofs.Tidy.{Neat}
 use Rattle.mq_runs.proofs.Tokens.{past_one, counted, count_queue, count_measure, early, rank_queue, rank_measure, takes_rank, takes_count, own_measure, to_target, parceled, here, waiting_of, waiting_ranks, boxed_of, boxed_ranks, before_of, Lined, Shifts}
-use Rattle.mq_runs.proofs.Walks.{try_walk}
 use Rattle.mq_runs.proofs.Whole.{in_state, NumbersFit, AllFit, fit_few}
 use Rattle.mq_runs.proofs.Workers.{numbered}
 
@@ -400,7 +400,7 @@ module _ (k : Key) (a target actor : ℕ) where
           box_popped s t w.id y.1.parcel y.1.rest (subst (λ boxes. BoxPopped s.shared.boxes boxes w.id actor y.1.parcel y.1.rest) (sym is) (popped_box s.shared.boxes w.id actor y.1.parcel y.1.rest y.1.box))
       seat_shift (Of n) y =
           let among = found_among (λ (h : Held). h.conn.number == n) w.conns y.held y.has in
-          held_shift y.held among (try_walk w.setup y.held s.shared (λ said new after. HeldBoxes y.held s.shared after) (handles_boxes w.setup y.held s.shared) y.try x.answer said y.became x.shared y.tries y.next)
+          held_shift y.held among (try_boxes w.setup y.held s.shared y.try x.answer said y.became x.shared y.tries y.next)
 
       pub worker_shifts : Shifts k a target actor s t
       worker_shifts = let b = seat_shift x.turn.seat x.turn.next in shifts_of s t down b (waits_shift b)

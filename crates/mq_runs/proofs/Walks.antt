@@ -31,7 +31,7 @@ pub found_passes : {A : Type 0} (p : A → Bool) (xs : List A) (y : A) → find 
 found_passes p [] y e = absurd cc
 found_passes p (x ∷ xs) y e = found_by p (p x) x y (find p xs) refl e (found_passes p xs y)
 
-left_true : (a b : Bool) → a && b ≡ true → a ≡ true
+pub left_true : (a b : Bool) → a && b ≡ true → a ≡ true
 left_true true b h = refl
 left_true false b h = h
 

@@ -1,21 +1,26 @@
 -- What is so in every run.
-use Rattle.std.specs.Prelude.{◌≡◌, ℕ, ◌≤◌, List, ◌++◌}
+use Rattle.std.specs.Prelude.{◌≡◌, ℕ, ◌≤◌, List, ◌++◌, Some}
 use Rattle.std.specs.List.{AllByRecursion}
 use Rattle.mq_runs.specs.Order.{delivered_of, sent_of, IsRising}
 use Rattle.mq_play.specs.Play.{Fate, SomeStop, Stage, opening, opened, PlaysLine, Plays}
 use Rattle.mq_play.specs.declared.plan.Plan.{Plan}
 use Rattle.mq_talk.specs.declared.note.Note.{Note}
 use Rattle.mq_machine.specs.State.{State}
-use Rattle.mq_machine.specs.Turn.{Actor, WorkerOf}
+use Rattle.mq_machine.specs.Turn.{Actor, WorkerOf, ThePump, source_of}
 use Rattle.mq_talk.specs.declared.note.From.{From}
 use Rattle.mq_talk.specs.declared.note.From.TheVariants as source
 use Rattle.mq_machine.specs.declared.act.StreamAct.TheVariants as stream
 use Rattle.mq_runs.specs.Payloads.{IsNext}
 use Rattle.mq_talk.specs.declared.note.Note.TheVariants as note
 use Rattle.mq_talk.specs.declared.place.Cause.{Cause}
+use Rattle.mq_talk.specs.declared.place.Origin.{Origin}
+use Rattle.mq_talk.specs.declared.place.Origin.TheVariants as origin
+use Rattle.mq_talk.specs.declared.place.Parcel.{Parcel}
+use Rattle.mq_talk.specs.declared.place.Place.{Place}
 use Rattle.mq_play.specs.Events.{state_of}
 use Rattle.mq_runs.specs.Causes.{Holds}
 use Rattle.mq_runs.specs.Ends.{ends_of, IsCounted}
+use Rattle.mq_runs.specs.Pushed.{NetPassed, TunnelPassed, WentOn, CameAs}
 use Rattle.mq_runs.specs.Runs.{Moment, Noted, Goes, Run, notes_of, IsRunOf, Comes}
 use Rattle.mq_runs.specs.Written.{IsTrueOf}
 
@@ -56,3 +61,25 @@ abbrev pub PutAsItCame : Type 0
 PutAsItCame = (plan : Plan) (before : List Moment) (here next : State) (number : ℕ) (from : From) (n : ℕ) (payload : List ℕ)
     → Run (state_of plan) before here → Goes here (Noted (WorkerOf number) (note.Sent from n payload)) next
     → (tunnel : ℕ) × (from ≡ source.Tunnel tunnel) × IsNext here tunnel (stream.Payload n payload)
+
+-- What a tunnel delivers passed, was pushed to it and came to wait there, one before the other, and is that packet with its hop
+-- limit lowered; or its port gave it so.
+abbrev pub DeliveredAsItCame : Type 0
+DeliveredAsItCame = (plan : Plan) (before : List Moment) (here next : State) (number : ℕ) (from : From) (n tunnel : ℕ) (packet : List ℕ)
+    → Run (state_of plan) before here → Goes here (Noted (WorkerOf number) (note.Delivered from n tunnel packet)) next → CameAs plan before tunnel from n packet
+
+-- What the pump sends passed, and was pushed then, and is unchanged.
+abbrev pub SentAsPushed : Type 0
+SentAsPushed = (plan : Plan) (before : List Moment) (here next : State) (from : From) (n : ℕ) (packet : List ℕ)
+    → Run (state_of plan) before here → Goes here (Noted ThePump (note.Sent from n packet)) next
+    → (first : Origin) × (to : Place) × (from ≡ source_of first) × WentOn plan before first n to packet
+
+-- What the pump holds for pushing is a packet that the network gave before, with its number, and that passed to its place.
+abbrev pub HeldAsItPassed : Type 0
+HeldAsItPassed = (plan : Plan) (before : List Moment) (here : State) (parcel : Parcel)
+    → Run (state_of plan) before here → here.pump.to_push ≡ Some parcel → (parcel.from ≡ origin.Net) × NetPassed plan before parcel.n parcel.to parcel.packet
+
+-- What a tunnel has to push next was judged before, as the packet with its number, and passed to its place.
+abbrev pub PushedAsItPassed : Type 0
+PushedAsItPassed = (plan : Plan) (before : List Moment) (here : State) (tunnel n : ℕ) (to : Place) (packet : List ℕ)
+    → Run (state_of plan) before here → IsNext here tunnel (stream.Push n to packet) → TunnelPassed plan before tunnel n to packet

@@ -1,5 +1,5 @@
 //! Laws of runs, each the contract of a function without a body.
-ghost use Rattle.mq_runs.specs.Laws.{CausesHeld, DeliveredInOrder, IsARun, JudgedOnWhatWasWritten, NoTwoEnds, PutAsItCame, SentInOrder};
+ghost use Rattle.mq_runs.specs.Laws.{CausesHeld, DeliveredAsItCame, DeliveredInOrder, HeldAsItPassed, IsARun, JudgedOnWhatWasWritten, NoTwoEnds, PushedAsItPassed, PutAsItCame, SentAsPushed, SentInOrder};
 
 use mq_capsule::{is_read_once, is_readable, is_within_limits};
 use mq_machine::stays_lawful;
@@ -55,4 +55,44 @@ pub fn put_as_it_came()
     ensures { PutAsItCame }
 {
     is_within_limits();
+}
+
+/// What a tunnel delivers was pushed to it, or its port gave it.
+pub fn delivered_as_it_came()
+    ensures { DeliveredAsItCame }
+{
+    is_within_limits();
+    stays_lawful();
+    is_readable();
+    is_read_once();
+}
+
+/// What the pump sends was pushed, and is unchanged.
+pub fn sent_as_pushed()
+    ensures { SentAsPushed }
+{
+    is_within_limits();
+    stays_lawful();
+    is_readable();
+    is_read_once();
+}
+
+/// What the pump holds for pushing is a packet that the network gave, and passed.
+pub fn held_as_it_passed()
+    ensures { HeldAsItPassed }
+{
+    is_within_limits();
+    stays_lawful();
+    is_readable();
+    is_read_once();
+}
+
+/// What a tunnel has to push passed, to its place.
+pub fn pushed_as_it_passed()
+    ensures { PushedAsItPassed }
+{
+    is_within_limits();
+    stays_lawful();
+    is_readable();
+    is_read_once();
 }

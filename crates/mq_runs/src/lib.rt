@@ -2,12 +2,13 @@
 //! body.
 //!
 //! The definitions stand in specs/, in this reading order: Runs (what a run is), Payloads (by their numbers), Written (what the
-//! book says), Causes (of drops), Ends, Order, and Laws.
+//! book says), Pushed (to an inbox), Causes (of drops), Ends, Order, and Laws.
 #![tactic(auto)]
 
 mod laws;
 
 pub use laws::{
-    causes_held, delivered_in_order, is_a_run, judged_on_what_was_written, no_two_ends,
-    put_as_it_came, sent_in_order,
+    causes_held, delivered_as_it_came, delivered_in_order, held_as_it_passed, is_a_run,
+    judged_on_what_was_written, no_two_ends, pushed_as_it_passed, put_as_it_came, sent_as_pushed,
+    sent_in_order,
 };

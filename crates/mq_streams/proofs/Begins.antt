@@ -44,6 +44,7 @@ module _ (h : History) (b f : ℕ) (c : Connection) (rows : List Stream) (before
         connection_is = connection;
         later_are_fresh = λ j above. stays_fresh h event j (quiet j) (is.later_are_fresh j (omega arith));
         came_first = is.came_first;
+        kept = (tt, is.kept);
       }
 
   pub after_open : (id : ℕ) → b < id → (b' : ℕ) → b' ≡ id → (rows' : List Stream) (row : Stream) → rows' ≡ rows ++ row ∷ [] → row.id ≡ id → (IsFresh h id → IsRow (Opened id ∷ h) id row) →
@@ -62,6 +63,7 @@ module _ (h : History) (b f : ℕ) (c : Connection) (rows : List Stream) (before
         connection_is = connection;
         later_are_fresh = λ j later. stays_fresh h event j (quiet j) (is.later_are_fresh j (omega arith));
         came_first = is.came_first;
+        kept = (tt, is.kept);
       }
 
   pub after_turning_away : (id : ℕ) → b < id → (b' : ℕ) → b' ≡ id → (rows' : List Stream) → rows' ≡ rows → IsConnection (TurnedAway id ∷ h) c → AreOf (TurnedAway id ∷ h) b' f c rows'
@@ -77,4 +79,5 @@ module _ (h : History) (b f : ℕ) (c : Connection) (rows : List Stream) (before
         connection_is = connection;
         later_are_fresh = λ j later. stays_fresh h event j (quiet j) (is.later_are_fresh j (omega arith));
         came_first = is.came_first;
+        kept = (tt, is.kept);
       }

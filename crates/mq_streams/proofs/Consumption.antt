@@ -104,7 +104,7 @@ module _ (h : History) (b f : ℕ) (c : Connection) (rows : List Stream) (is : A
             has_no_part (Consumed id n) j (λ earlier. refl) refl (rw (nothing, eq-eqb id j same) refl) refl refl refl
         | inr differs ↦ of_another (Consumed id n) j differs
       ])
-      f is.first_is c' connection (within, is.came_first)
+      f is.first_is c' connection (within, is.came_first) tt
 
 -- on one stream
 pub within_one : (h : History) → ConsumesWhatCame h → (id : ℕ) → total (consumed_on id) h ≤ total (arrived_on id) h

@@ -4,6 +4,7 @@ use Rattle.std.proofs.lemmas.Bool.{eq-eqb, ne_eqb}
 use Rattle.std.proofs.lemmas.Int.{ints}
 use Rattle.mq_streams.specs.History.{Event, History, Opened, Arrived, Discarded, Consumed, GivenBack, Extended, Sent, Finished, total, arrived_on, arrived, consumed_on, consumed, given_back_on, extended_on, sent}
 use Rattle.mq_streams.specs.Balance.{IsBalance}
+use Rattle.mq_streams.specs.Answers.{receive_window, connection_receive_window}
 use Rattle.mq_streams.specs.Stand.{IsRow, IsFresh, IsConnection}
 use Rattle.mq_streams.specs.declared.stream.Stream.{Stream}
 use Rattle.mq_streams.specs.declared.connection.Connection.{Connection}
@@ -127,3 +128,10 @@ module _ (h : History) (old : Connection) (is : IsConnection h old) (new : Conne
 -- what has just come may be consumed
 pub counted_here : (h : History) (id n : ℕ) → total (consumed_on id) h ≤ total (arrived_on id) h → total (consumed_on id) (Arrived id n ∷ h) + n ≤ total (arrived_on id) (Arrived id n ∷ h)
 counted_here h id n within = rw (itself id n) (omega arith)
+
+-- what came was within its windows, since these are what is left of them
+pub arrived_within : (h : History) (id n : ℕ) (row : Stream) → IsRow (Arrived id n ∷ h) id row → (c : Connection) → IsConnection (Arrived id n ∷ h) c → (n ≤ receive_window id h) × (n ≤ connection_receive_window h)
+arrived_within h id n row is c connection = (omega (arith, is.receiving.room, itself id n), omega (arith, connection.receiving.room))
+
+pub discarded_within : (h : History) (id n : ℕ) (c : Connection) → IsConnection (Discarded id n ∷ h) c → n ≤ connection_receive_window h
+discarded_within h id n c connection = omega (arith, connection.receiving.room)

@@ -4,6 +4,7 @@ use Rattle.std.proofs.lemmas.Bool.{cases_lt, cases_eq, ne_eqb}
 use Rattle.std.proofs.lemmas.List.{get_or-set_same, get_or-set_other, length-set}
 use Rattle.mq_streams.specs.History.{Event, History, Opened, TurnedAway, Arrived, Discarded, Consumed, GivenBack, Extended, Shifted, Sent, Finished, Dropped, total, arrived_on, consumed_on, given_back_on, extended_on, sent_on, initial, highest, live, has_finished}
 use Rattle.mq_streams.specs.Stand.{IsRow, IsFresh, IsConnection, AreOf, ConsumesWhatCame}
+use Rattle.mq_streams.specs.Windows.{KeepsTo}
 use Rattle.mq_streams.specs.declared.stream.Stream.{Stream}
 use Rattle.mq_streams.specs.declared.connection.Connection.{Connection}
 use Rattle.mq_streams.specs.Rows.{Rise, AreUpTo}
@@ -122,6 +123,7 @@ pub record Puts (h : History) (event : Event) (rows rows' : List Stream) (new : 
   pub row : IsRow (event ∷ h) id new
   pub connection : IsConnection (event ∷ h) c
   pub came : ConsumesWhatCame (event ∷ h)
+  pub keeps : KeepsTo event h
 
 -- the event begins no stream, closes none, and is no new initial window
 pub record LeavesStreams (h : History) (event : Event) : Type 0 where
@@ -144,6 +146,7 @@ after_put h b f c rows before event leaves b' b_is c' rows' new puts =
       connection_is = puts.connection;
       later_are_fresh = λ id above. stays_fresh h event id (of_another event id (λ e. let o = puts.of in omega arith)) (is.later_are_fresh id (omega arith));
       came_first = puts.came;
+      kept = (puts.keeps, is.kept);
     }
 
 -- the row that was found, by the history
@@ -158,8 +161,8 @@ found_row h b f c rows is at within old old_is id here =
 pub after_none : (h : History) (b f : ℕ) (c : Connection) (rows : List Stream) → Before h b f c rows → (event : Event) →
     highest (event ∷ h) ≡ highest h → live (event ∷ h) ≡ live h →
     All (λ row. HasNoPart event row.id) rows → ((id : ℕ) → b < id → HasNoPart event id) →
-    (f' : ℕ) → f' ≡ initial (event ∷ h) → (c' : Connection) → IsConnection (event ∷ h) c' → ConsumesWhatCame (event ∷ h) → AreOf (event ∷ h) b f' c' rows
-after_none h b f c rows before event highest_is live_is none later f' f_is c' connection came =
+    (f' : ℕ) → f' ≡ initial (event ∷ h) → (c' : Connection) → IsConnection (event ∷ h) c' → ConsumesWhatCame (event ∷ h) → KeepsTo event h → AreOf (event ∷ h) b f' c' rows
+after_none h b f c rows before event highest_is live_is none later f' f_is c' connection came keeps =
     let is = before.is in
     record {
       begun_is = is.begun_is ∙ sym highest_is;
@@ -169,6 +172,7 @@ after_none h b f c rows before event highest_is live_is none later f' f_is c' co
       connection_is = connection;
       later_are_fresh = λ id above. stays_fresh h event id (later id above) (is.later_are_fresh id above);
       came_first = came;
+      kept = (keeps, is.kept);
     }
 
 -- a row is no connection's

@@ -4,3 +4,4 @@ pub mod History
 pub mod Rows
 pub mod Stand
 pub mod Takers
+pub mod Windows

@@ -2,6 +2,7 @@
 use Rattle.std.specs.Prelude.{◌≡◌, ℕ, ◌+◌, ◌≤◌, ◌<◌, false, List, [], ◌∷◌, All, map}
 use Rattle.mq_streams.specs.History.{History, first_window, Consumed, total, arrived_on, arrived, consumed_on, consumed, given_back_on, extended_on, sent_on, sent, initial, highest, live, has_finished}
 use Rattle.mq_streams.specs.Balance.{IsBalance}
+use Rattle.mq_streams.specs.Windows.{PassesNoWindow}
 use Rattle.mq_streams.specs.declared.receiving.Receiving.{Receiving}
 use Rattle.mq_streams.specs.declared.stream.Stream.{Stream}
 use Rattle.mq_streams.specs.declared.connection.Connection.{Connection}
@@ -47,6 +48,7 @@ pub record AreOf (h : History) (begun first : ℕ) (connection : Connection) (ro
   pub connection_is : IsConnection h connection
   pub later_are_fresh : (id : ℕ) → begun < id → IsFresh h id
   pub came_first : ConsumesWhatCame h
+  pub kept : PassesNoWindow h
 
 -- the streams stand for this history
 abbrev pub StandFor : Streams → History → Type 0

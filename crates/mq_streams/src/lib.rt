@@ -11,4 +11,4 @@ mod table;
 mod tests;
 
 pub use answers::{Began, Counted, Granted, Over};
-pub use streams::{Streams, consumed_within_what_came, few_are_live};
+pub use streams::{Streams, consumed_within_what_came, few_are_live, no_window_is_passed};

@@ -6,6 +6,7 @@ ghost use Rattle.mq_streams.specs.History.{History, Arrived, Consumed, Sent, Fin
 ghost use Rattle.mq_streams.specs.Answers.{begun, after_begin, count_of, after_count, next_update, after_update, grant_of, after_grant, room_of, can_shift, is_idle};
 ghost use Rattle.mq_streams.specs.Stand.{ConsumesWhatCame, StandFor, InEach};
 ghost use Rattle.mq_streams.specs.Takers.{Takes, Declines};
+ghost use Rattle.mq_streams.specs.Windows.{PassesNoWindow};
 
 use crate::answers::{Began, Counted, Granted, Over};
 use crate::connection::Connection;
@@ -271,4 +272,10 @@ pub fn consumed_within_what_came()
 /// At most a hundred streams are live.
 pub fn few_are_live()
     ensures { (streams : Streams) → InEach streams (λ h. length (live h) ≤ 100) }
+{}
+
+/// Whatever happened, all DATA that came and was sent was within its windows, and no window grew past the largest
+/// (RFC 9113, section 6.9.1).
+pub fn no_window_is_passed()
+    ensures { (streams : Streams) → InEach streams PassesNoWindow }
 {}

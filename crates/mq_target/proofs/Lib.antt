@@ -5,3 +5,4 @@ pub mod Outlines
 pub mod Readings
 pub mod Splitting
 pub mod Stepping
+mod Escapes

@@ -1,5 +1,5 @@
 -- A path is read in one way.
-use Rattle.std.proofs.Common.{◌≡◌, ℕ, true, false, List, [], ◌∷◌, ◌++◌, get_or, Option, Some, None, sym, ◌∙◌, ap, subst, refl, arith, inl, inr}
+use Rattle.std.proofs.Common.{◌≡◌, ℕ, false, List, [], ◌∷◌, ◌++◌, get_or, Option, Some, None, sym, ◌∙◌, ap, subst, refl, arith, inl, inr}
 use Rattle.std.specs.Str.Parse.{IsNumeral}
 use Rattle.percent_encoding.specs.Percent.{percent_decode}
 use Rattle.mq_text.specs.Cut.{Lacks}
@@ -18,8 +18,9 @@ use Rattle.mq_target.specs.declared.target.Target.{Target}
 use Rattle.mq_target.specs.declared.target.Target.TheVariants as target
 use Rattle.mq_target.specs.declared.target.Matched.{Matched}
 use Rattle.mq_target.specs.declared.target.Matched.TheVariants.{No, Bad, Yes}
-use Rattle.mq_target.specs.Classes.{is_name_byte, is_delimiter, begins, ends_or_begins}
-use Rattle.mq_target.specs.Template.{Shape, IsTemplate}
+use Rattle.mq_target.specs.Classes.{is_name_byte}
+use Rattle.mq_target.specs.Template.{Shape}
+use Rattle.mq_target.specs.Told.{IsTold}
 use Rattle.mq_target.specs.Values.{IsNameText, IsHost, IsArea, IsProtocol, IsTarget}
 use Rattle.mq_target.specs.Matching.{Splits, Reads, Matches}
 use Rattle.mq_target.proofs.Bytes.{all_lack, lacks_none}
@@ -59,7 +60,7 @@ prefix_no_name text name block (inl alone) h = h.no_addr block.addr alone.addr
 prefix_no_name text name block (inr long) h =
     lacks_none 47 long.front long.digits (subst (Lacks 47) long.is (all_lack is_name_byte 47 text slash_name h.form.bytes))
 
-one_host : HasOneAddr → (text : List ℕ) (a b : Host) → IsHost text a → IsHost text b → a ≡ b
+pub one_host : HasOneAddr → (text : List ℕ) (a b : Host) → IsHost text a → IsHost text b → a ≡ b
 one_host one text (host.Address a) (host.Address b) h k = ap host.Address (one text a b h k)
 one_host one text (host.Address a) (host.Name b) h k = absurd (k.no_addr a h)
 one_host one text (host.Name a) (host.Address b) h k = absurd (h.no_addr b k)
@@ -102,19 +103,6 @@ one_target bytes addr prefix kind.Ip text detail (target.Udp a p) b h g = absurd
 one_reads : HasAddrBytes → HasOneAddr → HasOnePrefix → (k : Kind) (order : Order) (x y : List ℕ) (a b : Target) → Reads k order x y a → Reads k order x y b → a ≡ b
 one_reads bytes addr prefix k TargetFirst x y a b h g = one_target bytes addr prefix k (percent_decode x) (percent_decode y) a b h g
 one_reads bytes addr prefix k TargetLast x y a b h g = one_target bytes addr prefix k (percent_decode y) (percent_decode x) a b h g
-
--- the literals behind the variables, from which the values can be told
-pub record IsTold (shape : Shape) : Type 0 where
-  pub delimited : begins is_delimiter shape.between ≡ true
-  pub ended : ends_or_begins is_delimiter shape.after ≡ true
-
-pub is_told : (text : List ℕ) (shape : Shape) → IsTemplate text shape → IsTold shape
-unfolding is_delimiter
-is_told text shape (inl h) = record { delimited = h.around.delimited; ended = h.around.ended }
-is_told text shape (inr h) = record {
-  delimited = ap (λ (s : Shape). begins is_delimiter s.between) h.means;
-  ended = ap (λ (s : Shape). ends_or_begins is_delimiter s.after) h.means;
-}
 
 one_split : (shape : Shape) (path x y u v : List ℕ) → IsTold shape → Splits shape path x y → Splits shape path u v → (x ≡ u) × (y ≡ v)
 one_split shape path x y u v told h k =

@@ -1,5 +1,6 @@
 -- What holds of every template and every path.
-use Rattle.std.specs.Prelude.{◌≡◌, ℕ, ◌<◌, ◌^◌, List, Option, Some, None}
+use Rattle.std.specs.Prelude.{◌≡◌, ℕ, ◌*◌, ◌<◌, ◌≤◌, ◌^◌, ◌==◌, ◌||◌, true, List, length, Option, Some, None}
+use Rattle.std.specs.List.{list_all}
 use Rattle.mq_addr.specs.Printed.{Fits}
 use Rattle.mq_target.specs.declared.target.Host.{Host}
 use Rattle.mq_target.specs.declared.target.Host.TheVariants as host
@@ -9,14 +10,28 @@ use Rattle.mq_target.specs.declared.target.Target.{Target}
 use Rattle.mq_target.specs.declared.target.Target.TheVariants as target
 use Rattle.mq_target.specs.declared.target.Matched.{Matched}
 use Rattle.mq_target.specs.declared.target.Matched.TheVariants.{Yes}
-use Rattle.mq_target.specs.Template.{Shape, IsTemplate}
+use Rattle.mq_target.specs.Classes.{is_unreserved}
+use Rattle.mq_target.specs.Template.{Shape}
+use Rattle.mq_target.specs.Told.{IsTold}
+use Rattle.mq_target.specs.Values.{IsHost}
 use Rattle.mq_target.specs.Matching.{Matches}
-use Rattle.mq_target.specs.Expansion.{Suits, expanded}
+use Rattle.mq_target.specs.Expansion.{Suits, escaped, expanded}
 
 -- a path is one thing to a template
 abbrev pub HasOneReading : Type 0
-HasOneReading = (text : List ℕ) (shape : Shape) (path : List ℕ) (a b : Matched) → IsTemplate text shape
-    → Matches shape path a → Matches shape path b → a ≡ b
+HasOneReading = (shape : Shape) (path : List ℕ) (a b : Matched) → IsTold shape → Matches shape path a → Matches shape path b → a ≡ b
+
+-- a text is at most one host
+abbrev pub HasOneHost : Type 0
+HasOneHost = (text : List ℕ) (a b : Host) → IsHost text a → IsHost text b → a ≡ b
+
+-- an escaped value has unreserved bytes and those of escapes, `%` and hex digits, alone (RFC 3986, section 2.1)
+pub record IsEscaped (text value : List ℕ) : Type 0 where
+  pub bytes : list_all (λ b. is_unreserved b || b == 37) value ≡ true
+  pub short : length value ≤ 3 * length text
+
+abbrev pub AreEscaped : Type 0
+AreEscaped = (text : List ℕ) → IsEscaped text (escaped text)
 
 -- the numbers of a target have their types' sizes
 abbrev pub HostFits : Host → Type 0
@@ -38,5 +53,5 @@ TargetFits (target.Ip area protocol) = AreaFits area × ProtocolFits protocol
 
 -- the path of a target is read as that target
 abbrev pub IsReadAgain : Type 0
-IsReadAgain = (text : List ℕ) (shape : Shape) (target : Target) → IsTemplate text shape → TargetFits target
-    → Suits shape.kind target → Matches shape (expanded shape target) (Yes target)
+IsReadAgain = (shape : Shape) (target : Target) → TargetFits target → Suits shape.kind target
+    → Matches shape (expanded shape target) (Yes target)

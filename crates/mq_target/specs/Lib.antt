@@ -8,4 +8,5 @@ pub mod Values
 pub mod Judged
 pub mod Matching
 pub mod Expansion
+pub mod Told
 pub mod Laws

@@ -1,5 +1,5 @@
 //! What holds of every template and every path.
-ghost use Rattle.mq_target.specs.Laws.{HasOneReading, IsReadAgain};
+ghost use Rattle.mq_target.specs.Laws.{AreEscaped, HasOneHost, HasOneReading, IsReadAgain};
 
 use mq_addr::{addr_bytes, one_addr, one_prefix, printed_again};
 
@@ -11,6 +11,18 @@ pub fn one_reading()
     one_addr();
     one_prefix();
 }
+
+/// A text is at most one host.
+pub fn one_host()
+    ensures { HasOneHost }
+{
+    one_addr();
+}
+
+/// A value is put into a path as unreserved bytes and escapes, at most three bytes for each of its own.
+pub fn values_are_escaped()
+    ensures { AreEscaped }
+{}
 
 /// The path of a target is read as that target.
 pub fn expanded_again()

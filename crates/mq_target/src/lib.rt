@@ -16,10 +16,11 @@ mod template;
 mod values;
 
 pub use fault::TemplateFault;
-pub use laws::{expanded_again, one_reading};
+pub use laws::{expanded_again, one_host, one_reading, values_are_escaped};
 pub use mq_addr::Kind;
 pub use target::{Area, Host, Matched, Target};
 pub use template::Template;
+pub use values::host_of;
 
 #[cfg(test)]
 mod tests;

@@ -1,4 +1,6 @@
 //! What a path asks for.
+ghost use Rattle.mq_addr.specs.Printed.{Fits};
+ghost use Rattle.mq_target.specs.Laws.{AreaFits, HostFits, ProtocolFits, TargetFits};
 
 use mq_addr::{Addr, Prefix};
 use mq_wire::Bytes;
@@ -31,4 +33,59 @@ pub enum Matched {
     No,
     Bad,
     Yes(Target),
+}
+
+/// The number of an address has its type's size, and so on for all numbers of a target.
+fn addr_has_its_size(addr: &Addr)
+    ensures { Fits addr.now }
+{
+    match addr {
+        Addr::V4(bits) => {
+            let _bits = *bits;
+        }
+        Addr::V6(bits) => {
+            let _bits = *bits;
+        }
+    }
+}
+
+fn host_has_its_sizes(host: &Host)
+    ensures { HostFits host.now }
+{
+    match host {
+        Host::Address(addr) => addr_has_its_size(addr),
+        Host::Name(_) => {}
+    }
+}
+
+fn area_has_its_sizes(area: &Area)
+    ensures { AreaFits area.now }
+{
+    match area {
+        Area::Block(block) => addr_has_its_size(&block.addr),
+        Area::All | Area::Name(_) => {}
+    }
+}
+
+fn protocol_has_its_size(protocol: &Option<u8>)
+    ensures { ProtocolFits protocol.now }
+{
+    if let Some(number) = protocol {
+        let _number = *number;
+    }
+}
+
+pub fn has_its_sizes(target: &Target)
+    ensures { TargetFits target.now }
+{
+    match target {
+        Target::Udp { host, port } => {
+            let _port = *port;
+            host_has_its_sizes(host);
+        }
+        Target::Ip { area, protocol } => {
+            protocol_has_its_size(protocol);
+            area_has_its_sizes(area);
+        }
+    }
 }

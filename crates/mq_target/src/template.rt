@@ -3,6 +3,7 @@ ghost use Rattle.std.specs.Prelude.{◌≡◌, ◌++◌, ◌∷◌, ℕ, List, I
 ghost use Rattle.mq_target.specs.Expansion.{Suits, expanded};
 ghost use Rattle.mq_target.specs.Form.{question};
 ghost use Rattle.mq_target.specs.Matching.{Matches};
+ghost use Rattle.mq_target.specs.declared.target.Matched.TheVariants.{Yes};
 ghost use Rattle.mq_target.specs.Parsed.{ParsesTemplate};
 ghost use Rattle.mq_target.specs.Outlines.{IsOutline};
 ghost use Rattle.mq_target.specs.Template.{IsTemplate, before_well_known, well_known};
@@ -10,9 +11,11 @@ ghost use Rattle.mq_target.specs.Template.{IsTemplate, before_well_known, well_k
 use crate::expansion::{put_first, put_second};
 use crate::form::has_form;
 use crate::judge::judged;
+use crate::laws::expanded_again;
 use crate::outline::{Outline, first_name, outline_of, second_name};
 use crate::shape::Order;
 use crate::split::split;
+use crate::target::has_its_sizes;
 use crate::{Matched, Target, TemplateFault};
 use mq_addr::Kind;
 use mq_wire::{Bytes, NoMemory};
@@ -98,13 +101,15 @@ impl Template {
         }
     }
 
-    /// The path of a target, which `matches` reads as that target. All bytes of the values but letters, digits, `-`,
-    /// `.`, `_` and `~` are escaped.
+    /// The path of a target. All bytes of the values but letters, digits, `-`, `.`, `_` and `~` are escaped. `matches` reads
+    /// the path as that target, where this is of the template's kind and well-formed.
     #[tactic(auto, unfolding(crate::specs::Expansion::expanded))]
     pub fn expand(&self, alloc: Global, target: &Target) -> Result<Bytes, NoMemory>
-        requires { Suits self.now.kind target.now }
-        ensures { IfOk result (λ path. path ≡ expanded self.now target.now) }
+        ensures path { IfOk result (λ path. path ≡ expanded self.now target.now) }
+        ensures again { IfOk result (λ path. Suits self.now.kind target.now → Matches self.now path (Yes target.now)) }
     {
+        expanded_again();
+        has_its_sizes(target);
         let mut path = Vec::from_slice(alloc, self.before.as_slice())?;
         put_first(alloc, &mut path, self.order, target)?;
         path.extend_from_slice(self.between.as_slice())?;

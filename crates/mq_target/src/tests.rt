@@ -282,9 +282,7 @@ fn a_query_is_matched_and_expanded(rt: HostRuntime) {
 }
 
 /// Whether the path of a target is this one, and is read as that target.
-fn goes_round(alloc: Global, template: &Template, target: &Target, path: &[u8]) -> bool
-    requires { Suits template.now.kind target.now }
-{
+fn goes_round(alloc: Global, template: &Template, target: &Target, path: &[u8]) -> bool {
     match template.expand(alloc, target) {
         Ok(expanded) => expanded.as_slice() == path && gives(alloc, template, path, target),
         Err(_) => false,

@@ -1,5 +1,5 @@
 //! The values of a template's variables, after percent-decoding.
-ghost use Rattle.std.specs.Prelude.{◌≡◌, ◌≤◌, ◌↔◌, ℕ, List, IsTrue, MatchOption, Option, IfOk, map, codes, ◌≢◌};
+ghost use Rattle.std.specs.Prelude.{◌≡◌, ◌≤◌, ◌↔◌, ℕ, List, IsTrue, MatchOption, Option, IfOk, OnErr, map, codes, ◌≢◌};
 ghost use Rattle.std.specs.Char.{to_ascii_lowercase};
 ghost use Rattle.mq_addr.specs.declared.addr.Addr.{Addr};
 ghost use Rattle.mq_addr.specs.declared.prefix.Prefix.{Prefix};
@@ -88,10 +88,11 @@ fn lowered(alloc: Global, text: &[u8]) -> Result<Vec<u8>, NoMemory>
     Ok(lower)
 }
 
-/// The name that a text is, where it is no address.
+/// The name that a text is, where it is no address. Memory is asked for only where it is one.
 fn name_of(alloc: Global, text: &[u8]) -> Result<Option<Bytes>, NoMemory>
     requires { (a : Addr) → ¬ (IsAddrText text.now a) }
-    ensures { IfOk result (λ found. MatchOption found ((name : List ℕ) → ¬ (IsNameText text.now name)) (λ name. IsNameText text.now name)) }
+    ensures err { OnErr result (IsNameText text.now (map to_ascii_lowercase text.now)) }
+    ensures ok { IfOk result (λ found. MatchOption found ((name : List ℕ) → ¬ (IsNameText text.now name)) (λ name. IsNameText text.now name)) }
 {
     if !is_name(text) {
         return Ok(None);
@@ -100,9 +101,10 @@ fn name_of(alloc: Global, text: &[u8]) -> Result<Option<Bytes>, NoMemory>
     Ok(Some(Bytes::from_vec(name)))
 }
 
-/// The host that a text is.
+/// The host that a text is. Memory is asked for only where it is a name.
 pub fn host_of(alloc: Global, text: &[u8]) -> Result<Option<Host>, NoMemory>
-    ensures { IfOk result (λ found. MatchOption found ((host : Host) → ¬ (IsHost text.now host)) (λ host. IsHost text.now host)) }
+    ensures err { OnErr result ((name : List ℕ) × IsNameText text.now name) }
+    ensures ok { IfOk result (λ found. MatchOption found ((host : Host) → ¬ (IsHost text.now host)) (λ host. IsHost text.now host)) }
 {
     if let Ok(addr) = parse_addr(text) {
         return Ok(Some(Host::Address(addr)));

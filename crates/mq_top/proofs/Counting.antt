@@ -1,23 +1,21 @@
 -- One line more of a generated script.
-use Rattle.std.proofs.Common.{◌≡◌, ℕ, ◌+◌, ◌<◌, Bool, true, false, List, [], ◌∷◌, ◌++◌, length, Result, Ok, Err, refl, sym, ap, subst, ◌∙◌, arith, append_assoc, append-nil, inl, inr}
+use Rattle.std.proofs.Common.{◌≡◌, ℕ, ◌+◌, ◌<◌, Bool, true, false, List, [], ◌∷◌, ◌++◌, length, Ok, Err, refl, sym, ap, subst, ◌∙◌, arith, append_assoc, append-nil, inl, inr}
 use Rattle.std.specs.List.{AllByRecursion}
 use Rattle.std.proofs.lemmas.List.{length-append}
 use Rattle.mq_play.specs.Laws.{AllNoted, NoneSilent}
-use Rattle.mq_play.specs.Play.{Fate, Noted, Silent, Stage, TheEnd, opening, Plays, PlaysLine, IsWrong, line_limit}
-use Rattle.mq_play.specs.Text.{printed, Bad}
+use Rattle.mq_play.specs.Play.{Fate, Noted, Silent, Stage, opening, IsWrong}
 use Rattle.mq_top.proofs.Reading.{plays_more}
 use Rattle.mq_top.specs.Joined.{counted_none, counted_more}
 use Rattle.mq_top.specs.Listening.{IsNoted}
 use Rattle.mq_top.specs.Playing.{LineTo}
+use Rattle.mq_drawn.specs.Laws.{HasNoBadLine}
+use Rattle.mq_script.specs.Generated.{generated}
 use Rattle.mq_script.specs.Left.{GivesLine}
 use Rattle.mq_output.specs.Printing.{StopCounts}
-use Rattle.mq_top.specs.Soaking.{IsBadAt, IsCounted, IsSoaked, IsSoaking, SaysBad, SoaksAll, SoaksOn, SumsTo}
-use Rattle.mq_top.specs.Stages.{IsStage}
+use Rattle.mq_top.specs.Soaking.{IsBadAt, IsCounted, IsSoaked, IsSoaking, SoaksAll, SoaksOn}
 use Rattle.mq_top.specs.Tallies.{Counts, Counted, no_counts}
 use Rattle.mq_top.specs.declared.soaking.GeneratedPlay.{GeneratedPlay}
 use Rattle.mq_top.specs.declared.stage.Stage as held
-use Rattle.mq_top.specs.declared.status.Status.{Status}
-use Rattle.mq_top.specs.declared.status.Status.TheVariants as status
 use Rattle.mq_output.specs.declared.stop.Stop.{Stop}
 use Rattle.mq_output.specs.declared.stop.Stop.TheVariants as stop
 
@@ -108,20 +106,11 @@ pub ends_all : (b : Bool) (lines : List (List ℕ)) (x : GeneratedPlay) → b �
 ends_all false lines x is on = soaked_all x lines on.0 on.1
 ends_all true lines x is on = absurd cc
 
--- a bad line was told
-pub sums_bad : (lines : List (List ℕ)) (number : ℕ) (owed : List ℕ) (said : Status) → IsBadAt lines number → SaysBad number owed said → SumsTo lines owed said
-sums_bad lines number owed status.BadScript at says = record {
-  before = at.before;
-  line = at.line;
-  after = at.after;
-  counts = at.counts;
-  here = at.here;
-  lines_are = at.lines_are;
-  is = at.is;
-  bad = at.bad;
-  out_is = says ∙ ap (λ (n : ℕ). printed (Bad (n + 1))) at.number_is;
-}
-sums_bad lines number owed status.NoMemory at says = tt
-sums_bad lines number owed status.Done at says = absurd says
-sums_bad lines number owed status.WriteFault at says = absurd says
-sums_bad lines number owed status.ReadFault at says = absurd says
+-- no line of a generated script is bad
+pub no_bad_line : HasNoBadLine → (seed count number : ℕ) → IsBadAt (generated seed count) number → ⊥
+no_bad_line none seed count number at =
+    let good = none seed count at.before at.line at.after at.is.fates at.is.text at.here at.lines_are at.is.plays at.is.noted in
+    elim at.bad [
+      | inl wrong ↦ good.0 wrong
+      | inr long ↦ absurd (omega (arith, long, good.1))
+    ]

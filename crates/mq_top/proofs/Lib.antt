@@ -8,6 +8,6 @@ pub mod Cutting
 pub mod Reading
 pub mod Ending
 pub mod Generating
-pub mod Wording
+pub mod Asked
 pub mod Tallying
 pub mod Counting

@@ -1,5 +1,5 @@
 -- A print that changes no count.
-use Rattle.std.proofs.Common.{◌≡◌, ℕ, List, [], ◌∷◌, refl, sym, append-nil, false}
+use Rattle.std.proofs.Common.{◌≡◌, [], ◌∷◌, sym, append-nil, false}
 use Rattle.mq_play.specs.Text.{Print, printed}
 use Rattle.mq_top.specs.Tallies.{Counts, Counted, is_starved, with_print}
 

@@ -1,9 +1,9 @@
 -- Counts of one text behind another. Only the impl of Listener for counts cites what stands here.
-use Rattle.std.specs.Prelude.{◌≡◌, ℕ, List, [], ◌∷◌, ◌++◌, Bool, false, refl}
+use Rattle.std.specs.Prelude.{◌≡◌, ℕ, List, [], ◌∷◌, ◌++◌, false, refl}
 use Rattle.std.proofs.Common.{sym, ap, ◌∙◌, append_assoc}
 use Rattle.std.specs.List.{flat_map, AllByRecursion}
 use Rattle.mq_play.specs.Text.{Print, printed}
-use Rattle.mq_top.specs.Tallies.{Counts, Counted, counted, is_starved, NoneStarved}
+use Rattle.mq_top.specs.Tallies.{Counts, Counted, counted, is_starved}
 
 pub counted_none : (c : Counts) → Counted c c []
 counted_none c = record { prints = []; text_is = refl; none = tt; is = refl }

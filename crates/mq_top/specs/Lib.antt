@@ -8,5 +8,5 @@ pub mod Generates
 pub mod Tallies
 pub mod Joined
 pub mod Soaking
-pub mod Words
+pub mod Asking
 pub mod Standard

@@ -1,10 +1,9 @@
 -- What the play of a script's lines comes to, where its notes are counted.
-use Rattle.std.specs.Prelude.{◌≡◌, ℕ, ◌+◌, ◌<◌, ◌⊎◌, List, [], ◌∷◌, ◌++◌, length, codes, Bool, true, false, Option, Result, Ok, Err}
+use Rattle.std.specs.Prelude.{◌≡◌, ℕ, ◌<◌, ◌⊎◌, List, [], ◌∷◌, ◌++◌, length, codes, Bool, true, false, Option, Result, Ok, Err}
 use Rattle.mq_machine.specs.State.{State}
 use Rattle.mq_play.specs.Laws.{AllNoted}
 use Rattle.mq_play.specs.Play.{Fate, Stage, opening, opened, Plays, IsWrong, line_limit, more_text}
 use Rattle.mq_play.specs.Script.{IsFrontOf}
-use Rattle.mq_play.specs.Text.{printed, Bad}
 use Rattle.mq_script.specs.Counting.{count_line}
 use Rattle.mq_script.specs.Generated.{generated}
 use Rattle.mq_output.specs.Printing.{Adds}
@@ -36,23 +35,11 @@ pub record IsSummed (lines : List (List ℕ)) (out : List ℕ) : Type 0 where
   pub is : IsCounted lines counts new
   pub out_is : out ≡ summary_text counts (opened new)
 
--- the lines before a bad one were played, and then that was said
-pub record IsSummedBad (lines : List (List ℕ)) (out : List ℕ) : Type 0 where
-  pub before : List (List ℕ)
-  pub line : List ℕ
-  pub after : List (List ℕ)
-  pub counts : Counts
-  pub here : Stage
-  pub lines_are : lines ≡ before ++ line ∷ after
-  pub is : IsCounted before counts here
-  pub bad : IsWrong here line ⊎ (line_limit < length line)
-  pub out_is : out ≡ printed (Bad (length before + 1))
-
--- By the status: what was written. Nothing is where memory ran out.
+-- By the status: what was written. No line of a generated script is bad, and nothing is written where memory ran out.
 abbrev pub SoaksTo : List (List ℕ) → List ℕ → Status → Type 0
 SoaksTo lines out Done = IsSummed lines out
-SoaksTo lines out BadScript = IsSummedBad lines out
-SoaksTo lines out WriteFault = (whole : List ℕ) × (IsSummed lines whole ⊎ IsSummedBad lines whole) × IsFrontOf out whole
+SoaksTo lines out BadScript = ⊥
+SoaksTo lines out WriteFault = (whole : List ℕ) × IsSummed lines whole × IsFrontOf out whole
 SoaksTo lines out NoMemory = out ≡ []
 SoaksTo lines out ReadFault = ⊥
 
@@ -105,18 +92,10 @@ SoaksAll lines (Err stop.BadLine) x = IsBadAt lines x.number
 SoaksAll lines (Err stop.WriteFault) x = ⊥
 SoaksAll lines (Err stop.NoMemory) x = Unit {0}
 
--- that the line behind so many is bad is said
-abbrev pub SaysBad : ℕ → List ℕ → Status → Type 0
-SaysBad number owed BadScript = owed ≡ printed (Bad (number + 1))
-SaysBad number owed NoMemory = Unit {0}
-SaysBad number owed Done = ⊥
-SaysBad number owed WriteFault = ⊥
-SaysBad number owed ReadFault = ⊥
-
 -- by the status, what is to be written
 abbrev pub SumsTo : List (List ℕ) → List ℕ → Status → Type 0
 SumsTo lines owed Done = IsSummed lines owed
-SumsTo lines owed BadScript = IsSummedBad lines owed
+SumsTo lines owed BadScript = ⊥
 SumsTo lines owed NoMemory = Unit {0}
 SumsTo lines owed WriteFault = ⊥
 SumsTo lines owed ReadFault = ⊥

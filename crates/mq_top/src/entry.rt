@@ -1,9 +1,14 @@
 //! The program: its words, standard input and standard output.
+ghost use Rattle.std.specs.Prelude.{◌≡◌, []};
 
 use crate::command::{USAGE, run};
 use crate::standard::{StandardSink, StandardSource};
 use crate::status::Status;
+use mq_mem::{MemAcceptor, MemOutside};
+use mq_wire::{NoMemory, Seq};
+use std::alloc::Global;
 use std::process::ExitCode;
+use std::sync::Wait;
 use std::{env, io};
 
 /// The words behind the program's name.
@@ -23,13 +28,44 @@ fn unread(fault: &io::Error) -> u8 {
     }
 }
 
-/// Does what the words of the command line say, from standard input to standard output, and answers the exit status.
-pub fn program(rt: &HostRuntime) -> ExitCode {
+/// A list without an item.
+fn none<T: Drop>(alloc: Global) -> Seq<T>
+    ensures { result ≡ [] }
+{
+    Seq::from_vec(Vec::new(alloc))
+}
+
+/// An outside in which nobody can be dialled, and from which no link comes.
+fn nowhere(alloc: Global) -> Result<MemOutside, NoMemory> {
+    let acceptor = MemAcceptor::new(none(alloc), none(alloc))?;
+    MemOutside::new(
+        alloc,
+        acceptor,
+        none(alloc),
+        none(alloc),
+        none(alloc),
+        none(alloc),
+    )
+}
+
+/// Does what the words of the command line say, from standard input to standard output, and answers the exit status. A client
+/// waits by `waits`; no proxy can be dialled yet.
+pub fn program(rt: &HostRuntime, waits: &impl Wait) -> ExitCode {
     let words = match words(rt) {
         Ok(words) => words,
         Err(fault) => return ExitCode::from(unread(&fault)),
     };
+    let Ok(mut outside) = nowhere(rt.alloc()) else {
+        return ExitCode::from(Status::NoMemory.code());
+    };
     let mut source = StandardSource::new(rt.stdin());
     let mut sink = StandardSink::new(rt.stdout());
-    ExitCode::from(run(rt.alloc(), words.as_slice(), &mut source, &mut sink))
+    ExitCode::from(run(
+        waits,
+        rt.alloc(),
+        words.as_slice(),
+        &mut source,
+        &mut sink,
+        &mut outside,
+    ))
 }

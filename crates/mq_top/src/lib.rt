@@ -1,7 +1,8 @@
 //! A script is read from a source, played in the world of all actors, and what happens is printed to a sink. Or a script is
-//! generated, and printed to a sink, or played and counted.
+//! generated, and printed to a sink, or played and counted. Or payloads are read and sent through a tunnel of a proxy.
 #![tactic(auto)]
 
+mod asking;
 mod command;
 mod entry;
 mod generate;
@@ -20,7 +21,6 @@ mod tally;
 mod tests;
 mod told;
 mod turns;
-mod words;
 
 pub use command::run;
 pub use entry::program;

@@ -4,7 +4,7 @@ ghost use Rattle.mq_play.specs.Play as spec;
 ghost use Rattle.mq_play.specs.Play.{opened};
 ghost use Rattle.mq_script.specs.Generated.{generated};
 ghost use Rattle.mq_top.specs.Replay.{SinkCounts};
-ghost use Rattle.mq_top.specs.Soaking.{IsSoaking, SaysBad, Soaks, SoaksAll, SoaksOn, SumsTo, summary_text};
+ghost use Rattle.mq_top.specs.Soaking.{IsSoaking, Soaks, SoaksAll, SoaksOn, SumsTo, summary_text};
 ghost use Rattle.mq_top.specs.Stages.{IsStage};
 
 use crate::play::play_line;
@@ -12,9 +12,10 @@ use crate::session::LINE_LIMIT;
 use crate::stage::Stage;
 use crate::status::Status;
 use crate::tally::Tally;
+use mq_drawn::no_line_is_bad;
 use mq_output::{Output, Stop};
 use mq_outside::Sink;
-use mq_script::{Generator, print_bad_line, print_count, print_more};
+use mq_script::{Generator, print_count, print_more};
 use mq_wire::NoMemory;
 use std::alloc::Global;
 
@@ -87,39 +88,26 @@ impl GeneratedPlay {
     }
 }
 
-/// Says that the line behind so many is bad.
-fn say_bad(number: u64, owed: &mut Vec<u8>) -> Status
-    requires { owed.old.items ≡ [] }
-    ensures { SaysBad number owed.new.items result }
-{
-    if number == u64::MAX {
-        return Status::NoMemory;
-    }
-    match print_bad_line(owed, number + 1) {
-        Ok(()) => Status::BadScript,
-        Err(_) => Status::NoMemory,
-    }
-}
-
 /// Plays the script of a seed with so many packets, and puts its summary.
 fn sum(alloc: Global, seed: u64, count: u32, owed: &mut Vec<u8>) -> Status
     requires { owed.old.items ≡ [] }
     ensures { SumsTo (generated seed count) owed.new.items result }
 {
+    no_line_is_bad();
     let mut soak = GeneratedPlay::new(alloc, seed, count);
     match soak.play_all(alloc) {
         Ok(()) => match soak.sum_up(alloc, owed) {
             Ok(()) => Status::Done,
             Err(_) => Status::NoMemory,
         },
-        Err(Stop::BadLine) => say_bad(soak.number, owed),
+        Err(Stop::BadLine) => unreachable!(),
         Err(_) => Status::NoMemory,
     }
 }
 
 /// Plays the generated script of a seed with so many packets, as `replay` does, and prints how many notes of six kinds came:
 /// `passed`, `pushed`, `sent`, `queued`, `delivered` and `dropped`, a line each; then `history` and the count of the book's
-/// entries, and `more` where an actor has a step left.
+/// entries, and `more` where an actor has a step left. No line of that script is bad, so `BadScript` never comes.
 ///
 /// No note is kept. Where a step is refused memory, or a connection ends for want of it, the play stops with `NoMemory`, and
 /// nothing is printed.

@@ -72,6 +72,15 @@ impl Stage {
         if let Stage::Running(_) = self {
             return Ok(());
         }
+        self.begin_world(alloc)
+    }
+
+    /// The same, where the world hasn't begun. It is a function of its own, since it has room for a world, and so costs each
+    /// line something where it is entered.
+    fn begin_world(&mut self, alloc: Global) -> Result<(), NoMemory>
+        ensures opens { (s : spec.Stage) → IsStage self.old s → OnOk result (IsStage self.new (spec.Running (spec.opened s))) }
+        ensures running { OnOk result (IsRunning self.new) }
+    {
         let Stage::Settings(told) = mem::replace(self, Stage::Spent) else {
             return Err(NoMemory);
         };

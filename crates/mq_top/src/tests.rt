@@ -1,18 +1,22 @@
 //! Whole replays over sources and sinks in memory.
 
+ghost use Rattle.std.specs.Prelude.{◌≡◌, []};
+
 mod capsules;
 mod generated;
 mod limits;
 mod lines;
 mod many;
+mod meeting;
 mod network;
 mod packets;
 mod requests;
 mod rows;
 mod soak;
+mod udp;
 
 use crate::{StandardSink, StandardSource, Status, replay, run};
-use mq_mem::{MemSink, MemSource};
+use mq_mem::{MemAcceptor, MemOutside, MemSink, MemSource};
 use mq_wire::{Bytes, NoMemory, Seq};
 use packets::{SESSION, SESSION_PRINTS};
 use rows::{
@@ -26,6 +30,7 @@ use rows::{
 };
 use std::alloc::Global;
 use std::collections::VecDeque;
+use std::sync::Wait;
 use std::test::Fail;
 
 /// The number of a call that is never made.
@@ -47,6 +52,45 @@ const PLAIN: Way = Way {
     fail_write: NEVER,
     written: u32::MAX,
 };
+
+fn none<T: Drop>(alloc: Global) -> Seq<T>
+    ensures { result ≡ [] }
+{
+    Seq::from_vec(Vec::new(alloc))
+}
+
+/// An outside in which nobody can be dialled.
+fn nowhere(alloc: Global) -> Result<MemOutside, NoMemory> {
+    let acceptor = MemAcceptor::new(none(alloc), none(alloc))?;
+    MemOutside::new(
+        alloc,
+        acceptor,
+        none(alloc),
+        none(alloc),
+        none(alloc),
+        none(alloc),
+    )
+}
+
+fn words_of(alloc: Global, words: &[&str]) -> Result<Vec<String>, NoMemory> {
+    let mut list = Vec::new(alloc);
+    for word in words {
+        list.push(String::from_str(alloc, word)?)?;
+    }
+    Ok(list)
+}
+
+/// Does what words say. Answers the status.
+fn does(
+    rt: &impl Wait,
+    alloc: Global,
+    words: &[String],
+    source: &mut MemSource,
+    sink: &mut MemSink,
+    outside: &mut MemOutside,
+) -> u8 {
+    run(rt, alloc, words, source, sink, outside)
+}
 
 /// Replays a script into a sink with room for much. Answers the status, and what the sink took.
 fn roomy(alloc: Global, script: &[u8]) -> Result<(Status, Vec<u8>), NoMemory> {
@@ -217,7 +261,15 @@ fn one_word_is_a_command(rt: HostRuntime) -> Result<(), Fail> {
         let contents = Bytes::from_vec(Vec::from_slice(alloc, b"step 0\n")?);
         let mut source = MemSource::new(contents, Seq::from_vec(Vec::new(alloc)))?.in_pieces(4);
         let mut sink = MemSink::new(alloc, 100, Seq::from_vec(Vec::new(alloc)))?.in_pieces(4);
-        assert_eq!(rt; run(alloc, list.as_slice(), &mut source, &mut sink), want);
+        let status = run(
+            &rt,
+            alloc,
+            list.as_slice(),
+            &mut source,
+            &mut sink,
+            &mut nowhere(alloc)?,
+        );
+        assert_eq!(rt; status, want);
         assert_eq!(rt; sink.taken(), text.as_bytes());
     }
     Ok(())

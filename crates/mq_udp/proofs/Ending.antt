@@ -1,7 +1,8 @@
 -- What a piece, a read and a round come to.
 use Rattle.std.proofs.Common.{◌≡◌, ℕ, Bool, true, false, List, [], ◌++◌, take, Option, Some, None, Ok, Err, refl, sym, ap, subst, ◌∙◌, append_assoc, append-nil, inl, inr}
-use Rattle.std.specs.Prelude.{◌↔◌, IsTrue}
+use Rattle.std.specs.Prelude.{◌↔◌, ◌⊎◌, Contains, IsTrue}
 use Rattle.mq_client.specs.declared.event.ClientEvent.{ClientEvent}
+use Rattle.mq_client.specs.declared.event.ClientEvent.TheVariants as event
 use Rattle.mq_client.specs.Client.{StandsFor}
 use Rattle.mq_client.specs.State.{State, Reads}
 use Rattle.mq_outside.specs.Counts.{LinkCounts}
@@ -133,6 +134,7 @@ module _ {L : Type 0} where
         within = at.within;
         left = at.left;
         works = ap (λ (n : LinkCounts). n.faults) same ∙ at.works;
+        opened = at.opened;
       }
 
   -- the link gave nothing
@@ -154,6 +156,7 @@ module _ {L : Type 0} where
         within = at.within;
         left = at.left;
         works = same ∙ at.works;
+        opened = at.opened;
       }
 
   -- the link ended
@@ -208,26 +211,26 @@ module _ {L : Type 0} where
   -- its payloads were shown
   pub took_on : (past : L → LinkPast) (counts : L → LinkCounts) (ask : Asking) (x y : Exchange L) (moves : List Move) (s t : State) (piece : List ℕ) (events : List ClientEvent) (shown : List ℕ) (end : Option Outcome)
       → IsFed past counts ask x moves s piece → Reads s piece events t → StandsFor y.client t → y.link ≡ x.link → y.payloads ≡ x.payloads → y.sent ≡ x.sent → HearsTo events x.left shown end y.left
-      → FedOn past counts ask moves events shown y
-  took_on past counts ask x y moves s t piece events shown end fed reads stands link payloads same hears =
-      let f = fed_on past counts ask x y moves s t piece events fed reads stands link payloads same hears.1 in
+      → (y.is_open ≡ true → (x.is_open ≡ true) ⊎ Contains events event.Opened) → FedOn past counts ask moves events shown y
+  took_on past counts ask x y moves s t piece events shown end fed reads stands link payloads same hears opens =
+      let f = fed_on past counts ask x y moves s t piece events fed reads stands link payloads same hears.1 opens in
       let on : GoesOn past counts ask moves shown y =
       record { moves = f.on.moves; s = f.on.s; at = f.on.at; shows = f.on.shows ∙ ap (λ (xs : List ℕ). shown_of ask moves ++ xs) (sym hears.0) } in
       record { on = on; told = f.told }
 
   pub took_goes : (past : L → LinkPast) (counts : L → LinkCounts) (ask : Asking) (x y : Exchange L) (moves : List Move) (s t : State) (piece : List ℕ) (events : List ClientEvent) (shown : List ℕ) (end : Option Outcome)
       → IsFed past counts ask x moves s piece → Reads s piece events t → StandsFor y.client t → y.link ≡ x.link → y.payloads ≡ x.payloads → y.sent ≡ x.sent → HearsTo events x.left shown end y.left
-      → GoesOn past counts ask moves shown y
-  took_goes past counts ask x y moves s t piece events shown end fed reads stands link payloads same hears =
-      (took_on past counts ask x y moves s t piece events shown end fed reads stands link payloads same hears).on
+      → (y.is_open ≡ true → (x.is_open ≡ true) ⊎ Contains events event.Opened) → GoesOn past counts ask moves shown y
+  took_goes past counts ask x y moves s t piece events shown end fed reads stands link payloads same hears opens =
+      (took_on past counts ask x y moves s t piece events shown end fed reads stands link payloads same hears opens).on
 
   -- and an event says that it ends
   pub ends_took : (past : L → LinkPast) (counts : L → LinkCounts) (ask : Asking) (x y : Exchange L) (moves : List Move) (s t : State) (piece : List ℕ) (events : List ClientEvent) (shown : List ℕ) (end : Outcome)
       (done : Bool) (why : Outcome) → IsFed past counts ask x moves s piece → Reads s piece events t → StandsFor y.client t → y.link ≡ x.link → y.payloads ≡ x.payloads → y.sent ≡ x.sent
-      → HearsTo events x.left shown (Some end) y.left → ((ask : Asking) (moves : List Move) (s : State) → IsAt past counts ask y moves s → IsTrue done ↔ IsDone ask moves s) → why ≡ ended_by end done
+      → HearsTo events x.left shown (Some end) y.left → (y.is_open ≡ true → (x.is_open ≡ true) ⊎ Contains events event.Opened) → ((ask : Asking) (moves : List Move) (s : State) → IsAt past counts ask y moves s → IsTrue done ↔ IsDone ask moves s) → why ≡ ended_by end done
       → Ends ask (past y.link) (counts y.link).faults (shown_of ask moves ++ shown) why
-  ends_took past counts ask x y moves s t piece events shown end done why fed reads stands link payloads same hears decides is =
-      let f = took_on past counts ask x y moves s t piece events shown (Some end) fed reads stands link payloads same hears in
+  ends_took past counts ask x y moves s t piece events shown end done why fed reads stands link payloads same hears opens decides is =
+      let f = took_on past counts ask x y moves s t piece events shown (Some end) fed reads stands link payloads same hears opens in
       let P : Outcome → Type 0 = λ o. Ends ask (past y.link) (counts y.link).faults (shown_of ask moves ++ shown) o in
       subst P (sym is) (ends_heard past counts ask y moves events shown end done f.on f.told (decides ask f.on.moves f.on.s f.on.at) hears.2)
 

@@ -1,9 +1,12 @@
 -- One move more.
-use Rattle.std.proofs.Common.{◌≡◌, ℕ, suc, ◌+◌, ◌-◌, ◌≤◌, List, [], ◌∷◌, ◌++◌, length, take, drop, slice_get, Some, refl, sym, ap, subst, ◌∙◌, arith, append_assoc, append-nil}
+use Rattle.std.proofs.Common.{◌≡◌, ℕ, suc, ◌+◌, ◌-◌, ◌≤◌, ◌⊎◌, true, List, [], ◌∷◌, ◌++◌, length, take, drop, slice_get, Some, refl, sym, ap, subst, ◌∙◌, arith, append_assoc, append-nil, inl, inr}
 use Rattle.std.proofs.lemmas.List.{length-append, length-take-le, take-append-drop}
+use Rattle.std.proofs.lemmas.List.Elements.{Contains-append_left, Contains-append_right}
 use Rattle.mq_client.specs.Client.{StandsFor}
 use Rattle.mq_client.specs.declared.event.ClientEvent.{ClientEvent}
-use Rattle.mq_client.specs.State.{State, Reads, owed, sent, wrote}
+use Rattle.mq_client.specs.declared.event.ClientEvent.TheVariants as event
+use Rattle.mq_client.specs.State.{State, Http1, Http2, Reads, owed, sent, told, wrote}
+use Rattle.mq_client.specs.Talk.{Talk}
 use Rattle.mq_outside.specs.Counts.{LinkCounts}
 use Rattle.mq_outside.specs.Links.{LinkPast, and_then}
 use Rattle.mq_udp.proofs.Lists.{take_both, take_next, lines_both, tells_more, tells_same}
@@ -11,7 +14,27 @@ use Rattle.mq_udp.specs.declared.exchange.Exchange.{Exchange}
 use Rattle.mq_udp.specs.Exchanges.{GoesOn, IsAt, IsFed}
 use Rattle.mq_udp.specs.Moves.{Move, Fed, Sent, Wrote, Does, Goes, came_in, events_in, payload_of, payloads_of, sent_in, with_payload, written_in}
 use Rattle.mq_udp.specs.Talks.{Asking, Tells, lines_text, shown_of}
-use Rattle.std.specs.Prelude.{Option, None}
+use Rattle.std.specs.Prelude.{Option, None, Contains}
+
+-- ---- what was told
+
+told_after : (s : State) (piece : List ℕ) (events : List ClientEvent) (t : State) → Reads s piece events t → told t ≡ told s ++ events
+told_after (Http1 s) piece events t reads = ap (λ (u : State). told u) reads.1
+told_after (Http2 s) piece events t reads = ap (λ (u : State). told u) reads.2 ∙ ap (λ (u : Talk). u.told) reads.1.state_is
+
+told_sent : (s : State) (payload : List ℕ) → told (sent s payload) ≡ told s
+told_sent (Http1 s) payload = refl
+told_sent (Http2 s) payload = refl
+
+told_wrote : (s : State) (count : ℕ) → told (wrote s count) ≡ told s
+told_wrote (Http1 s) count = refl
+told_wrote (Http2 s) count = refl
+
+-- so the opening was told in the next state, where it was in this one
+has_opened : (s t : State) → told t ≡ told s → Contains (told s) event.Opened → Contains (told t) event.Opened
+has_opened s t same h = let P : List ClientEvent → Type 0 = λ es. Contains es event.Opened in subst P (sym same) h
+
+-- ----
 
 goes_more : (s : State) (moves : List Move) (t : State) (m : Move) (u : State) → Goes s moves t → Does t m u → Goes s (moves ++ m ∷ []) u
 goes_more s [] t m u went does = let P : State → Type 0 = λ from. Does from m u in (u, subst P went does, refl)
@@ -67,8 +90,8 @@ module _ {L : Type 0} where
   -- some bytes were written
   pub wrote_on : (past : L → LinkPast) (counts : L → LinkCounts) (ask : Asking) (x y : Exchange L) (moves : List Move) (s : State) (bytes : List ℕ) (count : ℕ) → IsAt past counts ask x moves s
       → bytes ≡ owed s → count ≤ length bytes → StandsFor y.client (wrote s count) → past y.link ≡ record (past x.link) { took = and_then (past x.link).took (take count bytes) }
-      → (counts y.link).faults ≡ (counts x.link).faults → y.payloads ≡ x.payloads → y.sent ≡ x.sent → y.left ≡ x.left → GoesOn past counts ask moves [] y
-  wrote_on past counts ask x y moves s bytes count at is within stands link works payloads same left =
+      → (counts y.link).faults ≡ (counts x.link).faults → y.payloads ≡ x.payloads → y.sent ≡ x.sent → y.left ≡ x.left → y.is_open ≡ x.is_open → GoesOn past counts ask moves [] y
+  wrote_on past counts ask x y moves s bytes count at is within stands link works payloads same left ready =
       let front = take count bytes in
       let size : length front ≡ count = length-take-le count bytes within in
       let m = Wrote front in
@@ -93,6 +116,7 @@ module _ {L : Type 0} where
           within = omega (arith, same, at.within);
           left = left ∙ at.left ∙ ap (λ (es : List ClientEvent). ask.count - length (payloads_of es)) (sym (quiet_events moves m refl));
           works = works ∙ at.works;
+          opened = λ is_open. has_opened s (wrote s count) (told_wrote s count) (at.opened (sym ready ∙ is_open));
         };
         shows = quiet_shown ask moves m refl;
       }
@@ -100,8 +124,8 @@ module _ {L : Type 0} where
   -- the next payload was sent
   pub sent_on : (past : L → LinkPast) (counts : L → LinkCounts) (ask : Asking) (x y : Exchange L) (moves : List Move) (s : State) (payload : List ℕ) → IsAt past counts ask x moves s
       → slice_get x.payloads.items x.sent ≡ Some payload → StandsFor y.client (sent s payload) → y.link ≡ x.link → y.payloads ≡ x.payloads → y.sent ≡ x.sent + 1 → y.left ≡ x.left
-      → y.sent ≤ length ask.payloads → GoesOn past counts ask moves [] y
-  sent_on past counts ask x y moves s payload at next stands link payloads count left within =
+      → y.sent ≤ length ask.payloads → x.is_open ≡ true → GoesOn past counts ask moves [] y
+  sent_on past counts ask x y moves s payload at next stands link payloads count left within ready =
       let m = Sent payload in
       let Gave : L → Type 0 = λ l. Tells (past l).gave (came_in (moves ++ m ∷ []) ++ []) in
       let Took : L → Type 0 = λ l. Tells (past l).took (written_in (moves ++ m ∷ [])) in
@@ -117,7 +141,7 @@ module _ {L : Type 0} where
         at = record {
           stands = stands;
           talked = record {
-            went = goes_more _ moves s m (sent s payload) at.talked.went refl;
+            went = goes_more _ moves s m (sent s payload) at.talked.went (at.opened ready, refl);
             gave = subst Gave (sym link) (tells_same (past x.link).gave (came_in moves ++ []) (came_in (moves ++ m ∷ []) ++ []) came at.talked.gave);
             took = subst Took (sym link) (tells_same (past x.link).took (written_in moves) (written_in (moves ++ m ∷ [])) wrote at.talked.took);
             sends = (drop y.sent ask.payloads, sym (take-append-drop y.sent ask.payloads) ∙ ap (λ (ps : List (List ℕ)). ps ++ drop y.sent ask.payloads) (sym more));
@@ -127,6 +151,7 @@ module _ {L : Type 0} where
           within = within;
           left = left ∙ at.left ∙ ap (λ (es : List ClientEvent). ask.count - length (payloads_of es)) (sym (quiet_events moves m refl));
           works = ap (λ (l : L). (counts l).faults) link ∙ at.works;
+          opened = λ is_open. has_opened s (sent s payload) (told_sent s payload) (at.opened ready);
         };
         shows = quiet_shown ask moves m refl;
       }
@@ -139,8 +164,8 @@ module _ {L : Type 0} where
   -- a piece was fed, and its payloads were shown
   pub fed_on : (past : L → LinkPast) (counts : L → LinkCounts) (ask : Asking) (x y : Exchange L) (moves : List Move) (s t : State) (piece : List ℕ) (events : List ClientEvent) → IsFed past counts ask x moves s piece
       → Reads s piece events t → StandsFor y.client t → y.link ≡ x.link → y.payloads ≡ x.payloads → y.sent ≡ x.sent → y.left ≡ x.left - length (payloads_of events)
-      → FedOn past counts ask moves events (lines_text (take x.left (payloads_of events))) y
-  fed_on past counts ask x y moves s t piece events at reads stands link payloads same left =
+      → (y.is_open ≡ true → (x.is_open ≡ true) ⊎ Contains events event.Opened) → FedOn past counts ask moves events (lines_text (take x.left (payloads_of events))) y
+  fed_on past counts ask x y moves s t piece events at reads stands link payloads same left opens =
       let m = Fed piece events in
       let Gave : L → Type 0 = λ l. Tells (past l).gave (came_in (moves ++ m ∷ []) ++ []) in
       let Took : L → Type 0 = λ l. Tells (past l).took (written_in (moves ++ m ∷ [])) in
@@ -150,8 +175,8 @@ module _ {L : Type 0} where
       let sends : sent_in (moves ++ m ∷ []) ≡ sent_in moves = sent_both moves (m ∷ []) ∙ append-nil (sent_in moves) in
       let before = payloads_of (events_in moves) in
       let later = payloads_of events in
-      let told : events_in (moves ++ m ∷ []) ≡ events_in moves ++ events = events_both moves (m ∷ []) ∙ ap (λ (es : List ClientEvent). events_in moves ++ es) (append-nil events) in
-      let all : payloads_of (events_in (moves ++ m ∷ [])) ≡ before ++ later = ap (λ (es : List ClientEvent). payloads_of es) told ∙ payloads_both (events_in moves) events in
+      let heard : events_in (moves ++ m ∷ []) ≡ events_in moves ++ events = events_both moves (m ∷ []) ∙ ap (λ (es : List ClientEvent). events_in moves ++ es) (append-nil events) in
+      let all : payloads_of (events_in (moves ++ m ∷ [])) ≡ before ++ later = ap (λ (es : List ClientEvent). payloads_of es) heard ∙ payloads_both (events_in moves) events in
       let size : length (payloads_of (events_in (moves ++ m ∷ []))) ≡ length before + length later = ap (λ (ps : List (List ℕ)). length ps) all ∙ length-append before later in
       let on : GoesOn past counts ask moves (lines_text (take x.left later)) y = record {
         moves = moves ++ m ∷ [];
@@ -169,6 +194,12 @@ module _ {L : Type 0} where
           within = omega (arith, same, at.within);
           left = omega (arith, left, at.left, size);
           works = ap (λ (l : L). (counts l).faults) link ∙ at.works;
+          opened = λ is_open.
+              let P : List ClientEvent → Type 0 = λ es. Contains es event.Opened in
+              subst P (sym (told_after s piece events t reads)) (elim (opens is_open) [
+                | inl was ↦ Contains-append_left (told s) events event.Opened (at.opened was)
+                | inr new ↦ Contains-append_right (told s) events event.Opened new
+              ]);
         };
         shows =
             ap (λ (ps : List (List ℕ)). lines_text (take ask.count ps)) all
@@ -176,4 +207,4 @@ module _ {L : Type 0} where
             ∙ lines_both (take ask.count before) (take (ask.count - length before) later)
             ∙ ap (λ (n : ℕ). shown_of ask moves ++ lines_text (take n later)) (sym at.left);
       } in
-      record { on = on; told = told }
+      record { on = on; told = heard }

@@ -5,3 +5,4 @@ pub mod Shows
 pub mod Sourced
 pub mod Ending
 pub mod Whole
+pub mod Visible

@@ -3,7 +3,7 @@ use Rattle.std.specs.Prelude.{◌≡◌, ℕ, ◌-◌, ◌≤◌, ◌⊎◌, Boo
 use Rattle.mq_client.specs.Client.{StandsFor}
 use Rattle.mq_client.specs.declared.event.ClientEvent.{ClientEvent}
 use Rattle.mq_client.specs.declared.event.ClientEvent.TheVariants as event
-use Rattle.mq_client.specs.State.{State}
+use Rattle.mq_client.specs.State.{State, told}
 use Rattle.mq_outside.specs.Counts.{LinkCounts}
 use Rattle.mq_outside.specs.Links.{LinkPast}
 use Rattle.mq_outside.specs.Outside.{Rose}
@@ -88,6 +88,7 @@ module _ {L : Type 0} where
     pub within : x.sent ≤ length ask.payloads
     pub left : x.left ≡ ask.count - length (payloads_of (events_in moves))
     pub works : (counts x.link).faults ≡ 0
+    pub opened : x.is_open ≡ true → Contains (told s) event.Opened
 
   -- it was fed all
   abbrev pub IsAt : (L → LinkPast) → (L → LinkCounts) → Asking → Exchange L → List Move → State → Type 0

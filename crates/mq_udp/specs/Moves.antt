@@ -1,8 +1,8 @@
 -- What a client did on its way: what it was fed, what it sent, and what of its bytes was written.
-use Rattle.std.specs.Prelude.{◌≡◌, ℕ, List, [], ◌∷◌, ◌++◌, length, Option, Some, None}
+use Rattle.std.specs.Prelude.{◌≡◌, ℕ, List, [], ◌∷◌, ◌++◌, length, Option, Some, None, Contains}
 use Rattle.mq_client.specs.declared.event.ClientEvent.{ClientEvent}
 use Rattle.mq_client.specs.declared.event.ClientEvent.TheVariants as event
-use Rattle.mq_client.specs.State.{State, Reads, sent, wrote, owed}
+use Rattle.mq_client.specs.State.{State, Reads, sent, told, wrote, owed}
 
 pub data Move : Type 0 where
   -- a piece came, and brought these events
@@ -18,9 +18,10 @@ pub record Writes (s : State) (bytes : List ℕ) (t : State) : Type 0 where
   pub owed_is : owed s ≡ bytes ++ rest
   pub is : t ≡ wrote s (length bytes)
 
+-- a payload is sent only behind the opening of the tunnel
 abbrev pub Does : State → Move → State → Type 0
 Does s (Fed piece events) t = Reads s piece events t
-Does s (Sent payload) t = t ≡ sent s payload
+Does s (Sent payload) t = Contains (told s) event.Opened × (t ≡ sent s payload)
 Does s (Wrote bytes) t = Writes s bytes t
 
 -- it did these, one after the other

@@ -10,7 +10,7 @@ use Rattle.mq_udp.specs.declared.outcome.Outcome.{Outcome}
 use Rattle.mq_udp.specs.declared.outcome.Outcome.TheVariants as outcome
 use Rattle.mq_udp.specs.declared.reading.Unread.{Unread}
 use Rattle.mq_udp.specs.declared.reading.Unread.TheVariants as unread
-use Rattle.mq_udp.specs.declared.talk.Asked.{Asked}
+use Rattle.mq_udp.specs.declared.asked.Asked.{Asked}
 use Rattle.mq_udp.specs.Input.{IsInput}
 use Rattle.mq_udp.specs.Inputs.{IsAtEnd, IsBadAt}
 use Rattle.mq_udp.specs.Talks.{Asking, Ends}

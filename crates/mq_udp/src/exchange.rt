@@ -1,6 +1,7 @@
 //! A client and its link: what it owes is written, what comes is fed to it, and the payloads that it tells are printed.
-ghost use Rattle.std.specs.Prelude.{◌≡◌, ◌<◌, ◌↔◌, ℕ, List, [], length, IsTrue};
+ghost use Rattle.std.specs.Prelude.{◌≡◌, ◌<◌, ◌↔◌, ◌⊎◌, ℕ, List, [], length, true, Contains, IfOk, IsTrue};
 ghost use Rattle.mq_client.specs.Client.{StandsFor};
+ghost use Rattle.mq_client.specs.declared.event.ClientEvent.TheVariants as told;
 ghost use Rattle.mq_client.specs.State.{State, begun};
 ghost use Rattle.mq_output.specs.Printing.{Prints, StopCounts, Takes};
 ghost use Rattle.mq_outside.specs.Outsides.{IsFresh};
@@ -15,9 +16,6 @@ use mq_outside::{Link, LinkGot, LinkPut, Sink};
 use mq_script::print_bytes;
 use mq_wire::Bytes;
 use std::alloc::Global;
-
-/// How many bytes one read asks for.
-const MOST_READ: usize = 65_536;
 
 /// A client on its link.
 #[derive(Drop)]
@@ -86,6 +84,7 @@ fn hear_one<K: Sink>(
     output: &mut Output<'_, K>,
 ) -> Result<(), Stop>
     ensures prints { (shown : List ℕ) × Prints K.taken output.old output.new shown × HearsOne event left.old shown heard.old.end result left.new heard.new.end }
+    ensures opens { heard.new.opens ≡ true → (heard.old.opens ≡ true) ⊎ (event ≡ told.Opened) }
     ensures counts { StopCounts (K.faults output.old.sink.now) (K.faults output.new.sink.now) result }
 {
     match event {
@@ -105,6 +104,7 @@ fn hear_all<K: Sink>(
     output: &mut Output<'_, K>,
 ) -> Result<Heard, Stop>
     ensures prints { (shown : List ℕ) × Prints K.taken output.old output.new shown × HearsAll events.items left.old shown result left.new }
+    ensures opens { IfOk result (λ heard. heard.opens ≡ true → Contains events.items told.Opened) }
     ensures counts { StopCounts (K.faults output.old.sink.now) (K.faults output.new.sink.now) result }
 {
     let mut heard = Heard {
@@ -125,6 +125,7 @@ fn hear<K: Sink>(
 ) -> Result<Heard, Outcome>
     requires { output.old.owed.now.items ≡ [] }
     ensures takes { (shown : List ℕ) × Takes K.taken output.old output.new shown × Hears events.items left.old shown result left.new }
+    ensures opens { IfOk result (λ heard. heard.opens ≡ true → Contains events.items told.Opened) }
     ensures flushed { IsFlushed output.new.owed.now.items result }
     ensures counts { EndCounts (K.faults output.old.sink.now) (K.faults output.new.sink.now) result }
 {

@@ -1,6 +1,7 @@
 //! A client of a proxy at work: payloads are read as lines, sent through a tunnel for UDP, and what comes back is printed.
 #![tactic(auto)]
 
+mod asked;
 mod exchange;
 mod input;
 mod outcome;
@@ -9,5 +10,6 @@ mod talk;
 #[cfg(test)]
 mod tests;
 
+pub use asked::Asked;
 pub use outcome::Outcome;
-pub use talk::{Asked, udp};
+pub use talk::udp;

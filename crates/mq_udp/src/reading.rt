@@ -10,8 +10,8 @@ use mq_outside::{Got, Source};
 use mq_wire::Bytes;
 use std::alloc::Global;
 
-/// How many bytes one read asks for.
-const MOST_READ: usize = 65_536;
+/// How many bytes one read of the input, or of the link, asks for.
+pub const MOST_READ: usize = 65_536;
 
 /// Why an input has no payloads.
 #[derive(Clone, Copy, Debug, PartialEq, Eq)]

@@ -1,6 +1,6 @@
 //! A client dials a proxy, sends what an input spells, and prints what comes back.
 ghost use Rattle.std.specs.Prelude.{◌≡◌, ℕ, ◌<◌, ◌≤◌, ◌+◌, List, [], ◌++◌, length};
-ghost use Rattle.mq_client.specs.Requests.{AreVisible};
+ghost use Rattle.mq_client.specs.Requests.{AreVisible, target_limit};
 ghost use Rattle.mq_client.specs.State.{State};
 ghost use Rattle.mq_output.specs.Printing.{Adds, Takes};
 ghost use Rattle.mq_outside.specs.Outside.{Gives};
@@ -10,35 +10,16 @@ ghost use Rattle.mq_udp.specs.Moves.{Move};
 ghost use Rattle.mq_udp.specs.Talks.{Asking, Ends, shown_of};
 ghost use Rattle.mq_udp.specs.Udp.{OutcomeCounts, Refuses, SourceCounts, UdpTo, asking, seen_of};
 
+use crate::asked::Asked;
 use crate::exchange::{Exchange, Round};
 use crate::outcome::Outcome;
-use crate::reading::{Unread, read_input};
-use mq_addr::Addr;
+use crate::reading::{MOST_READ, Unread, read_input};
 use mq_client::Client;
 use mq_output::Output;
 use mq_outside::{Link, Outside, Sink, Source};
 use mq_script::print_bad_line;
-use mq_wire::Bytes;
 use std::alloc::Global;
 use std::sync::Wait;
-
-/// How many bytes one read asks for.
-const MOST_READ: usize = 65_536;
-
-/// What a client asks of which proxy.
-#[derive(Drop)]
-pub struct Asked {
-    /// Where the proxy is.
-    pub addr: Addr,
-    pub port: u16,
-    /// Whether it is asked over HTTP/2, and else over HTTP/1.1.
-    pub h2: bool,
-    /// The path and query of the request, and its host.
-    pub path: Bytes,
-    pub host: Bytes,
-    /// How many payloads are waited for.
-    pub count: u32,
-}
 
 /// Says why an input has no payloads.
 fn refuse<K: Sink>(why: Unread, output: &mut Output<'_, K>) -> Outcome
@@ -132,7 +113,7 @@ pub fn udp<R: Wait, S: Source, K: Sink, O: Outside>(
 ) -> Outcome
 where
     <O::L as Link>::Rest: Send,
-    requires size { length asked.path + length asked.host ≤ 8192 }
+    requires size { length asked.path + length asked.host ≤ target_limit }
     requires path_visible { AreVisible asked.path }
     requires host_visible { AreVisible asked.host }
     // What was read, printed and said to the proxy, by the outcome.

@@ -1,13 +1,14 @@
 //! A client and a proxy in memory: what is printed, what the proxy takes, and how it ends.
 
 ghost use Rattle.std.specs.Prelude.{◌≡◌, ◌+◌, ◌≤◌, [], length, IfOk};
-ghost use Rattle.mq_client.specs.Requests.{AreVisible};
+ghost use Rattle.mq_client.specs.Requests.{AreVisible, target_limit};
 ghost use Rattle.mq_mem.specs.Links.{AllFull};
 ghost use Rattle.mq_mem.specs.Outsides.{AreNew};
 
 use crate::{Asked, Outcome, udp};
 use mq_addr::Addr;
 use mq_mem::{MemAcceptor, MemLink, MemOutside, MemSink, MemSource};
+use mq_target::{Host, Target};
 use mq_wire::{Bytes, NoMemory, Seq};
 use std::alloc::Global;
 use std::sync::Wait;
@@ -132,7 +133,7 @@ fn outside(alloc: Global, case: &Case) -> Result<MemOutside, NoMemory> {
 
 /// A tunnel to 192.0.2.6, port 443, is asked for at a proxy on 127.0.0.1, port 8080.
 fn asked(alloc: Global, case: &Case) -> Result<Asked, NoMemory>
-    ensures size { IfOk result (λ asked. length asked.path + length asked.host ≤ 8192) }
+    ensures size { IfOk result (λ asked. length asked.path + length asked.host ≤ target_limit) }
     ensures visible { IfOk result (λ asked. AreVisible asked.path × AreVisible asked.host) }
 {
     let path = bytes(alloc, b"/.well-known/masque/udp/192.0.2.6/443/")?;
@@ -239,6 +240,71 @@ fn a_bad_line_is_told_and_nothing_dialled(rt: HostRuntime) -> Result<(), Fail> {
         assert_eq!(rt; seen.outcome, Outcome::BadInput);
         assert_eq!(rt; seen.printed.as_slice(), b"bad line 2\n".as_slice());
         assert_eq!(rt; seen.backs, 0);
+    }
+    Ok(())
+}
+
+/// What is asked of a proxy: the path and the host of the request, in one line.
+fn request(alloc: Global, addr: Addr, host: Host, port: u16) -> Result<String, Fail> {
+    let asked = Asked::to(alloc, addr, 8080, false, &Target::Udp { host, port }, 1)?;
+    let path = String::from_utf8_lossy(alloc, asked.path.as_slice())?;
+    let host = String::from_utf8_lossy(alloc, asked.host.as_slice())?;
+    Ok(format!(in alloc; "{path} {host}")?)
+}
+
+#[test]
+fn a_target_stands_in_the_path(rt: HostRuntime) -> Result<(), Fail> {
+    let cases = [
+        (
+            Addr::V4(0x7f00_0001),
+            Host::Address(Addr::V4(0xc000_0206)),
+            443,
+            "/.well-known/masque/udp/192.0.2.6/443/ 127.0.0.1:8080",
+        ),
+        (
+            Addr::V6(1),
+            Host::Address(Addr::V6(0x2001_0db8_0000_0000_0000_0000_0000_0001)),
+            65_535,
+            "/.well-known/masque/udp/2001%3Adb8%3A%3A1/65535/ [::1]:8080",
+        ),
+        (
+            Addr::V4(1),
+            Host::Name(bytes(rt.alloc(), b"target.example-1.org")?),
+            1,
+            "/.well-known/masque/udp/target.example-1.org/1/ 0.0.0.1:8080",
+        ),
+    ];
+    for (addr, host, port, want) in cases {
+        assert_eq!(rt; request(rt.alloc(), addr, host, port)?.as_str(), want);
+    }
+    Ok(())
+}
+
+/// A line with a payload of so many bytes, and one behind it.
+fn line_of(alloc: Global, count: u32) -> Result<Vec<u8>, NoMemory> {
+    let mut input = Vec::new(alloc);
+    for _ in 0..count {
+        input.extend_from_slice(b"61")?;
+    }
+    input.extend_from_slice(b"\n61\n")?;
+    Ok(input)
+}
+
+#[test]
+fn a_payload_has_at_most_65527_bytes(rt: HostRuntime) -> Result<(), Fail> {
+    let cases: [(u32, Outcome, &[u8]); 2] = [
+        (65_527, Outcome::OutsideFault, b""),
+        (65_528, Outcome::BadInput, b"bad line 1\n"),
+    ];
+    for (count, outcome, printed) in cases {
+        let input = line_of(rt.alloc(), count)?;
+        let case = Case {
+            input: input.as_slice(),
+            ..NOTHING
+        };
+        let seen = run_case(&rt, rt.alloc(), &case)?;
+        assert_eq!(rt; seen.outcome, outcome);
+        assert_eq!(rt; seen.printed.as_slice(), printed);
     }
     Ok(())
 }

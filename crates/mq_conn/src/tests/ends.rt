@@ -7,11 +7,17 @@ use mq_wire::Seq;
 use std::alloc::Global;
 use std::test::Fail;
 
+fn feeds(alloc: Global, conn: &mut Conn, piece: &[u8]) -> Result<(), Fail> {
+    let setup = setup(alloc)?;
+    conn.feed(&setup, piece)?;
+    Ok(())
+}
+
 /// A connection that read this.
 fn after(alloc: Global, piece: &[u8]) -> Result<Conn, Fail> {
     let mut conn = Conn::new(alloc, 0, 0)?;
     if !piece.is_empty() {
-        conn.feed(&setup(alloc)?, piece)?;
+        feeds(alloc, &mut conn, piece)?;
     }
     Ok(conn)
 }
@@ -86,7 +92,7 @@ fn a_port_fails(rt: HostRuntime) -> Result<(), Fail> {
 #[test]
 fn a_port_fails_before_a_send(rt: HostRuntime) -> Result<(), Fail> {
     let mut conn = tunneled(rt.alloc())?;
-    conn.feed(&setup(rt.alloc())?, &[0, 3, 0, 0x68, 0x69])?;
+    feeds(rt.alloc(), &mut conn, &[0, 3, 0, 0x68, 0x69])?;
     assert_eq!(rt; conn.payload(), b"hi".as_slice());
     conn.shut(0);
     assert!(rt; conn.payload().is_empty());

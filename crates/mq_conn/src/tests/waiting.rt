@@ -14,12 +14,8 @@ fn comes(alloc: Global, conn: &mut Conn, n: u64, count: usize) -> Result<String,
 
 /// Whether a packet of so many bytes finds a place.
 fn waits(alloc: Global, conn: &mut Conn, n: u64, count: usize) -> Result<bool, Fail> {
-    Ok(
-        match conn.deliver(From::Port(0), n, 0, filled(alloc, 0x61, count)?) {
-            Note::Queued { .. } => true,
-            _ => false,
-        },
-    )
+    let note = conn.deliver(From::Port(0), n, 0, filled(alloc, 0x61, count)?);
+    Ok(matches!(&note, Note::Queued { .. }))
 }
 
 #[test]

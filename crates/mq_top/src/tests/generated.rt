@@ -1,10 +1,11 @@
 //! The word `gen`: scripts are printed.
 
-use super::{NEVER, roomy};
-use crate::{Status, run};
+use super::{NEVER, does, nowhere, roomy, words_of};
+use crate::Status;
 use mq_mem::{MemSink, MemSource};
 use mq_wire::{Bytes, NoMemory, Seq};
 use std::alloc::Global;
+use std::sync::Wait;
 use std::test::Fail;
 
 /// The script that 7 makes with one packet, as a program prints it that was written from docs/generator.md.
@@ -18,33 +19,39 @@ const LAST_OF_2000: &[u8] =
 /// Does what words say, over a source with a script and a sink with so much room, of which one write fails and each takes at
 /// most so many bytes. Answers the status and what the sink took.
 pub fn done(
+    rt: &impl Wait,
     alloc: Global,
     words: &[&str],
     room: u32,
     fail_write: u64,
     written: u32,
 ) -> Result<(u8, Vec<u8>), NoMemory> {
-    let mut list = Vec::new(alloc);
-    for word in words {
-        list.push(String::from_str(alloc, word)?)?;
-    }
+    let list = words_of(alloc, words)?;
     let script = Bytes::from_vec(Vec::from_slice(alloc, b"step 0\n")?);
     let mut source = MemSource::new(script, Seq::from_vec(Vec::new(alloc)))?;
     let writes = Seq::from_vec(vec![in alloc; fail_write]?);
     let mut sink = MemSink::new(alloc, room, writes)?.in_pieces(written);
-    let status = run(alloc, list.as_slice(), &mut source, &mut sink);
+    let mut outside = nowhere(alloc)?;
+    let status = does(
+        rt,
+        alloc,
+        list.as_slice(),
+        &mut source,
+        &mut sink,
+        &mut outside,
+    );
     Ok((status, Vec::from_slice(alloc, sink.taken())?))
 }
 
 #[test]
 fn a_seed_and_a_count_make_a_script(rt: HostRuntime) -> Result<(), Fail> {
     for written in [1, 7, u32::MAX] {
-        let (status, text) = done(rt.alloc(), &["gen", "7", "1"], 1_000, NEVER, written)?;
+        let (status, text) = done(&rt, rt.alloc(), &["gen", "7", "1"], 1_000, NEVER, written)?;
         assert_eq!(rt; text.as_slice(), ONE);
         assert_eq!(rt; status, 0);
     }
     let words = ["gen", "7", "2000"];
-    let (status, text) = done(rt.alloc(), &words, 200_000, NEVER, u32::MAX)?;
+    let (status, text) = done(&rt, rt.alloc(), &words, 200_000, NEVER, u32::MAX)?;
     assert_eq!(rt; text.len(), 175_843);
     assert!(rt; text.ends_with(LAST_OF_2000));
     assert_eq!(rt; status, 0);
@@ -53,7 +60,7 @@ fn a_seed_and_a_count_make_a_script(rt: HostRuntime) -> Result<(), Fail> {
 
 #[test]
 fn a_printed_script_is_played(rt: HostRuntime) -> Result<(), Fail> {
-    let (_, script) = done(rt.alloc(), &["gen", "7", "1"], 1_000, NEVER, u32::MAX)?;
+    let (_, script) = done(&rt, rt.alloc(), &["gen", "7", "1"], 1_000, NEVER, u32::MAX)?;
     let (status, _) = roomy(rt.alloc(), script.as_slice())?;
     assert_eq!(rt; status, Status::Done);
     Ok(())
@@ -82,7 +89,7 @@ fn seeds_and_counts_have_limits(rt: HostRuntime) -> Result<(), Fail> {
         (&["replay", "7", "1"], 2, 0),
     ];
     for (words, want, length) in cases {
-        let (status, text) = done(rt.alloc(), words, 5_000_000, NEVER, u32::MAX)?;
+        let (status, text) = done(&rt, rt.alloc(), words, 5_000_000, NEVER, u32::MAX)?;
         assert_eq!(rt; status, want);
         assert_eq!(rt; text.len(), length);
     }
@@ -92,12 +99,19 @@ fn seeds_and_counts_have_limits(rt: HostRuntime) -> Result<(), Fail> {
 #[test]
 fn a_failing_sink_has_a_front(rt: HostRuntime) -> Result<(), Fail> {
     for fail_write in [0, 1, 77, 155] {
-        let (status, text) = done(rt.alloc(), &["gen", "7", "1"], 1_000, fail_write, 5)?;
+        let (status, text) = done(&rt, rt.alloc(), &["gen", "7", "1"], 1_000, fail_write, 5)?;
         assert!(rt; ONE.starts_with(text.as_slice()), "write {fail_write}");
         assert_eq!(rt; text.len() as u64, 5 * fail_write);
         assert_eq!(rt; status, 4);
     }
-    let (status, text) = done(rt.alloc(), &["gen", "7", "2000"], 100_000, NEVER, u32::MAX)?;
+    let (status, text) = done(
+        &rt,
+        rt.alloc(),
+        &["gen", "7", "2000"],
+        100_000,
+        NEVER,
+        u32::MAX,
+    )?;
     assert_eq!(rt; text.len(), 100_000);
     assert!(rt; text.starts_with(ONE.split_at(600).0));
     assert_eq!(rt; status, 4);

@@ -13,7 +13,7 @@ const OF_7_AND_20: &[u8] =
 #[test]
 fn a_generated_script_is_counted(rt: HostRuntime) -> Result<(), Fail> {
     for written in [1, 7, u32::MAX] {
-        let (status, text) = done(rt.alloc(), &["soak", "7", "20"], 1_000, NEVER, written)?;
+        let (status, text) = done(&rt, rt.alloc(), &["soak", "7", "20"], 1_000, NEVER, written)?;
         assert_eq!(rt; text.as_slice(), OF_7_AND_20);
         assert_eq!(rt; status, 0);
     }
@@ -32,7 +32,7 @@ fn words_have_limits(rt: HostRuntime) -> Result<(), Fail> {
         &["Soak", "7", "1"],
     ];
     for words in cases {
-        let (status, text) = done(rt.alloc(), words, 1_000, NEVER, u32::MAX)?;
+        let (status, text) = done(&rt, rt.alloc(), words, 1_000, NEVER, u32::MAX)?;
         assert_eq!(rt; status, 2);
         assert!(rt; text.is_empty());
     }
@@ -42,7 +42,7 @@ fn words_have_limits(rt: HostRuntime) -> Result<(), Fail> {
 #[test]
 fn a_failing_sink_has_a_front(rt: HostRuntime) -> Result<(), Fail> {
     for fail_write in [0, 1, 9] {
-        let (status, text) = done(rt.alloc(), &["soak", "7", "20"], 1_000, fail_write, 5)?;
+        let (status, text) = done(&rt, rt.alloc(), &["soak", "7", "20"], 1_000, fail_write, 5)?;
         assert!(rt;
             OF_7_AND_20.starts_with(text.as_slice()),
             "write {fail_write}"

@@ -2,4 +2,4 @@ use Rattle.mq_target.proofs.Again.{read_again}
 use Rattle.mq_target.proofs.laws.expanded_again.Goals as goal
 
 pub returns : goal.returns
-returns c = λ text shape target is fits suits. read_again c.addr_bytes.ensures c.printed_again.ensures shape target fits suits
+returns c = read_again c.addr_bytes.ensures c.printed_again.ensures

@@ -6,7 +6,7 @@ use Rattle.mq_actor.specs.Holds.{HaveOwnPorts}
 use Rattle.mq_actor.specs.Passing.{PassGives, AreKnown}
 use Rattle.mq_actor.specs.Seats.{AcceptGives, InboxGives}
 use Rattle.mq_actor.specs.Seen.{Words, Moment}
-use Rattle.mq_actor.proofs.Returning.{begun, among, err_promise, known_conns, known_later, accept_refused, accept_did, pop_did, upper_stopped, accept_refused_later, accept_did_later, pop_did_later, lower_gives}
+use Rattle.mq_actor.proofs.Returning.{begun, from_begun, among, err_promise, known_conns, known_later, accept_refused, accept_did, pop_did, upper_stopped, accept_refused_later, accept_did_later, pop_did_later, lower_gives}
 use Rattle.mq_actor.proofs.Returning.{accept_refused_sights, accept_did_sights, pop_did_sights, upper_stopped_sights, accept_refused_later_sights}
 use Rattle.mq_actor.proofs.Returning.{accept_did_later_sights, pop_did_later_sights, lower_sights, pump_one, inboxes_one, pump_two, inboxes_two}
 use Rattle.mq_actor.proofs.Placing.{fitting}
@@ -22,7 +22,7 @@ returns-in_err-note-clause-gives g c =
     record { conns = self.conns.items; table = c.args.table.now.table; binds = binder g.P.Ports.holds g.P.Ports.faults c.args.table.now.ports; seen = g.O.Office.seen c.args.office.now; boxes = g.M.Mail.boxes c.args.mail.now } in
     let count = g.M.Mail.count c.args.mail.now in
     err_promise words self old refl count c.requires.office c.requires.inboxes c.accept.new.self old c.in_err-note.field-0.0 c.from_residual.result c.from_residual.ensures.0
-    (accept_refused words self old refl count c.requires.office c.requires.inboxes c.accept.new.self c.in_err-note.field-0.0 c.in_err-note.ensures.gives)
+    (accept_refused words self old refl count c.requires.office c.requires.inboxes c.accept.new.self c.in_err-note.field-0.0 (from_begun self c.forget.new.self c.accept.new.self (Err c.in_err-note.field-0.0) c.forget.ensures c.in_err-note.ensures.gives))
 
 pub returns-in-Some-clause-gives : goal.returns-in-Some-clause-gives
 returns-in-Some-clause-gives g c =
@@ -31,8 +31,8 @@ returns-in-Some-clause-gives g c =
     let old : Moment g.row.L.Denot g.row.P-P.Denot =
     record { conns = self.conns.items; table = c.args.table.now.table; binds = binder g.P.Ports.holds g.P.Ports.faults c.args.table.now.ports; seen = g.O.Office.seen c.args.office.now; boxes = g.M.Mail.boxes c.args.mail.now } in
     let count = g.M.Mail.count c.args.mail.now in
-    let A : Option Note → Type 0 = λ z. AcceptGives true (begun self) c.accept.new.self (Ok z) in
-    accept_did words self old refl count c.requires.office c.requires.inboxes c.accept.new.self c.in-Some.note (subst A c.in-Some.is c.in_ok-note.ensures.gives)
+    let A : Option Note → Type 0 = λ z. AcceptGives true c.forget.new.self c.accept.new.self (Ok z) in
+    accept_did words self old refl count c.requires.office c.requires.inboxes c.accept.new.self c.in-Some.note (from_begun self c.forget.new.self c.accept.new.self (Ok (Some c.in-Some.note)) c.forget.ensures (subst A c.in-Some.is c.in_ok-note.ensures.gives))
 
 pub returns-in-Some-pop-clause-gives : goal.returns-in-Some-pop-clause-gives
 returns-in-Some-pop-clause-gives g c =
@@ -41,8 +41,8 @@ returns-in-Some-pop-clause-gives g c =
     let old : Moment g.row.L.Denot g.row.P-P.Denot =
     record { conns = self.conns.items; table = c.args.table.now.table; binds = binder g.P.Ports.holds g.P.Ports.faults c.args.table.now.ports; seen = g.O.Office.seen c.args.office.now; boxes = g.M.Mail.boxes c.args.mail.now } in
     let count = g.M.Mail.count c.args.mail.now in
-    let A : Option Note → Type 0 = λ z. AcceptGives true (begun self) c.accept.new.self (Ok z) in
-    let first = subst A c.in_default.is c.in_ok-note.ensures.gives in
+    let A : Option Note → Type 0 = λ z. AcceptGives true c.forget.new.self c.accept.new.self (Ok z) in
+    let first = from_begun self c.forget.new.self c.accept.new.self (Ok None) c.forget.ensures (subst A c.in_default.is c.in_ok-note.ensures.gives) in
     pop_did words self old refl count c.requires.office c.requires.inboxes c.accept.new.self c.pop.new.self c.in-Some-pop.note (g.M.Mail.boxes c.pop.new.mail) (g.M.Mail.actor c.args.mail.now) c.requires.mail first c.in-Some-pop.ensures.gives
 
 pub pass-requires-clause-known : goal.pass-requires-clause-known
@@ -52,8 +52,8 @@ pass-requires-clause-known g c =
     let old : Moment g.row.L.Denot g.row.P-P.Denot =
     record { conns = self.conns.items; table = c.args.table.now.table; binds = binder g.P.Ports.holds g.P.Ports.faults c.args.table.now.ports; seen = g.O.Office.seen c.args.office.now; boxes = g.M.Mail.boxes c.args.mail.now } in
     let count = g.M.Mail.count c.args.mail.now in
-    let A : Option Note → Type 0 = λ z. AcceptGives true (begun self) c.accept.new.self (Ok z) in
-    let first = subst A c.in_default.is c.in_ok-note.ensures.gives in
+    let A : Option Note → Type 0 = λ z. AcceptGives true c.forget.new.self c.accept.new.self (Ok z) in
+    let first = from_begun self c.forget.new.self c.accept.new.self (Ok None) c.forget.ensures (subst A c.in_default.is c.in_ok-note.ensures.gives) in
     let k = c.requires.known in
     let P : Ring g.row.L.Denot → Type 0 = λ z. AreKnown words (record { conns = z.conns.items; table = old.table; binds = old.binds; seen = old.seen; boxes = g.M.Mail.boxes c.pop.new.mail }) in
     subst P (sym (c.in_default-pop.ensures.gives.0 ∙ first.0)) (known_conns words self old refl count c.requires.office c.requires.inboxes k.0 k.1 c.requires.sound k.2 k.3)
@@ -65,8 +65,8 @@ pass-requires-clause-ports g c =
     let old : Moment g.row.L.Denot g.row.P-P.Denot =
     record { conns = self.conns.items; table = c.args.table.now.table; binds = binder g.P.Ports.holds g.P.Ports.faults c.args.table.now.ports; seen = g.O.Office.seen c.args.office.now; boxes = g.M.Mail.boxes c.args.mail.now } in
     let count = g.M.Mail.count c.args.mail.now in
-    let A : Option Note → Type 0 = λ z. AcceptGives true (begun self) c.accept.new.self (Ok z) in
-    let first = subst A c.in_default.is c.in_ok-note.ensures.gives in
+    let A : Option Note → Type 0 = λ z. AcceptGives true c.forget.new.self c.accept.new.self (Ok z) in
+    let first = from_begun self c.forget.new.self c.accept.new.self (Ok None) c.forget.ensures (subst A c.in_default.is c.in_ok-note.ensures.gives) in
     let k = c.requires.known in
     let P : Ring g.row.L.Denot → Type 0 = λ z. HaveOwnPorts z.conns.items in
     subst P (sym (c.in_default-pop.ensures.gives.0 ∙ first.0)) k.2.ports
@@ -78,8 +78,8 @@ pass-requires-clause-pump g c =
     let old : Moment g.row.L.Denot g.row.P-P.Denot =
     record { conns = self.conns.items; table = c.args.table.now.table; binds = binder g.P.Ports.holds g.P.Ports.faults c.args.table.now.ports; seen = g.O.Office.seen c.args.office.now; boxes = g.M.Mail.boxes c.args.mail.now } in
     let count = g.M.Mail.count c.args.mail.now in
-    let A : Option Note → Type 0 = λ z. AcceptGives true (begun self) c.accept.new.self (Ok z) in
-    let first = subst A c.in_default.is c.in_ok-note.ensures.gives in
+    let A : Option Note → Type 0 = λ z. AcceptGives true c.forget.new.self c.accept.new.self (Ok z) in
+    let first = from_begun self c.forget.new.self c.accept.new.self (Ok None) c.forget.ensures (subst A c.in_default.is c.in_ok-note.ensures.gives) in
     let popped = c.in_default-pop.ensures.gives in
     let k = c.requires.known in
     pump_one words self old refl count c.requires.office c.requires.inboxes c.accept.new.self c.pop.new.self (g.M.Mail.boxes c.pop.new.mail) (g.M.Mail.actor c.args.mail.now) c.requires.mail first popped k.0 k.1 k.2 k.3
@@ -91,8 +91,8 @@ pass-requires-clause-inboxes g c =
     let old : Moment g.row.L.Denot g.row.P-P.Denot =
     record { conns = self.conns.items; table = c.args.table.now.table; binds = binder g.P.Ports.holds g.P.Ports.faults c.args.table.now.ports; seen = g.O.Office.seen c.args.office.now; boxes = g.M.Mail.boxes c.args.mail.now } in
     let count = g.M.Mail.count c.args.mail.now in
-    let A : Option Note → Type 0 = λ z. AcceptGives true (begun self) c.accept.new.self (Ok z) in
-    let first = subst A c.in_default.is c.in_ok-note.ensures.gives in
+    let A : Option Note → Type 0 = λ z. AcceptGives true c.forget.new.self c.accept.new.self (Ok z) in
+    let first = from_begun self c.forget.new.self c.accept.new.self (Ok None) c.forget.ensures (subst A c.in_default.is c.in_ok-note.ensures.gives) in
     let popped = c.in_default-pop.ensures.gives in
     let k = c.requires.known in
     inboxes_one words self old refl count c.requires.office c.requires.inboxes c.accept.new.self c.pop.new.self (g.M.Mail.boxes c.pop.new.mail) (g.M.Mail.actor c.args.mail.now) c.requires.mail first popped (g.M.Mail.count c.pop.new.mail) c.in_default-pop.ensures.count k.0 k.1 k.3
@@ -104,8 +104,8 @@ returns-in_err-note-2-clause-gives g c =
     let old : Moment g.row.L.Denot g.row.P-P.Denot =
     record { conns = self.conns.items; table = c.args.table.now.table; binds = binder g.P.Ports.holds g.P.Ports.faults c.args.table.now.ports; seen = g.O.Office.seen c.args.office.now; boxes = g.M.Mail.boxes c.args.mail.now } in
     let count = g.M.Mail.count c.args.mail.now in
-    let A : Option Note → Type 0 = λ z. AcceptGives true (begun self) c.accept.new.self (Ok z) in
-    let first = subst A c.in_default.is c.in_ok-note.ensures.gives in
+    let A : Option Note → Type 0 = λ z. AcceptGives true c.forget.new.self c.accept.new.self (Ok z) in
+    let first = from_begun self c.forget.new.self c.accept.new.self (Ok None) c.forget.ensures (subst A c.in_default.is c.in_ok-note.ensures.gives) in
     let popped = c.in_default-pop.ensures.gives in
     let boxes_one = g.M.Mail.boxes c.pop.new.mail in
     let new : Moment g.row.L.Denot g.row.P-P.Denot =
@@ -121,8 +121,8 @@ returns-in-Some-2-clause-gives g c =
     let old : Moment g.row.L.Denot g.row.P-P.Denot =
     record { conns = self.conns.items; table = c.args.table.now.table; binds = binder g.P.Ports.holds g.P.Ports.faults c.args.table.now.ports; seen = g.O.Office.seen c.args.office.now; boxes = g.M.Mail.boxes c.args.mail.now } in
     let count = g.M.Mail.count c.args.mail.now in
-    let A : Option Note → Type 0 = λ z. AcceptGives true (begun self) c.accept.new.self (Ok z) in
-    let first = subst A c.in_default.is c.in_ok-note.ensures.gives in
+    let A : Option Note → Type 0 = λ z. AcceptGives true c.forget.new.self c.accept.new.self (Ok z) in
+    let first = from_begun self c.forget.new.self c.accept.new.self (Ok None) c.forget.ensures (subst A c.in_default.is c.in_ok-note.ensures.gives) in
     let popped = c.in_default-pop.ensures.gives in
     let boxes_one = g.M.Mail.boxes c.pop.new.mail in
     let new : Moment g.row.L.Denot g.row.P-P.Denot =
@@ -138,8 +138,8 @@ returns-in_err-note-3-clause-gives g c =
     let old : Moment g.row.L.Denot g.row.P-P.Denot =
     record { conns = self.conns.items; table = c.args.table.now.table; binds = binder g.P.Ports.holds g.P.Ports.faults c.args.table.now.ports; seen = g.O.Office.seen c.args.office.now; boxes = g.M.Mail.boxes c.args.mail.now } in
     let count = g.M.Mail.count c.args.mail.now in
-    let A : Option Note → Type 0 = λ z. AcceptGives true (begun self) c.accept.new.self (Ok z) in
-    let first = subst A c.in_default.is c.in_ok-note.ensures.gives in
+    let A : Option Note → Type 0 = λ z. AcceptGives true c.forget.new.self c.accept.new.self (Ok z) in
+    let first = from_begun self c.forget.new.self c.accept.new.self (Ok None) c.forget.ensures (subst A c.in_default.is c.in_ok-note.ensures.gives) in
     let popped = c.in_default-pop.ensures.gives in
     let boxes_one = g.M.Mail.boxes c.pop.new.mail in
     let mid : Moment g.row.L.Denot g.row.P-P.Denot =
@@ -158,8 +158,8 @@ returns-in-Some-3-clause-gives g c =
     let old : Moment g.row.L.Denot g.row.P-P.Denot =
     record { conns = self.conns.items; table = c.args.table.now.table; binds = binder g.P.Ports.holds g.P.Ports.faults c.args.table.now.ports; seen = g.O.Office.seen c.args.office.now; boxes = g.M.Mail.boxes c.args.mail.now } in
     let count = g.M.Mail.count c.args.mail.now in
-    let A : Option Note → Type 0 = λ z. AcceptGives true (begun self) c.accept.new.self (Ok z) in
-    let first = subst A c.in_default.is c.in_ok-note.ensures.gives in
+    let A : Option Note → Type 0 = λ z. AcceptGives true c.forget.new.self c.accept.new.self (Ok z) in
+    let first = from_begun self c.forget.new.self c.accept.new.self (Ok None) c.forget.ensures (subst A c.in_default.is c.in_ok-note.ensures.gives) in
     let popped = c.in_default-pop.ensures.gives in
     let boxes_one = g.M.Mail.boxes c.pop.new.mail in
     let mid : Moment g.row.L.Denot g.row.P-P.Denot =
@@ -178,8 +178,8 @@ returns-in-Some-pop-2-clause-gives g c =
     let old : Moment g.row.L.Denot g.row.P-P.Denot =
     record { conns = self.conns.items; table = c.args.table.now.table; binds = binder g.P.Ports.holds g.P.Ports.faults c.args.table.now.ports; seen = g.O.Office.seen c.args.office.now; boxes = g.M.Mail.boxes c.args.mail.now } in
     let count = g.M.Mail.count c.args.mail.now in
-    let A : Option Note → Type 0 = λ z. AcceptGives true (begun self) c.accept.new.self (Ok z) in
-    let first = subst A c.in_default.is c.in_ok-note.ensures.gives in
+    let A : Option Note → Type 0 = λ z. AcceptGives true c.forget.new.self c.accept.new.self (Ok z) in
+    let first = from_begun self c.forget.new.self c.accept.new.self (Ok None) c.forget.ensures (subst A c.in_default.is c.in_ok-note.ensures.gives) in
     let popped = c.in_default-pop.ensures.gives in
     let boxes_one = g.M.Mail.boxes c.pop.new.mail in
     let mid : Moment g.row.L.Denot g.row.P-P.Denot =
@@ -201,8 +201,8 @@ pass-requires-2-clause-known g c =
     let old : Moment g.row.L.Denot g.row.P-P.Denot =
     record { conns = self.conns.items; table = c.args.table.now.table; binds = binder g.P.Ports.holds g.P.Ports.faults c.args.table.now.ports; seen = g.O.Office.seen c.args.office.now; boxes = g.M.Mail.boxes c.args.mail.now } in
     let count = g.M.Mail.count c.args.mail.now in
-    let A : Option Note → Type 0 = λ z. AcceptGives true (begun self) c.accept.new.self (Ok z) in
-    let first = subst A c.in_default.is c.in_ok-note.ensures.gives in
+    let A : Option Note → Type 0 = λ z. AcceptGives true c.forget.new.self c.accept.new.self (Ok z) in
+    let first = from_begun self c.forget.new.self c.accept.new.self (Ok None) c.forget.ensures (subst A c.in_default.is c.in_ok-note.ensures.gives) in
     let popped = c.in_default-pop.ensures.gives in
     let boxes_one = g.M.Mail.boxes c.pop.new.mail in
     let mid : Moment g.row.L.Denot g.row.P-P.Denot =
@@ -226,8 +226,8 @@ pass-requires-2-clause-ports g c =
     let old : Moment g.row.L.Denot g.row.P-P.Denot =
     record { conns = self.conns.items; table = c.args.table.now.table; binds = binder g.P.Ports.holds g.P.Ports.faults c.args.table.now.ports; seen = g.O.Office.seen c.args.office.now; boxes = g.M.Mail.boxes c.args.mail.now } in
     let count = g.M.Mail.count c.args.mail.now in
-    let A : Option Note → Type 0 = λ z. AcceptGives true (begun self) c.accept.new.self (Ok z) in
-    let first = subst A c.in_default.is c.in_ok-note.ensures.gives in
+    let A : Option Note → Type 0 = λ z. AcceptGives true c.forget.new.self c.accept.new.self (Ok z) in
+    let first = from_begun self c.forget.new.self c.accept.new.self (Ok None) c.forget.ensures (subst A c.in_default.is c.in_ok-note.ensures.gives) in
     let popped = c.in_default-pop.ensures.gives in
     let boxes_one = g.M.Mail.boxes c.pop.new.mail in
     let mid : Moment g.row.L.Denot g.row.P-P.Denot =
@@ -250,8 +250,8 @@ pass-requires-2-clause-pump g c =
     let old : Moment g.row.L.Denot g.row.P-P.Denot =
     record { conns = self.conns.items; table = c.args.table.now.table; binds = binder g.P.Ports.holds g.P.Ports.faults c.args.table.now.ports; seen = g.O.Office.seen c.args.office.now; boxes = g.M.Mail.boxes c.args.mail.now } in
     let count = g.M.Mail.count c.args.mail.now in
-    let A : Option Note → Type 0 = λ z. AcceptGives true (begun self) c.accept.new.self (Ok z) in
-    let first = subst A c.in_default.is c.in_ok-note.ensures.gives in
+    let A : Option Note → Type 0 = λ z. AcceptGives true c.forget.new.self c.accept.new.self (Ok z) in
+    let first = from_begun self c.forget.new.self c.accept.new.self (Ok None) c.forget.ensures (subst A c.in_default.is c.in_ok-note.ensures.gives) in
     let popped = c.in_default-pop.ensures.gives in
     let boxes_one = g.M.Mail.boxes c.pop.new.mail in
     let mid : Moment g.row.L.Denot g.row.P-P.Denot =
@@ -274,8 +274,8 @@ pass-requires-2-clause-inboxes g c =
     let old : Moment g.row.L.Denot g.row.P-P.Denot =
     record { conns = self.conns.items; table = c.args.table.now.table; binds = binder g.P.Ports.holds g.P.Ports.faults c.args.table.now.ports; seen = g.O.Office.seen c.args.office.now; boxes = g.M.Mail.boxes c.args.mail.now } in
     let count = g.M.Mail.count c.args.mail.now in
-    let A : Option Note → Type 0 = λ z. AcceptGives true (begun self) c.accept.new.self (Ok z) in
-    let first = subst A c.in_default.is c.in_ok-note.ensures.gives in
+    let A : Option Note → Type 0 = λ z. AcceptGives true c.forget.new.self c.accept.new.self (Ok z) in
+    let first = from_begun self c.forget.new.self c.accept.new.self (Ok None) c.forget.ensures (subst A c.in_default.is c.in_ok-note.ensures.gives) in
     let popped = c.in_default-pop.ensures.gives in
     let boxes_one = g.M.Mail.boxes c.pop.new.mail in
     let mid : Moment g.row.L.Denot g.row.P-P.Denot =
@@ -297,8 +297,8 @@ returns-clause-gives g c =
     let old : Moment g.row.L.Denot g.row.P-P.Denot =
     record { conns = self.conns.items; table = c.args.table.now.table; binds = binder g.P.Ports.holds g.P.Ports.faults c.args.table.now.ports; seen = g.O.Office.seen c.args.office.now; boxes = g.M.Mail.boxes c.args.mail.now } in
     let count = g.M.Mail.count c.args.mail.now in
-    let A : Option Note → Type 0 = λ z. AcceptGives true (begun self) c.accept.new.self (Ok z) in
-    let first = subst A c.in_default.is c.in_ok-note.ensures.gives in
+    let A : Option Note → Type 0 = λ z. AcceptGives true c.forget.new.self c.accept.new.self (Ok z) in
+    let first = from_begun self c.forget.new.self c.accept.new.self (Ok None) c.forget.ensures (subst A c.in_default.is c.in_ok-note.ensures.gives) in
     let popped = c.in_default-pop.ensures.gives in
     let boxes_one = g.M.Mail.boxes c.pop.new.mail in
     let mid : Moment g.row.L.Denot g.row.P-P.Denot =
@@ -323,7 +323,7 @@ returns-in_err-note-clause-sights g c =
     let old : Moment g.row.L.Denot g.row.P-P.Denot =
     record { conns = self.conns.items; table = c.args.table.now.table; binds = binder g.P.Ports.holds g.P.Ports.faults c.args.table.now.ports; seen = g.O.Office.seen c.args.office.now; boxes = g.M.Mail.boxes c.args.mail.now } in
     let count = g.M.Mail.count c.args.mail.now in
-    accept_refused_sights words self old refl count c.requires.office c.requires.inboxes c.accept.new.self c.in_err-note.field-0.0 c.in_err-note.ensures.gives
+    accept_refused_sights words self old refl count c.requires.office c.requires.inboxes c.accept.new.self c.in_err-note.field-0.0 (from_begun self c.forget.new.self c.accept.new.self (Err c.in_err-note.field-0.0) c.forget.ensures c.in_err-note.ensures.gives)
 
 pub returns-in-Some-clause-sights : goal.returns-in-Some-clause-sights
 returns-in-Some-clause-sights g c =
@@ -332,8 +332,8 @@ returns-in-Some-clause-sights g c =
     let old : Moment g.row.L.Denot g.row.P-P.Denot =
     record { conns = self.conns.items; table = c.args.table.now.table; binds = binder g.P.Ports.holds g.P.Ports.faults c.args.table.now.ports; seen = g.O.Office.seen c.args.office.now; boxes = g.M.Mail.boxes c.args.mail.now } in
     let count = g.M.Mail.count c.args.mail.now in
-    let A : Option Note → Type 0 = λ z. AcceptGives true (begun self) c.accept.new.self (Ok z) in
-    accept_did_sights words self old refl count c.requires.office c.requires.inboxes c.accept.new.self c.in-Some.note (subst A c.in-Some.is c.in_ok-note.ensures.gives)
+    let A : Option Note → Type 0 = λ z. AcceptGives true c.forget.new.self c.accept.new.self (Ok z) in
+    accept_did_sights words self old refl count c.requires.office c.requires.inboxes c.accept.new.self c.in-Some.note (from_begun self c.forget.new.self c.accept.new.self (Ok (Some c.in-Some.note)) c.forget.ensures (subst A c.in-Some.is c.in_ok-note.ensures.gives))
 
 pub returns-in-Some-pop-clause-sights : goal.returns-in-Some-pop-clause-sights
 returns-in-Some-pop-clause-sights g c =
@@ -342,8 +342,8 @@ returns-in-Some-pop-clause-sights g c =
     let old : Moment g.row.L.Denot g.row.P-P.Denot =
     record { conns = self.conns.items; table = c.args.table.now.table; binds = binder g.P.Ports.holds g.P.Ports.faults c.args.table.now.ports; seen = g.O.Office.seen c.args.office.now; boxes = g.M.Mail.boxes c.args.mail.now } in
     let count = g.M.Mail.count c.args.mail.now in
-    let A : Option Note → Type 0 = λ z. AcceptGives true (begun self) c.accept.new.self (Ok z) in
-    let first = subst A c.in_default.is c.in_ok-note.ensures.gives in
+    let A : Option Note → Type 0 = λ z. AcceptGives true c.forget.new.self c.accept.new.self (Ok z) in
+    let first = from_begun self c.forget.new.self c.accept.new.self (Ok None) c.forget.ensures (subst A c.in_default.is c.in_ok-note.ensures.gives) in
     pop_did_sights words self old refl count c.requires.office c.requires.inboxes c.accept.new.self c.pop.new.self c.in-Some-pop.note (g.M.Mail.boxes c.pop.new.mail) (g.M.Mail.actor c.args.mail.now) c.requires.mail first c.in-Some-pop.ensures.gives
 
 pub returns-in_err-note-2-clause-sights : goal.returns-in_err-note-2-clause-sights
@@ -353,8 +353,8 @@ returns-in_err-note-2-clause-sights g c =
     let old : Moment g.row.L.Denot g.row.P-P.Denot =
     record { conns = self.conns.items; table = c.args.table.now.table; binds = binder g.P.Ports.holds g.P.Ports.faults c.args.table.now.ports; seen = g.O.Office.seen c.args.office.now; boxes = g.M.Mail.boxes c.args.mail.now } in
     let count = g.M.Mail.count c.args.mail.now in
-    let A : Option Note → Type 0 = λ z. AcceptGives true (begun self) c.accept.new.self (Ok z) in
-    let first = subst A c.in_default.is c.in_ok-note.ensures.gives in
+    let A : Option Note → Type 0 = λ z. AcceptGives true c.forget.new.self c.accept.new.self (Ok z) in
+    let first = from_begun self c.forget.new.self c.accept.new.self (Ok None) c.forget.ensures (subst A c.in_default.is c.in_ok-note.ensures.gives) in
     let popped = c.in_default-pop.ensures.gives in
     let boxes_one = g.M.Mail.boxes c.pop.new.mail in
     let new : Moment g.row.L.Denot g.row.P-P.Denot =
@@ -369,8 +369,8 @@ returns-in-Some-2-clause-sights g c =
     let old : Moment g.row.L.Denot g.row.P-P.Denot =
     record { conns = self.conns.items; table = c.args.table.now.table; binds = binder g.P.Ports.holds g.P.Ports.faults c.args.table.now.ports; seen = g.O.Office.seen c.args.office.now; boxes = g.M.Mail.boxes c.args.mail.now } in
     let count = g.M.Mail.count c.args.mail.now in
-    let A : Option Note → Type 0 = λ z. AcceptGives true (begun self) c.accept.new.self (Ok z) in
-    let first = subst A c.in_default.is c.in_ok-note.ensures.gives in
+    let A : Option Note → Type 0 = λ z. AcceptGives true c.forget.new.self c.accept.new.self (Ok z) in
+    let first = from_begun self c.forget.new.self c.accept.new.self (Ok None) c.forget.ensures (subst A c.in_default.is c.in_ok-note.ensures.gives) in
     let popped = c.in_default-pop.ensures.gives in
     let boxes_one = g.M.Mail.boxes c.pop.new.mail in
     let new : Moment g.row.L.Denot g.row.P-P.Denot =
@@ -386,8 +386,8 @@ returns-in_err-note-3-clause-sights g c =
     let old : Moment g.row.L.Denot g.row.P-P.Denot =
     record { conns = self.conns.items; table = c.args.table.now.table; binds = binder g.P.Ports.holds g.P.Ports.faults c.args.table.now.ports; seen = g.O.Office.seen c.args.office.now; boxes = g.M.Mail.boxes c.args.mail.now } in
     let count = g.M.Mail.count c.args.mail.now in
-    let A : Option Note → Type 0 = λ z. AcceptGives true (begun self) c.accept.new.self (Ok z) in
-    let first = subst A c.in_default.is c.in_ok-note.ensures.gives in
+    let A : Option Note → Type 0 = λ z. AcceptGives true c.forget.new.self c.accept.new.self (Ok z) in
+    let first = from_begun self c.forget.new.self c.accept.new.self (Ok None) c.forget.ensures (subst A c.in_default.is c.in_ok-note.ensures.gives) in
     let popped = c.in_default-pop.ensures.gives in
     let boxes_one = g.M.Mail.boxes c.pop.new.mail in
     let mid : Moment g.row.L.Denot g.row.P-P.Denot =
@@ -405,8 +405,8 @@ returns-in-Some-3-clause-sights g c =
     let old : Moment g.row.L.Denot g.row.P-P.Denot =
     record { conns = self.conns.items; table = c.args.table.now.table; binds = binder g.P.Ports.holds g.P.Ports.faults c.args.table.now.ports; seen = g.O.Office.seen c.args.office.now; boxes = g.M.Mail.boxes c.args.mail.now } in
     let count = g.M.Mail.count c.args.mail.now in
-    let A : Option Note → Type 0 = λ z. AcceptGives true (begun self) c.accept.new.self (Ok z) in
-    let first = subst A c.in_default.is c.in_ok-note.ensures.gives in
+    let A : Option Note → Type 0 = λ z. AcceptGives true c.forget.new.self c.accept.new.self (Ok z) in
+    let first = from_begun self c.forget.new.self c.accept.new.self (Ok None) c.forget.ensures (subst A c.in_default.is c.in_ok-note.ensures.gives) in
     let popped = c.in_default-pop.ensures.gives in
     let boxes_one = g.M.Mail.boxes c.pop.new.mail in
     let mid : Moment g.row.L.Denot g.row.P-P.Denot =
@@ -425,8 +425,8 @@ returns-in-Some-pop-2-clause-sights g c =
     let old : Moment g.row.L.Denot g.row.P-P.Denot =
     record { conns = self.conns.items; table = c.args.table.now.table; binds = binder g.P.Ports.holds g.P.Ports.faults c.args.table.now.ports; seen = g.O.Office.seen c.args.office.now; boxes = g.M.Mail.boxes c.args.mail.now } in
     let count = g.M.Mail.count c.args.mail.now in
-    let A : Option Note → Type 0 = λ z. AcceptGives true (begun self) c.accept.new.self (Ok z) in
-    let first = subst A c.in_default.is c.in_ok-note.ensures.gives in
+    let A : Option Note → Type 0 = λ z. AcceptGives true c.forget.new.self c.accept.new.self (Ok z) in
+    let first = from_begun self c.forget.new.self c.accept.new.self (Ok None) c.forget.ensures (subst A c.in_default.is c.in_ok-note.ensures.gives) in
     let popped = c.in_default-pop.ensures.gives in
     let boxes_one = g.M.Mail.boxes c.pop.new.mail in
     let mid : Moment g.row.L.Denot g.row.P-P.Denot =
@@ -448,8 +448,8 @@ returns-clause-sights g c =
     let old : Moment g.row.L.Denot g.row.P-P.Denot =
     record { conns = self.conns.items; table = c.args.table.now.table; binds = binder g.P.Ports.holds g.P.Ports.faults c.args.table.now.ports; seen = g.O.Office.seen c.args.office.now; boxes = g.M.Mail.boxes c.args.mail.now } in
     let count = g.M.Mail.count c.args.mail.now in
-    let A : Option Note → Type 0 = λ z. AcceptGives true (begun self) c.accept.new.self (Ok z) in
-    let first = subst A c.in_default.is c.in_ok-note.ensures.gives in
+    let A : Option Note → Type 0 = λ z. AcceptGives true c.forget.new.self c.accept.new.self (Ok z) in
+    let first = from_begun self c.forget.new.self c.accept.new.self (Ok None) c.forget.ensures (subst A c.in_default.is c.in_ok-note.ensures.gives) in
     let popped = c.in_default-pop.ensures.gives in
     let boxes_one = g.M.Mail.boxes c.pop.new.mail in
     let mid : Moment g.row.L.Denot g.row.P-P.Denot =
@@ -475,7 +475,7 @@ returns-in_err-note-clause-left g c =
     let conns = conn_numbers self in
     let offers = offer_numbers self in
     let start : AllLeft conns offers (begun self) = record { none = refl; numbers = refl; offered = refl } in
-    refused_left conns offers true (begun self) c.accept.new.self c.in_err-note.field-0.0 c.in_err-note.ensures.gives start
+    refused_left conns offers true (begun self) c.accept.new.self c.in_err-note.field-0.0 (from_begun self c.forget.new.self c.accept.new.self (Err c.in_err-note.field-0.0) c.forget.ensures c.in_err-note.ensures.gives) start
 
 pub returns-in-Some-clause-left : goal.returns-in-Some-clause-left
 returns-in-Some-clause-left g c =
@@ -483,8 +483,8 @@ returns-in-Some-clause-left g c =
     let conns = conn_numbers self in
     let offers = offer_numbers self in
     let start : AllLeft conns offers (begun self) = record { none = refl; numbers = refl; offered = refl } in
-    let A : Option Note → Type 0 = λ z. AcceptGives true (begun self) c.accept.new.self (Ok z) in
-    accept_left conns offers true (begun self) c.accept.new.self c.in-Some.note (subst A c.in-Some.is c.in_ok-note.ensures.gives) start
+    let A : Option Note → Type 0 = λ z. AcceptGives true c.forget.new.self c.accept.new.self (Ok z) in
+    accept_left conns offers true (begun self) c.accept.new.self c.in-Some.note (from_begun self c.forget.new.self c.accept.new.self (Ok (Some c.in-Some.note)) c.forget.ensures (subst A c.in-Some.is c.in_ok-note.ensures.gives)) start
 
 pub returns-in-Some-pop-clause-left : goal.returns-in-Some-pop-clause-left
 returns-in-Some-pop-clause-left g c =
@@ -492,8 +492,8 @@ returns-in-Some-pop-clause-left g c =
     let conns = conn_numbers self in
     let offers = offer_numbers self in
     let start : AllLeft conns offers (begun self) = record { none = refl; numbers = refl; offered = refl } in
-    let A : Option Note → Type 0 = λ z. AcceptGives true (begun self) c.accept.new.self (Ok z) in
-    let first = subst A c.in_default.is c.in_ok-note.ensures.gives in
+    let A : Option Note → Type 0 = λ z. AcceptGives true c.forget.new.self c.accept.new.self (Ok z) in
+    let first = from_begun self c.forget.new.self c.accept.new.self (Ok None) c.forget.ensures (subst A c.in_default.is c.in_ok-note.ensures.gives) in
     let accepted = idle_left conns offers (begun self) c.accept.new.self first.0 start in
     pop_left conns offers _ _ _ _ true c.accept.new.self c.pop.new.self c.in-Some-pop.note c.in-Some-pop.ensures.gives accepted
 
@@ -506,8 +506,8 @@ returns-in_err-note-2-clause-left g c =
     let words : Words g.row.L.Denot g.row.P-P.Denot = record { most = g.P.P.Port.most; link = g.L.Link.holds; link_counts = g.L.Link.counts; port = g.P.P.Port.holds; port_counts = g.P.P.Port.counts } in
     let old : Moment g.row.L.Denot g.row.P-P.Denot =
     record { conns = self.conns.items; table = c.args.table.now.table; binds = binder g.P.Ports.holds g.P.Ports.faults c.args.table.now.ports; seen = g.O.Office.seen c.args.office.now; boxes = g.M.Mail.boxes c.args.mail.now } in
-    let A : Option Note → Type 0 = λ z. AcceptGives true (begun self) c.accept.new.self (Ok z) in
-    let first = subst A c.in_default.is c.in_ok-note.ensures.gives in
+    let A : Option Note → Type 0 = λ z. AcceptGives true c.forget.new.self c.accept.new.self (Ok z) in
+    let first = from_begun self c.forget.new.self c.accept.new.self (Ok None) c.forget.ensures (subst A c.in_default.is c.in_ok-note.ensures.gives) in
     let accepted = idle_left conns offers (begun self) c.accept.new.self first.0 start in
     let popped = idle_left conns offers c.accept.new.self c.pop.new.self c.in_default-pop.ensures.gives.0 accepted in
     let new : Moment g.row.L.Denot g.row.P-P.Denot =
@@ -523,8 +523,8 @@ returns-in-Some-2-clause-left g c =
     let words : Words g.row.L.Denot g.row.P-P.Denot = record { most = g.P.P.Port.most; link = g.L.Link.holds; link_counts = g.L.Link.counts; port = g.P.P.Port.holds; port_counts = g.P.P.Port.counts } in
     let old : Moment g.row.L.Denot g.row.P-P.Denot =
     record { conns = self.conns.items; table = c.args.table.now.table; binds = binder g.P.Ports.holds g.P.Ports.faults c.args.table.now.ports; seen = g.O.Office.seen c.args.office.now; boxes = g.M.Mail.boxes c.args.mail.now } in
-    let A : Option Note → Type 0 = λ z. AcceptGives true (begun self) c.accept.new.self (Ok z) in
-    let first = subst A c.in_default.is c.in_ok-note.ensures.gives in
+    let A : Option Note → Type 0 = λ z. AcceptGives true c.forget.new.self c.accept.new.self (Ok z) in
+    let first = from_begun self c.forget.new.self c.accept.new.self (Ok None) c.forget.ensures (subst A c.in_default.is c.in_ok-note.ensures.gives) in
     let accepted = idle_left conns offers (begun self) c.accept.new.self first.0 start in
     let popped = idle_left conns offers c.accept.new.self c.pop.new.self c.in_default-pop.ensures.gives.0 accepted in
     let mid : Moment g.row.L.Denot g.row.P-P.Denot =
@@ -541,8 +541,8 @@ returns-in_err-note-3-clause-left g c =
     let words : Words g.row.L.Denot g.row.P-P.Denot = record { most = g.P.P.Port.most; link = g.L.Link.holds; link_counts = g.L.Link.counts; port = g.P.P.Port.holds; port_counts = g.P.P.Port.counts } in
     let old : Moment g.row.L.Denot g.row.P-P.Denot =
     record { conns = self.conns.items; table = c.args.table.now.table; binds = binder g.P.Ports.holds g.P.Ports.faults c.args.table.now.ports; seen = g.O.Office.seen c.args.office.now; boxes = g.M.Mail.boxes c.args.mail.now } in
-    let A : Option Note → Type 0 = λ z. AcceptGives true (begun self) c.accept.new.self (Ok z) in
-    let first = subst A c.in_default.is c.in_ok-note.ensures.gives in
+    let A : Option Note → Type 0 = λ z. AcceptGives true c.forget.new.self c.accept.new.self (Ok z) in
+    let first = from_begun self c.forget.new.self c.accept.new.self (Ok None) c.forget.ensures (subst A c.in_default.is c.in_ok-note.ensures.gives) in
     let accepted = idle_left conns offers (begun self) c.accept.new.self first.0 start in
     let popped = idle_left conns offers c.accept.new.self c.pop.new.self c.in_default-pop.ensures.gives.0 accepted in
     let mid : Moment g.row.L.Denot g.row.P-P.Denot =
@@ -560,8 +560,8 @@ returns-in-Some-3-clause-left g c =
     let words : Words g.row.L.Denot g.row.P-P.Denot = record { most = g.P.P.Port.most; link = g.L.Link.holds; link_counts = g.L.Link.counts; port = g.P.P.Port.holds; port_counts = g.P.P.Port.counts } in
     let old : Moment g.row.L.Denot g.row.P-P.Denot =
     record { conns = self.conns.items; table = c.args.table.now.table; binds = binder g.P.Ports.holds g.P.Ports.faults c.args.table.now.ports; seen = g.O.Office.seen c.args.office.now; boxes = g.M.Mail.boxes c.args.mail.now } in
-    let A : Option Note → Type 0 = λ z. AcceptGives true (begun self) c.accept.new.self (Ok z) in
-    let first = subst A c.in_default.is c.in_ok-note.ensures.gives in
+    let A : Option Note → Type 0 = λ z. AcceptGives true c.forget.new.self c.accept.new.self (Ok z) in
+    let first = from_begun self c.forget.new.self c.accept.new.self (Ok None) c.forget.ensures (subst A c.in_default.is c.in_ok-note.ensures.gives) in
     let accepted = idle_left conns offers (begun self) c.accept.new.self first.0 start in
     let popped = idle_left conns offers c.accept.new.self c.pop.new.self c.in_default-pop.ensures.gives.0 accepted in
     let mid : Moment g.row.L.Denot g.row.P-P.Denot =
@@ -580,8 +580,8 @@ returns-in-Some-pop-2-clause-left g c =
     let words : Words g.row.L.Denot g.row.P-P.Denot = record { most = g.P.P.Port.most; link = g.L.Link.holds; link_counts = g.L.Link.counts; port = g.P.P.Port.holds; port_counts = g.P.P.Port.counts } in
     let old : Moment g.row.L.Denot g.row.P-P.Denot =
     record { conns = self.conns.items; table = c.args.table.now.table; binds = binder g.P.Ports.holds g.P.Ports.faults c.args.table.now.ports; seen = g.O.Office.seen c.args.office.now; boxes = g.M.Mail.boxes c.args.mail.now } in
-    let A : Option Note → Type 0 = λ z. AcceptGives true (begun self) c.accept.new.self (Ok z) in
-    let first = subst A c.in_default.is c.in_ok-note.ensures.gives in
+    let A : Option Note → Type 0 = λ z. AcceptGives true c.forget.new.self c.accept.new.self (Ok z) in
+    let first = from_begun self c.forget.new.self c.accept.new.self (Ok None) c.forget.ensures (subst A c.in_default.is c.in_ok-note.ensures.gives) in
     let accepted = idle_left conns offers (begun self) c.accept.new.self first.0 start in
     let popped = idle_left conns offers c.accept.new.self c.pop.new.self c.in_default-pop.ensures.gives.0 accepted in
     let mid : Moment g.row.L.Denot g.row.P-P.Denot =
@@ -602,8 +602,8 @@ returns-clause-left g c =
     let words : Words g.row.L.Denot g.row.P-P.Denot = record { most = g.P.P.Port.most; link = g.L.Link.holds; link_counts = g.L.Link.counts; port = g.P.P.Port.holds; port_counts = g.P.P.Port.counts } in
     let old : Moment g.row.L.Denot g.row.P-P.Denot =
     record { conns = self.conns.items; table = c.args.table.now.table; binds = binder g.P.Ports.holds g.P.Ports.faults c.args.table.now.ports; seen = g.O.Office.seen c.args.office.now; boxes = g.M.Mail.boxes c.args.mail.now } in
-    let A : Option Note → Type 0 = λ z. AcceptGives true (begun self) c.accept.new.self (Ok z) in
-    let first = subst A c.in_default.is c.in_ok-note.ensures.gives in
+    let A : Option Note → Type 0 = λ z. AcceptGives true c.forget.new.self c.accept.new.self (Ok z) in
+    let first = from_begun self c.forget.new.self c.accept.new.self (Ok None) c.forget.ensures (subst A c.in_default.is c.in_ok-note.ensures.gives) in
     let accepted = idle_left conns offers (begun self) c.accept.new.self first.0 start in
     let popped = idle_left conns offers c.accept.new.self c.pop.new.self c.in_default-pop.ensures.gives.0 accepted in
     let mid : Moment g.row.L.Denot g.row.P-P.Denot =

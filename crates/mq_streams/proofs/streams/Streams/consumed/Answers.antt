@@ -30,6 +30,7 @@ returns-in-Some c = λ h is within.
       row = consumed_row h c.args.id old row _ c.args.length done.ended (rw done.receiving inner.room) (rw done.receiving some) done.balance;
       connection = consumed_connection h _ is.connection_is _ c.args.id c.args.length outer.room all refl;
       came = (within, is.came_first);
+      keeps = tt;
     })
 
 pub returns-in_default : goal.returns-in_default

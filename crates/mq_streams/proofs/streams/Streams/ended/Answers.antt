@@ -25,6 +25,7 @@ returns-in-Some c = λ h is lives.
       row = finished_row h c.args.id c.row.result row c.after_end.result done.ended done.receiving done.balance;
       connection = quiet_connection h _ is.connection_is _ (Finished c.args.id) refl refl refl refl refl refl;
       came = is.came_first;
+      keeps = tt;
     })
 
 pub returns-in_default : goal.returns-in_default

@@ -14,7 +14,7 @@ returns-then-amount-ge-UPDATE_FROM-clause-answer c = λ h is.
       connection_next h _ _ _ _ is c.if-amount-ge-UPDATE_FROM.true,
       after_none h _ _ _ _ (record { is = is; rise = table.rising; upto = table.begun }) (GivenBack 0 amount) refl refl
           (λ k d below. of_another (GivenBack 0 amount) _ (not_zero (get_or table.rows.items k d))) (λ id above. of_another (GivenBack 0 amount) id (λ e. omega arith))
-          _ is.first_is _ (given_back_connection h _ is.connection_is _ back.room back.consumed refl) is.came_first,
+          _ is.first_is _ (given_back_connection h _ is.connection_is _ back.room back.consumed refl) is.came_first tt,
     )
 
 pub returns-in_default-clause-answer : goal.returns-in_default-clause-answer
@@ -44,5 +44,6 @@ returns-clause-answer c = λ h is.
             row = given_back_row h old.id old row c.with_receiving.result done.ended (rw done.receiving back.room) (rw done.receiving back.consumed) done.balance;
             connection = given_back_elsewhere h _ is.connection_is _ old.id old.receiving.consumed old.is_no_connection refl;
             came = is.came_first;
+            keeps = tt;
           }),
     )

@@ -29,9 +29,11 @@ returns-in-Some-after_grant c = λ h is.
     let new = c.in-Some-after_grant.stream in
     let done = c.in-Some-after_grant.ensures in
     let row = found_row h _ _ _ table.rows.items is c.in-Some.at here.0 old c.row.ensures c.args.id here.1 in
-    let nonzero = c.if-id-eq0.false in (
-      sym (some_grant h c.args.id c.args.grow idle (ne_eqb c.args.id 0 nonzero) (is_live_at h table.rows.items is.live_are c.args.id c.in-Some.at here.0 here.1) (ne_eqb c.args.grow 0 c.if-grow-eq0.false)
-          true (grows_within h _ _ _ _ is c.args.id c.args.grow old row true done.4)),
+    let nonzero = c.if-id-eq0.false in
+    let taken =
+    some_grant h c.args.id c.args.grow idle (ne_eqb c.args.id 0 nonzero) (is_live_at h table.rows.items is.live_are c.args.id c.in-Some.at here.0 here.1) (ne_eqb c.args.grow 0 c.if-grow-eq0.false)
+    true (grows_within h _ _ _ _ is c.args.id c.args.grow old row true done.4) in (
+      sym taken,
       after_put h _ _ _ _ (record { is = is; rise = table.rising; upto = table.begun }) (Extended c.args.id c.args.grow) (record { highest_is = refl; initial_is = refl; live_is = refl })
           _ c.put.ensures.highest _ _ new
           (record {
@@ -45,6 +47,7 @@ returns-in-Some-after_grant c = λ h is.
             row = extended_row h c.args.id old row new c.args.grow done.1 done.2 done.3;
             connection = extended_elsewhere h _ is.connection_is _ c.args.id c.args.grow (omega arith) refl;
             came = is.came_first;
+            keeps = taken;
           }),
     )
 

@@ -8,7 +8,7 @@ use Rattle.mq_streams.specs.declared.connection.Connection.{Connection}
 use Rattle.mq_streams.specs.declared.answers.Counted.TheVariants as counted
 use Rattle.mq_streams.specs.declared.answers.Counted.{Counted}
 use Rattle.mq_streams.proofs.Grants.{begun_count}
-use Rattle.mq_streams.proofs.Events.{arrived_connection, discarded_connection}
+use Rattle.mq_streams.proofs.Events.{arrived_connection, arrived_within, discarded_connection, discarded_within}
 use Rattle.mq_streams.proofs.Steps.{Before, after_put, after_none, has_no_part}
 use Rattle.mq_streams.proofs.Rooms.{window_is}
 use Rattle.mq_streams.proofs.streams.Streams.on_data.Goals as goal
@@ -18,7 +18,7 @@ after_discard : (h : History) (b f : ℕ) (c : Connection) (rows : List Stream) 
 after_discard h b f c rows before id n c' connection why cause =
     let done : AreOf (Discarded id n ∷ h) b f c' rows =
     after_none h b f c rows before (Discarded id n) refl refl (λ k d below. has_no_part _ _ (λ earlier. refl) refl refl refl refl refl) (λ j above. has_no_part _ _ (λ earlier. refl) refl refl refl refl refl)
-    f before.is.first_is c' connection before.is.came_first in
+    f before.is.first_is c' connection before.is.came_first (discarded_within h id n c' connection) in
     elim cause [
       | inl e ↦ subst (λ (w : Counted). AreOf (after_count w id n h) b f c' rows) (sym e) done
       | inr e ↦ subst (λ (w : Counted). AreOf (after_count w id n h) b f c' rows) (sym e) done
@@ -30,7 +30,8 @@ returns-in-Ok c = λ h is.
     let idle = sym (c.is_idle.ensures h is) ∙ c.if-is_idle.false in
     let window = c.in-Some.ensures in
     let room = window_is h _ _ _ _ is in
-    let taker = c.in-Ok.ensures.answer h is in (
+    let taker = c.in-Ok.ensures.answer h is in
+    let connection = arrived_connection h _ is.connection_is _ c.args.id c.args.length window.0 window.1 refl in (
       sym (begun_count h c.args.id c.args.length (le-ltb _ _ (omega arith)) idle ∙ taker.answer),
       after_put h _ _ _ _ (record { is = is; rise = table.rising; upto = table.begun }) (Arrived c.args.id c.args.length) (record { highest_is = refl; initial_is = refl; live_is = refl })
           _ c.put.ensures.highest _ _ c.in-Ok.stream
@@ -43,8 +44,9 @@ returns-in-Ok c = λ h is.
             rows_are = c.put.ensures.rows;
             of = refl;
             row = taker.row;
-            connection = arrived_connection h _ is.connection_is _ c.args.id c.args.length window.0 window.1 refl;
+            connection = connection;
             came = is.came_first;
+            keeps = arrived_within h c.args.id c.args.length _ taker.row _ connection;
           }),
     )
 

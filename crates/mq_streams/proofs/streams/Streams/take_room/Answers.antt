@@ -1,5 +1,6 @@
-use Rattle.std.proofs.Common.{◌≡◌, ℕ, refl, sym, ap, ◌∙◌, arith, min}
-use Rattle.mq_streams.specs.History.{Sent}
+use Rattle.std.proofs.Common.{◌≡◌, ℕ, ◌≤◌, refl, sym, ap, ◌∙◌, arith, min}
+use Rattle.mq_streams.specs.History.{History, Sent}
+use Rattle.mq_streams.specs.Answers.{send_window, connection_send_window, room_of}
 use Rattle.mq_streams.specs.declared.stream.Stream.{Stream}
 use Rattle.mq_streams.proofs.Live.{live_is_found}
 use Rattle.mq_streams.proofs.Events.{sent_row, sent_connection}
@@ -9,6 +10,10 @@ use Rattle.mq_streams.proofs.streams.Streams.take_room.Goals as goal
 
 min_swap : (a b : ℕ) → min a b ≡ min b a
 min_swap a b = omega arith
+
+-- what is taken of the room is within both windows
+sends_within : (h : History) (id want room length : ℕ) → length ≡ min room want → room ≡ room_of id h → (length ≤ send_window id h) × (length ≤ connection_send_window h)
+sends_within h id want room length is room_is = (omega (arith, is, room_is), omega (arith, is, room_is))
 
 pub returns-in_default : goal.returns-in_default
 returns-in_default c = λ h is lives. absurd (live_is_found h _ _ _ _ is c.args.id c.in_default.ensures lives)
@@ -40,5 +45,6 @@ returns c = λ h is lives.
             row = sent_row h c.args.id old row new c.min-length.result done.ended done.receiving done.balance;
             connection = sent_connection h _ is.connection_is _ c.args.id c.min-length.result ends.receiving ends.room;
             came = is.came_first;
+            keeps = sends_within h c.args.id c.args.want c.room.result c.min-length.result c.min-length.ensures room;
           }),
     )

@@ -1,4 +1,4 @@
-use Rattle.std.proofs.Common.{[], refl}
+use Rattle.std.proofs.Common.{refl}
 use Rattle.std.proofs.lemmas.Result.{err_from_is_err_and}
 use Rattle.mq_play.specs.Text.{printed, Says}
 use Rattle.mq_output.proofs.Shown.{prints_unsaid, prints_shown}

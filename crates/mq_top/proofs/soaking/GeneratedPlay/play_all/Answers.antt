@@ -1,4 +1,3 @@
-use Rattle.std.proofs.Common.{refl}
 use Rattle.mq_top.proofs.Counting.{ends_all}
 use Rattle.mq_top.proofs.soaking.GeneratedPlay.play_all.Goals as goal
 

@@ -1,4 +1,4 @@
-use Rattle.std.proofs.Common.{◌≡◌, ℕ, ◌∷◌, List, Ok, Err, true, refl, sym, subst, rules}
+use Rattle.std.proofs.Common.{◌≡◌, ℕ, List, Ok, Err, true, refl, subst, rules}
 use Rattle.std.proofs.lemmas.Result.{err_from_is_err_and}
 use Rattle.mq_top.proofs.Counting.{given_line, shorter_by, soaks_line, soaks_stopped}
 use Rattle.mq_top.specs.Listening.{IsNoted}

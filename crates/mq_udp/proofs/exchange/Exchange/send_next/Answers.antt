@@ -1,4 +1,4 @@
-use Rattle.std.proofs.Common.{◌≡◌, ℕ, List, length, slice_get, Some, refl, sym, ap, subst, ◌∙◌, arith}
+use Rattle.std.proofs.Common.{◌≡◌, ℕ, List, length, slice_get, Some, true, refl, sym, ap, subst, ◌∙◌, arith, rules}
 use Rattle.std.proofs.lemmas.Option.{slice_get-get_or, slice_get_within}
 use Rattle.mq_client.specs.Client.{StandsFor}
 use Rattle.mq_client.specs.State.{sent}
@@ -15,4 +15,5 @@ returns-in-Ok-clause-goes g c = λ ask moves s at.
     let size : length x.payloads.items ≡ length ask.payloads = ap (λ (ps : List (List ℕ)). length ps) at.payloads in
     let P : List ℕ → Type 0 = λ bytes. StandsFor c.send.new.self (sent s bytes) in
     let stands = subst P c.as_slice.ensures (c.in-Ok.ensures.ok s at.stands) in
-    sent_on g.L.Link.past g.L.Link.counts ask x _ moves s payload at next stands refl refl refl refl (omega (arith, here, size))
+    let ready : x.is_open ≡ true = search rules in
+    sent_on g.L.Link.past g.L.Link.counts ask x _ moves s payload at next stands refl refl refl refl (omega (arith, here, size)) ready

@@ -12,4 +12,4 @@ returns-in-Took-clause-goes g c = λ ask moves s at.
     let stands = c.wrote.ensures s at.stands (subst (λ (bytes : List ℕ). c.in-Took.count ≤ length bytes) is within) in
     let past = rw (c.in-Took.is) at (c.write.ensures.past) in
     let counts = rw (c.in-Took.is) at (c.write.ensures.counts) in
-    wrote_on g.L.Link.past g.L.Link.counts ask c.args.self.now _ moves s owed c.in-Took.count at is within stands past (ap (λ (n : LinkCounts). n.faults) counts) refl refl refl
+    wrote_on g.L.Link.past g.L.Link.counts ask c.args.self.now _ moves s owed c.in-Took.count at is within stands past (ap (λ (n : LinkCounts). n.faults) counts) refl refl refl refl

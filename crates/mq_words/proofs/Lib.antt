@@ -1,0 +1,4 @@
+mod Asking
+mod Taking
+mod Telling
+mod Values
