@@ -5,6 +5,7 @@ use crate::{Conn, Want};
 use mq_talk::{Call, End, From, Reply};
 use mq_wire::Seq;
 use std::alloc::Global;
+use std::process::Abort;
 use std::test::Fail;
 
 fn feeds(alloc: Global, conn: &mut Conn, piece: &[u8]) -> Result<(), Fail> {
@@ -29,6 +30,20 @@ fn rest_of(alloc: Global, conn: &mut Conn) -> Result<String, Fail> {
     Ok(text)
 }
 
+/// It does this until it is over.
+fn is_rest(rt: &impl Abort, alloc: Global, conn: &mut Conn, want: &str) -> Result<(), Fail> {
+    let text = rest_of(alloc, conn)?;
+    assert_eq!(rt; text.as_str(), want);
+    Ok(())
+}
+
+/// A packet comes from the port of its tunnel.
+fn delivers(alloc: Global, conn: &mut Conn) -> Result<(), Fail> {
+    let packet = copied(alloc, b"hi")?;
+    let _ = conn.deliver(From::Port(0), 0, 0, packet);
+    Ok(())
+}
+
 #[test]
 fn a_link_ends_inside_a_head(rt: HostRuntime) -> Result<(), Fail> {
     for (piece, want) in [
@@ -40,7 +55,7 @@ fn a_link_ends_inside_a_head(rt: HostRuntime) -> Result<(), Fail> {
         let mut conn = after(rt.alloc(), piece)?;
         if conn.can_read() {
             conn.finish();
-            assert_eq!(rt; rest_of(rt.alloc(), &mut conn)?.as_str(), want);
+            is_rest(&rt, rt.alloc(), &mut conn, want)?;
         }
     }
     Ok(())
@@ -57,7 +72,7 @@ fn a_link_fails_or_memory_is_refused(rt: HostRuntime) -> Result<(), Fail> {
             let mut conn = after(rt.alloc(), piece)?;
             conn.fail(why);
             assert!(rt; !conn.can_read());
-            assert_eq!(rt; rest_of(rt.alloc(), &mut conn)?.as_str(), want);
+            is_rest(&rt, rt.alloc(), &mut conn, want)?;
         }
         let mut conn = after(rt.alloc(), REQUEST)?;
         let mut text = String::new(rt.alloc());
@@ -78,14 +93,17 @@ fn a_link_fails_or_memory_is_refused(rt: HostRuntime) -> Result<(), Fail> {
 #[test]
 fn a_port_fails(rt: HostRuntime) -> Result<(), Fail> {
     let mut conn = tunneled(rt.alloc())?;
-    let _ = conn.deliver(From::Port(0), 0, 0, copied(rt.alloc(), b"hi")?);
+    delivers(rt.alloc(), &mut conn)?;
     conn.shut(1);
     assert!(rt; !conn.wants());
     conn.shut(0);
     assert!(rt; conn.wants());
-    let text = rest_of(rt.alloc(), &mut conn)?;
-    assert_eq!(rt; text.as_str(), "closed 0 Port left 1\nended Tunnel\n");
-    Ok(())
+    is_rest(
+        &rt,
+        rt.alloc(),
+        &mut conn,
+        "closed 0 Port left 1\nended Tunnel\n",
+    )
 }
 
 /// A port fails while a payload waits for it: the tunnel closes before that.
@@ -96,20 +114,26 @@ fn a_port_fails_before_a_send(rt: HostRuntime) -> Result<(), Fail> {
     assert_eq!(rt; conn.payload(), b"hi".as_slice());
     conn.shut(0);
     assert!(rt; conn.payload().is_empty());
-    let text = rest_of(rt.alloc(), &mut conn)?;
-    assert_eq!(rt; text.as_str(), "closed 0 Port left 0\nended Tunnel\n");
-    Ok(())
+    is_rest(
+        &rt,
+        rt.alloc(),
+        &mut conn,
+        "closed 0 Port left 0\nended Tunnel\n",
+    )
 }
 
 #[test]
 fn what_waits_is_left_at_the_end(rt: HostRuntime) -> Result<(), Fail> {
     let mut conn = tunneled(rt.alloc())?;
     conn.finish();
-    let _ = conn.deliver(From::Port(0), 0, 0, copied(rt.alloc(), b"hi")?);
+    delivers(rt.alloc(), &mut conn)?;
     assert!(rt; !conn.can_frame());
-    let text = rest_of(rt.alloc(), &mut conn)?;
-    assert_eq!(rt; text.as_str(), "closed 0 End left 1\nended Done\n");
-    Ok(())
+    is_rest(
+        &rt,
+        rt.alloc(),
+        &mut conn,
+        "closed 0 End left 1\nended Done\n",
+    )
 }
 
 /// Whether it asks to close tunnel 0.
@@ -135,7 +159,10 @@ fn one_that_was_refused_memory_serves_its_own_end(rt: HostRuntime) -> Result<(),
     };
     assert!(rt; conn.answer(reply).is_err());
     assert!(rt; closes(&conn)?);
-    let text = rest_of(rt.alloc(), &mut conn)?;
-    assert_eq!(rt; text.as_str(), "closed 0 Conn left 0\nended NoMemory\n");
-    Ok(())
+    is_rest(
+        &rt,
+        rt.alloc(),
+        &mut conn,
+        "closed 0 Conn left 0\nended NoMemory\n",
+    )
 }

@@ -4,6 +4,7 @@ use super::{copied, filled, line, tunneled, writes};
 use crate::Conn;
 use mq_talk::{From, Note};
 use std::alloc::Global;
+use std::process::Abort;
 use std::test::Fail;
 
 /// A packet of so many bytes comes from the tunnel's port.
@@ -18,27 +19,29 @@ fn waits(alloc: Global, conn: &mut Conn, n: u64, count: usize) -> Result<bool, F
     Ok(matches!(&note, Note::Queued { .. }))
 }
 
+/// 64 find a place, and another one when one is framed.
+fn wait_in_turn(rt: &impl Abort, alloc: Global, conn: &mut Conn) -> Result<(), Fail> {
+    for n in 0..64 {
+        assert!(rt; waits(alloc, conn, n, 1)?);
+    }
+    assert_eq!(rt;
+        comes(alloc, conn, 64, 1)?.as_str(),
+        "dropped port0 64 QueueFull\n"
+    );
+    let note = conn.frame()?;
+    assert_eq!(rt; line(alloc, &note)?.as_str(), "delivered port0 0 to 0 61\n");
+    assert_eq!(rt;
+        comes(alloc, conn, 65, 1)?.as_str(),
+        "queued port0 65 to 0\n"
+    );
+    Ok(())
+}
+
 #[test]
 fn sixty_four_wait(rt: HostRuntime) -> Result<(), Fail> {
     let mut conn = tunneled(rt.alloc())?;
     assert!(rt; !conn.can_frame());
-    for n in 0..64 {
-        assert!(rt; waits(rt.alloc(), &mut conn, n, 1)?);
-    }
-    assert_eq!(rt;
-        comes(rt.alloc(), &mut conn, 64, 1)?.as_str(),
-        "dropped port0 64 QueueFull\n"
-    );
-    let note = conn.frame()?;
-    assert_eq!(rt;
-        line(rt.alloc(), &note)?.as_str(),
-        "delivered port0 0 to 0 61\n"
-    );
-    assert_eq!(rt;
-        comes(rt.alloc(), &mut conn, 65, 1)?.as_str(),
-        "queued port0 65 to 0\n"
-    );
-    Ok(())
+    wait_in_turn(&rt, rt.alloc(), &mut conn)
 }
 
 #[test]
@@ -55,16 +58,34 @@ fn as_many_bytes_wait(rt: HostRuntime) -> Result<(), Fail> {
     Ok(())
 }
 
+/// A packet comes from the tunnel's port, and waits.
+fn queues(
+    rt: &impl Abort,
+    alloc: Global,
+    conn: &mut Conn,
+    n: u64,
+    packet: &[u8],
+) -> Result<(), Fail> {
+    let note = conn.deliver(From::Port(0), n, 0, copied(alloc, packet)?);
+    let want = format!(in alloc; "queued port0 {n} to 0\n")?;
+    assert_eq!(rt; line(alloc, &note)?, want);
+    Ok(())
+}
+
+/// All is framed and written.
+fn written(alloc: Global, conn: &mut Conn) -> Result<String, Fail> {
+    let mut text = String::new(alloc);
+    while_framed(alloc, conn, &mut text)?;
+    writes(alloc, conn, &mut text)?;
+    Ok(text)
+}
+
 #[test]
 fn capsules_are_framed_in_order(rt: HostRuntime) -> Result<(), Fail> {
     let mut conn = tunneled(rt.alloc())?;
-    let note = conn.deliver(From::Port(0), 0, 0, copied(rt.alloc(), b"hi")?);
-    assert_eq!(rt; line(rt.alloc(), &note)?.as_str(), "queued port0 0 to 0\n");
-    let note = conn.deliver(From::Port(0), 1, 0, copied(rt.alloc(), b"")?);
-    assert_eq!(rt; line(rt.alloc(), &note)?.as_str(), "queued port0 1 to 0\n");
-    let mut text = String::new(rt.alloc());
-    while_framed(rt.alloc(), &mut conn, &mut text)?;
-    writes(rt.alloc(), &mut conn, &mut text)?;
+    queues(&rt, rt.alloc(), &mut conn, 0, b"hi")?;
+    queues(&rt, rt.alloc(), &mut conn, 1, b"")?;
+    let text = written(rt.alloc(), &mut conn)?;
     let want = "delivered port0 0 to 0 6869\ndelivered port0 1 to 0 \nwrote 0003006869000100\n";
     assert_eq!(rt; text.as_str(), want);
     Ok(())
