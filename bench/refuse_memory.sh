@@ -3,9 +3,9 @@
 # first_datagram, ip_session and ip_session_h2 of the examples: a tunnel for UDP and one for IP packets, over both protocols.
 # A script has one connection, and enough steps for all that there is to do, also where one of them does nothing.
 #
-# Each run must end with status 0, 5 or 7; `idle` and `more` lines aren't looked at.
-# - Status 7: what it prints is a front of what the run without a refusal prints, which is the whole.
-# - Status 0: it prints the lines of the whole, in another order at most, as a step came later; or the connection ended which was
+# Each run must end with status 0, 5 or 7.
+# - Status 7: what it prints is a front of what the run without a refusal prints, which is the whole, byte for byte.
+# - Status 0, where `idle` and `more` lines aren't looked at: it prints the lines of the whole, in another order at most, as a step came later; or the connection ended which was
 #   refused memory. Then each tunnel that opened is closed, and perhaps one that the book had opened; and the other lines are some
 #   of the whole's, in their order, or say that a packet for a tunnel that had closed was dropped, or goes nowhere.
 # - Status 5: the same end, and then that a line is bad: one for a tunnel that hadn't opened.
@@ -48,8 +48,11 @@ def end_is_whole(printed, whole):
     closed = sum(line.startswith("closed ") for line in printed)
     if closed not in (opened, opened + 1):
         return f"{opened} tunnels opened, and {closed} closed"
-    rest = without(printed, r"closed \d+ Conn left \d+|ended \d+ NoMemory|dropped \S+ \d+ (Gone|NoRoute)")
-    return None if is_among(rest, whole) else "what is printed is no part of the whole and an end"
+    is_end = re.compile(r"closed \d+ Conn left \d+|ended \d+ NoMemory")
+    first = next(at for at, line in enumerate(printed) if is_end.fullmatch(line))
+    # only behind the beginning of an end is a packet dropped for it
+    behind = without(printed[first:], is_end.pattern + r"|dropped \S+ \d+ (Gone|NoRoute)")
+    return None if is_among(printed[:first] + behind, whole) else "what is printed is no part of the whole and an end"
 
 def is_for_no_tunnel(script, number, printed):
     with open(script) as lines:
@@ -57,12 +60,12 @@ def is_for_no_tunnel(script, number, printed):
     named = re.match(r"dgram (\d+) ", line)
     return named and not any(line.startswith(f"opened {named[1]} ") for line in printed)
 
-def looked_at(script, number, whole):
+def looked_at(script, number, whole_text, whole):
     """Refuses one allocation. Answers what that came to, and why it is wrong, or None."""
     status, text, _ = run(script, number)
     printed = without(text.split("\n")[:-1], r"idle \S+|more")
     if status == 7:
-        return "status 7", None if is_among(printed, whole) and printed == whole[:len(printed)] else "it is no front of the whole"
+        return "status 7", None if whole_text.startswith(text) else "what is printed is no front of the whole"
     if status == 0:
         if sorted(printed) == sorted(whole):
             return "the whole" if printed == whole else "the whole in another order", None
@@ -81,7 +84,7 @@ for script in scripts:
     whole = without(text.split("\n")[:-1], r"idle \S+|more")
     counts = {}
     for number in range(1, int(told) + 1):
-        kind, why = looked_at(script, number, whole)
+        kind, why = looked_at(script, number, text, whole)
         counts[kind] = counts.get(kind, 0) + 1
         if why:
             wrong += 1

@@ -14,7 +14,7 @@ from h2.events import (
     DataReceived, PingAckReceived, RemoteSettingsChanged, RequestReceived, SettingsAcknowledged, WindowUpdated)
 from h2.settings import SettingCodes, Settings
 
-from h2_sessions import ACKNOWLEDGED, cut, frame, words
+from h2_sessions import ACKNOWLEDGED, frame, words, written
 
 PREFACE = "505249202a20485454502f322e300d0a0d0a534d0d0a0d0a"
 SETTINGS = "000006040000000000000200000000"
@@ -176,18 +176,12 @@ SESSIONS = (a_tunnel_both_ways, a_capsule_in_parts, padded_data, refusals, small
             a_reset, no_extended_connect)
 
 
-def written():
-    lines = ["//! Sessions with the server of Python's h2 as a proxy: its bytes and what a client tells of them, and what the client",
-             "//! owes, which that server takes (tools/h2_proxies.py).", "", 'pub const SESSIONS: &str = "\\']
-    for text in LINES:
-        lines += cut(text)
-    lines[-1] += '";'
-    return "\n".join(lines) + "\n"
-
+HEAD = ("//! Sessions with the server of Python's h2 as a proxy: its bytes and what a client tells of them, and what the client",
+        "//! owes, which that server takes (tools/h2_proxies.py).")
 
 if __name__ == "__main__":
     for session in SESSIONS:
         session()
     target = pathlib.Path(__file__).parent.parent / "crates/mq_client/src/sessions.rt"
-    target.write_text(written())
+    target.write_text(written(HEAD, LINES))
     print("%d sessions, %d lines" % (len(SESSIONS), len(LINES)))

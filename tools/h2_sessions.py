@@ -224,6 +224,10 @@ SESSIONS = (a_tunnel_both_ways, requests_by_the_table, two_requests_in_a_piece, 
             resets, priorities, data_past_a_window, too_large_a_request)
 
 
+HEAD = ("//! Ten sessions of the client of Python's h2: its bytes and what they give, and what is owed, which",
+        "//! that client takes (tools/h2_sessions.py).")
+
+
 def cut(text, most=118):
     """A line of the table, cut where it is too long, but not before a space."""
     while len(text) > most:
@@ -235,10 +239,10 @@ def cut(text, most=118):
     yield text
 
 
-def written():
-    lines = ["//! Ten sessions of the client of Python's h2: its bytes and what they give, and what is owed, which",
-             "//! that client takes (tools/h2_sessions.py).", "", 'pub const SESSIONS: &str = "\\']
-    for text in LINES:
+def written(head, table):
+    """The file of a table, below these lines of its head."""
+    lines = [*head, "", 'pub const SESSIONS: &str = "\\']
+    for text in table:
         lines += cut(text)
     lines[-1] += '";'
     return "\n".join(lines) + "\n"
@@ -248,5 +252,5 @@ if __name__ == "__main__":
     for session in SESSIONS:
         session()
     target = pathlib.Path(__file__).parent.parent / "crates/mq_h2/src/sessions.rt"
-    target.write_text(written())
+    target.write_text(written(HEAD, LINES))
     print("%d sessions, %d lines" % (len(SESSIONS), len(LINES)))

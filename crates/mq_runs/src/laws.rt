@@ -57,7 +57,7 @@ pub fn put_as_it_came()
     is_within_limits();
 }
 
-/// What a tunnel delivers was pushed to it, or its port gave it.
+/// What a tunnel delivers passed, was pushed to it and came to wait there, or its port gave it.
 pub fn delivered_as_it_came()
     ensures { DeliveredAsItCame }
 {
@@ -67,7 +67,7 @@ pub fn delivered_as_it_came()
     is_read_once();
 }
 
-/// What the pump sends was pushed, and is unchanged.
+/// What the pump sends passed, and was pushed then, and is unchanged.
 pub fn sent_as_pushed()
     ensures { SentAsPushed }
 {
