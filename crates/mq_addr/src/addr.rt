@@ -4,6 +4,7 @@ ghost use Rattle.mq_addr.specs.Cover.{version_of};
 ghost use Rattle.mq_addr.specs.Addr.{HasAddrBytes, HasOneAddr, ReadsAddr};
 
 use std::net::IpAddr;
+use thiserror::Error;
 
 /// An address as the number that its bytes spell, the high byte first.
 #[derive(Clone, Copy, Debug, PartialEq, Eq)]
@@ -13,9 +14,11 @@ pub enum Addr {
 }
 
 /// Why a text is no address or no prefix: it breaks the grammar, or a bit past the prefix length is set.
-#[derive(Clone, Copy, Debug, PartialEq, Eq)]
+#[derive(Clone, Copy, Debug, PartialEq, Eq, Error)]
 pub enum AddrFault {
+    #[error("the text is no address and no prefix")]
     Syntax,
+    #[error("a bit past the prefix length is set")]
     Bits,
 }
 

@@ -10,6 +10,7 @@ mod prefix;
 mod prefix_form;
 mod print;
 mod range;
+mod size;
 mod span;
 mod text;
 
@@ -24,6 +25,7 @@ pub use prefix::{
 pub use prefix_form::{one_prefix, parse_prefix};
 pub use print::{addr_text, prefix_text, printed_again};
 pub use range::{Flow, Range, allows, in_range, is_inside, is_range, ranges_meet};
+pub use size::has_its_size;
 pub use span::span_of;
 pub use text::Text;
 

@@ -1,6 +1,7 @@
 //! Texts with the verdicts of the RFCs, and a few addresses as numbers. That the texts equal their grammar is proved; these
 //! show that the grammar is the RFCs'.
 use super::*;
+use std::test::Fail;
 
 /// Addresses, each with the text of RFC 5952 for it (without its dotted form). From RFC 4291, section 2.2; RFC 5952,
 /// sections 1, 2 and 4; RFC 3986, section 3.2.2; RFC 6052, section 2.4; and the smallest and largest.
@@ -280,4 +281,14 @@ fn blocks_hold_their_ends_and_nothing_beside(rt: HostRuntime) {
     for (a, b, both) in PAIRS {
         assert_eq!(rt; meet(a, b), Some(both), "{a} {b}");
     }
+}
+
+#[test]
+fn faults_have_texts(rt: HostRuntime) -> Result<(), Fail> {
+    let text = format!(in rt.alloc(); "{}; {}", AddrFault::Bits, HeaderFault::Version)?;
+    assert_eq!(rt;
+        text.as_str(),
+        "a bit past the prefix length is set; the version is neither 4 nor 6"
+    );
+    Ok(())
 }

@@ -11,7 +11,7 @@ use Rattle.mq_capsule.specs.declared.front.Plan.TheVariants.{Stop}
 use Rattle.mq_capsule.specs.declared.item.CapsuleFault.TheVariants.{NoContext}
 use Rattle.mq_capsule.specs.Capsule.{head_of}
 use Rattle.mq_capsule.specs.Fronts.{front_of, front_by, payload_front, context_front, payload_plan, other_plan}
-use Rattle.mq_capsule.proofs.Integers.{int_front, int_none}
+use Rattle.mq_wire.proofs.Integers.{int_front, int_none}
 
 -- Two readings, one behind the other.
 pub bound : {A B : Type 0} (f : A → Option B) (o : Option A) (y : B) → option_and_then f o ≡ Some y → (x : A) × (o ≡ Some x) × (f x ≡ Some y)

@@ -1,4 +1,3 @@
-pub mod Integers
 pub mod Fronts
 pub mod Capsules
 pub mod Spelling

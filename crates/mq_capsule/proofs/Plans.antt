@@ -20,7 +20,7 @@ use Rattle.mq_capsule.specs.Capsule.{AreCapsules, head_of, capsule_of}
 use Rattle.mq_capsule.specs.Items.{ItemsOf, item_of, datagram_by, head_items, is_control, max_payload, max_control, up_to_bad}
 use Rattle.mq_capsule.specs.Fronts.{front_of, front_by, payload_front, context_front, payload_plan, other_plan}
 use Rattle.mq_capsule.specs.Steps.{kept_item, skipped_item}
-use Rattle.mq_capsule.proofs.Integers.{int_front}
+use Rattle.mq_wire.proofs.Integers.{int_front}
 use Rattle.mq_capsule.proofs.Fronts.{bound}
 use Rattle.mq_capsule.proofs.Capsules.{capsule_at, capsule_whole, capsule_part, capsule_headless}
 

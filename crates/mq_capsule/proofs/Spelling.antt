@@ -6,7 +6,7 @@ use Rattle.mq_wire.specs.Integer.{int_of}
 use Rattle.mq_capsule.specs.declared.head.Head.{Head}
 use Rattle.mq_capsule.specs.Capsule.{Capsule, AreCapsules, head_of, capsule_of}
 use Rattle.mq_capsule.specs.Spelling.{IsInteger, IsSpelling, AreJoined, BeginsWithNone}
-use Rattle.mq_capsule.proofs.Integers.{int_front}
+use Rattle.mq_wire.proofs.Integers.{int_front}
 use Rattle.mq_capsule.proofs.Fronts.{bound, binds}
 use Rattle.mq_capsule.proofs.Capsules.{capsule_at, capsule_named, whole}
 

@@ -81,6 +81,10 @@ IsAt control state.Spent bytes items = ⊥
 pub record IsStep (control : Bool) (rest piece : List ℕ) (s : Step) : Type 0 where
   pub at : IsAt control s.state (rest ++ take s.used piece) (option_to_list s.told)
 
+-- a step that took the whole piece, with which nothing is whole
+abbrev pub all_taken : State → List ℕ → Step
+all_taken s piece = record { state = s; told = None; used = length piece }
+
 -- from whatever the state holds, a step of the piece leads there
 abbrev pub LeadsTo : Bool → State → List ℕ → Step → Type 0
 LeadsTo control s piece step = (rest : List ℕ) → Holds control s rest → IsStep control rest piece step

@@ -2,13 +2,16 @@
 ghost use Rattle.std.specs.Prelude.{◌≡◌};
 
 use mq_wire::Bytes;
+use thiserror::Error;
 
 /// Why a data stream is malformed.
-#[derive(Clone, Copy, Debug, PartialEq, Eq)]
+#[derive(Clone, Copy, Debug, PartialEq, Eq, Error)]
 pub enum CapsuleFault {
     /// A control capsule's length is above 65,536.
+    #[error("the value of a control capsule is longer than 65536 bytes")]
     TooLong,
     /// The value of a DATAGRAM capsule doesn't begin with a whole integer.
+    #[error("the value of a DATAGRAM capsule has no whole Context ID")]
     NoContext,
 }
 
@@ -26,5 +29,6 @@ pub enum Item {
 }
 
 /// A data stream ended inside a capsule.
-#[derive(Clone, Copy, Debug, PartialEq, Eq)]
+#[derive(Clone, Copy, Debug, PartialEq, Eq, Error)]
+#[error("the data stream ended inside a capsule")]
 pub struct Truncated;

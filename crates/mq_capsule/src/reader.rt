@@ -6,7 +6,7 @@ ghost use Rattle.mq_capsule.specs.Readers.{KeepsAtMost, KeepsFew};
 
 use super::item::{Item, Truncated};
 use super::state::State;
-use super::step::{Step, advance};
+use super::step::{Step, advance, take_in_place};
 use arrayvec::ArrayVec;
 use mq_wire::{NoMemory, Seq};
 use std::alloc::Global;
@@ -101,6 +101,9 @@ impl Reader {
         ensures went { IfOk result (λ used.
             Reads self.old self.new (take used piece.now) items.old.items items.new.items) }
     {
+        if take_in_place(&mut self.state, piece)? {
+            return Ok(piece.len());
+        }
         let state = mem::replace(&mut self.state, State::Spent);
         let Step { state, told, used } = advance(alloc, self.control, state, piece)?;
         self.state = state;

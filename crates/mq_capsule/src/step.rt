@@ -1,8 +1,8 @@
 //! One step of reading: bytes of a piece, until a capsule is whole or the piece ends.
-ghost use Rattle.std.specs.Prelude.{◌≡◌, ◌<◌, ◌≤◌, None, length, IfOk};
+ghost use Rattle.std.specs.Prelude.{◌≡◌, ◌<◌, ◌≤◌, Bool, true, false, None, length, IfOk};
 ghost use Rattle.mq_capsule.specs.Fronts.{front_of};
 ghost use Rattle.mq_capsule.specs.Steps.{IsStep, LeadsTo, LeadsFrom, LeadsFromKept, LeadsFromSkipped, TakesSome};
-ghost use Rattle.mq_capsule.specs.Steps.{StaysEnded, kept_item, skipped_item};
+ghost use Rattle.mq_capsule.specs.Steps.{StaysEnded, all_taken, kept_item, skipped_item};
 
 use super::front::{Front, Kept, Plan, Skipped};
 use super::item::Item;
@@ -43,6 +43,35 @@ pub fn advance(alloc: Global, control: bool, state: State, piece: &[u8]) -> Resu
             used: piece.len(),
         }),
         State::Spent => Err(NoMemory),
+    }
+}
+
+/// Takes the whole piece into the state where it stands, if more bytes are missing than the piece has, and tells whether it
+/// did. A stream that comes by the byte would pay for a move of the state at each.
+pub fn take_in_place(state: &mut State, piece: &[u8]) -> Result<bool, NoMemory>
+    ensures takes { IfOk result (λ taken. taken ≡ true → (control : Bool) → LeadsTo control state.old piece.now (all_taken state.new piece.now)) }
+    ensures open { IfOk result (λ taken. taken ≡ true → StaysEnded state.old piece.now (all_taken state.new piece.now)) }
+    ensures leaves { IfOk result (λ taken. taken ≡ false → state.new ≡ state.old) }
+{
+    match state {
+        State::Keep { bytes, missing, .. } => {
+            let more = piece.len() as u64;
+            if more >= *missing {
+                return Ok(false);
+            }
+            bytes.extend_from_slice(piece)?;
+            *missing -= more;
+            Ok(true)
+        }
+        State::Skip { missing, .. } => {
+            let more = piece.len() as u64;
+            if more >= *missing {
+                return Ok(false);
+            }
+            *missing -= more;
+            Ok(true)
+        }
+        State::Front { .. } | State::Ended | State::Spent => Ok(false),
     }
 }
 

@@ -545,3 +545,25 @@ fn a_refused_control_capsule_has_its_cause(rt: HostRuntime) -> Result<(), Fail> 
     }
     Ok(())
 }
+
+#[test]
+fn a_fault_says_what_it_is(rt: HostRuntime) -> Result<(), Fail> {
+    let rows = [
+        (
+            CapsuleFault::TooLong,
+            "the value of a control capsule is longer than 65536 bytes",
+        ),
+        (
+            CapsuleFault::NoContext,
+            "the value of a DATAGRAM capsule has no whole Context ID",
+        ),
+    ];
+    for (fault, text) in rows {
+        assert_eq!(rt; format!(in rt.alloc(); "{fault}")?.as_str(), text);
+    }
+    assert_eq!(rt;
+        format!(in rt.alloc(); "{}", Truncated)?.as_str(),
+        "the data stream ended inside a capsule"
+    );
+    Ok(())
+}

@@ -1,6 +1,8 @@
 //! The nine bytes at the front of a frame (RFC 9113, section 4.1).
 ghost use Rattle.std.specs.Prelude.{◌≡◌, ◌<◌, ◌≤◌, length, MatchOption};
-ghost use Rattle.mq_frame.specs.Header.{header_of, is_set};
+ghost use Rattle.mq_frame.specs.Header.{header_of, header_text, is_set};
+ghost use Rattle.mq_frame.specs.Numbers.{max_frame_size};
+ghost use Rattle.mq_frame.specs.Writing.{flag};
 
 use super::kind::Kind;
 
@@ -38,4 +40,21 @@ impl Header {
     {
         self.flags & flag != 0
     }
+}
+
+/// The bytes of a header.
+pub fn header_bytes(length: usize, kind: Kind, flags: u8, stream: u32) -> [u8; 9]
+    requires { length ≤ max_frame_size }
+    ensures { result ≡ header_text length kind flags stream }
+{
+    let [_, a, b, c] = (length as u32).to_be_bytes();
+    let [d, e, f, g] = stream.to_be_bytes();
+    [a, b, c, kind.byte(), flags, d, e, f, g]
+}
+
+/// The flag, where it is set.
+pub fn flag(set: bool, bit: u8) -> u8
+    ensures { result ≡ flag set bit }
+{
+    if set { bit } else { 0 }
 }

@@ -3,14 +3,16 @@ ghost use Rattle.std.specs.Prelude.{◌≡◌, ◌+◌, ◌*◌, ◌≤◌, ◌+
 ghost use Rattle.std.specs.List.{flat_map};
 ghost use Rattle.std.specs.Vec.{vec_len, vec_capacity};
 ghost use Rattle.mq_frame.specs.declared.kind.Kind.TheVariants as kinds;
-ghost use Rattle.mq_frame.specs.declared.frame.Frame.TheVariants.{Content, Headers, GoAway};
+ghost use Rattle.mq_frame.specs.declared.frame.Frame.TheVariants.{Content, Headers};
 ghost use Rattle.mq_frame.specs.Header.{header_text};
 ghost use Rattle.mq_frame.specs.Numbers.{max_frame_size};
-ghost use Rattle.mq_frame.specs.Writing.{flag, pair_text, spelling_of, IsWritable};
+ghost use Rattle.mq_frame.specs.Writing.{pair_text, spelling_of, IsWritable};
 
 use super::codes::{ACK, END_HEADERS, END_STREAM};
 use super::frame::{Frame, Setting};
+use super::header::{flag, header_bytes};
 use super::kind::Kind;
+use super::short::{goaway_text, ping_text, reset_text, window_text};
 use mq_wire::NoMemory;
 
 /// Writes a frame at the end. An `Err` changes nothing.
@@ -56,17 +58,11 @@ pub fn write_frame(out: &mut Vec<u8>, frame: &Frame) -> Result<(), NoMemory>
             block.as_slice(),
         ),
         Frame::Priority { stream } => put(out, Kind::Priority, 0, *stream, &[0; 5]),
-        Frame::Reset { stream, code } => put(out, Kind::Reset, 0, *stream, &code.to_be_bytes()),
+        Frame::Reset { stream, code } => put_text(out, &reset_text(*stream, *code)),
         Frame::Settings { ack, pairs } => put_settings(out, flag(*ack, ACK), pairs.as_slice()),
-        Frame::Ping { ack, bytes } => put(
-            out,
-            Kind::Ping,
-            flag(*ack, ACK),
-            0,
-            &bytes.to_be_bytes(),
-        ),
-        Frame::GoAway { last, code } => put_goaway(out, *last, *code),
-        Frame::Window { stream, grow } => put(out, Kind::Window, 0, *stream, &grow.to_be_bytes()),
+        Frame::Ping { ack, bytes } => put_text(out, &ping_text(*ack, *bytes)),
+        Frame::GoAway { last, code } => put_text(out, &goaway_text(*last, *code)),
+        Frame::Window { stream, grow } => put_text(out, &window_text(*stream, *grow)),
         Frame::Unknown { .. } | Frame::Fault { .. } => unreachable!(),
     }
 }
@@ -113,21 +109,6 @@ pub fn write_headers(
     put(out, Kind::Headers, flags, stream, block)
 }
 
-fn flag(set: bool, bit: u8) -> u8
-    ensures { result ≡ flag set bit }
-{
-    if set { bit } else { 0 }
-}
-
-fn header_bytes(length: usize, kind: Kind, flags: u8, stream: u32) -> [u8; 9]
-    requires { length ≤ max_frame_size }
-    ensures { result ≡ header_text length kind flags stream }
-{
-    let [_, a, b, c] = (length as u32).to_be_bytes();
-    let [d, e, f, g] = stream.to_be_bytes();
-    [a, b, c, kind.byte(), flags, d, e, f, g]
-}
-
 /// Writes a header and contents.
 fn put(
     out: &mut Vec<u8>,
@@ -148,16 +129,15 @@ fn put(
     Ok(())
 }
 
-#[tactic(auto, unfolding(crate::specs::Writing::spelling_of))]
-fn put_goaway(out: &mut Vec<u8>, last: u32, code: u32) -> Result<(), NoMemory>
-    ensures ok { OnOk result (out.new.items ≡ out.old.items ++ spelling_of (GoAway last code)) }
+/// Writes a frame that is spelled already.
+fn put_text(out: &mut Vec<u8>, text: &[u8]) -> Result<(), NoMemory>
+    ensures ok { OnOk result (out.new.items ≡ out.old.items ++ text.now) }
     ensures err { OnErr result (out.new.items ≡ out.old.items) }
-    ensures succeeds { vec_len out.old + 17 ≤ vec_capacity out.old → IsOk result }
+    ensures succeeds { vec_len out.old + length text.now ≤ vec_capacity out.old → IsOk result }
     ensures capacity { vec_capacity out.old ≤ vec_capacity out.new }
 {
-    let [a, b, c, d] = last.to_be_bytes();
-    let [e, f, g, h] = code.to_be_bytes();
-    put(out, Kind::GoAway, 0, 0, &[a, b, c, d, e, f, g, h])
+    out.extend_from_slice(text)?;
+    Ok(())
 }
 
 fn put_settings(out: &mut Vec<u8>, flags: u8, pairs: &[Setting]) -> Result<(), NoMemory>

@@ -7,3 +7,4 @@ pub mod AlikeLemmas
 pub mod ShortLemmas
 pub mod RulesLemmas
 pub mod StepsLemmas
+pub mod KeptLemmas

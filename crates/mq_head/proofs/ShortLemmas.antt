@@ -194,6 +194,20 @@ short_of_line y (in_value n v tn pv e) = (_, subst (λ b. IsShort b (65 ∷ 58 �
 short_of_line y (behind_value n v tn pv e) =
     (_, subst (λ b. IsShort b (65 ∷ 58 ∷ 13 ∷ [])) (sym e) (short_behind_value n v tn pv))
 
+-- it has at most three bytes
+first_few : (y : List ℕ) → length (take 1 y) ≤ 1
+first_few [] = omega arith
+first_few (b ∷ bs) = omega arith
+
+line_few : (y : List ℕ) → length (short_line y) ≤ 3
+unfolding short_line
+line_few y = by_tests (has 58 y) (has 13 y)
+  where
+    by_tests : (colon cr : Bool) → length (cond colon (cond cr (codes "A:\r") (codes "A:")) (take 1 y)) ≤ 3
+    by_tests true true = omega arith
+    by_tests true false = omega arith
+    by_tests false cr = omega (arith, first_few y)
+
 -- ---- whole lines in front
 
 regroup : (a b c d e f r : List ℕ)
@@ -395,8 +409,14 @@ short_is x target e = ap (short_start x) e
 run_is : (x : List ℕ) (target : Option (List ℕ)) → behind_target (skip_line_bytes x) ≡ target → run_of x ≡ run_start x target
 run_is x target e = ap (run_start x) e
 
--- the short text and the run serve
+-- what stands behind the second space before the section
+version_few : (minor : ℕ) (e : LineEnd) → length (print_version minor ++ print_end e) ≤ 12
+version_few minor crlf = omega arith
+version_few minor lf = omega arith
+
+-- the short text, of at most 16 bytes, and the run serve
 pub record Serves (x : List ℕ) : Type 0 where
+  pub few : length (short x) ≤ 16
   pub alike : Alike x (short x)
   pub stays : Stays (run_of x) x
 
@@ -408,6 +428,7 @@ first_alike b x y t is none plain taken alike stays =
     let text : short x ≡ t =
     short_is x None none ∙ ap (take 1) line ∙ taken in
     record {
+      few = omega (arith, ap length text, ap length taken, first_few y);
       alike = subst (λ (u : List ℕ). Alike u (short x)) (sym is) (subst (λ (u : List ℕ). Alike (print_blank b ++ y) u) (sym text) alike);
       stays = subst (λ r. Stays r x) (sym (run_is x None none ∙ ap word_run line)) stays;
     }
@@ -438,8 +459,8 @@ method_alike b x (n ∷ ns) is pass =
     (subst (λ r. Stays r x) (sym (word_run_token (n ∷ ns) token)) stays)
 
 version_alike : (b : List LineEnd) (m t x v : List ℕ) → IsToken m → (0 < length t) × AllPass is_uri_byte t → IsUtf8 t
-    → x ≡ print_blank b ++ (m ++ 32 ∷ (t ++ 32 ∷ v)) → has 10 v ≡ false → Serves x
-version_alike b m t x v token uri text is plain =
+    → x ≡ print_blank b ++ (m ++ 32 ∷ (t ++ 32 ∷ v)) → has 10 v ≡ false → length v ≤ 12 → Serves x
+version_alike b m t x v token uri text is plain few =
     let words = print_blank b ++ (m ++ 32 ∷ (t ++ 32 ∷ [])) in
     let second = ap behind_target (ap skip_line_bytes is) ∙ target_behind b m t v token uri.1 in
     let short_text : short x ≡ codes "A / " ++ v =
@@ -451,6 +472,7 @@ version_alike b m t x v token uri text is plain =
     ∙ ap (λ (u : List ℕ). print_blank b ++ (m ++ 32 ∷ u)) (append_assoc t (32 ∷ []) v)) in
     let alike = alike_append words (codes "A / ") v (words_alike words (codes "A / ") (words_of b m t token uri text) words_are) in
     record {
+      few = omega (arith, few, ap length short_text, length-append (codes "A / ") v);
       alike = subst (λ (u : List ℕ). Alike u (short x)) (sym parts) (subst (λ (u : List ℕ). Alike (words ++ v) u) (sym short_text) alike);
       stays = subst (λ r. Stays r x) (sym (run_is x (Some v) second ∙ ap run_behind (behind_lacking 10 v plain))) (never_runs x);
     }
@@ -483,6 +505,7 @@ section_alike b m t minor e x z token uri text le is cut =
     let run : run_of x ≡ line_run cut.line =
     run_is x (Some version) second ∙ ap run_behind (version_behind minor e z le) ∙ ap line_run left in
     record {
+      few = omega (arith, ap length short_text, length-append (codes "A / HTTP/1.1\n") line.0, ap length line.1.is, line_few cut.line);
       alike = subst (λ (u : List ℕ). Alike u (short x)) (sym parts) (subst (λ (u : List ℕ). Alike (lines ++ cut.line) u) (sym short_text) alike);
       stays = subst (λ r. Stays r x) (sym run) stays;
     }
@@ -505,6 +528,7 @@ module _ (x more : List ℕ) (h : RequestHead) (is : IsRequestHead h) (some : 0 
       let ends = print_version h.minor ++ print_end h.line_end in
       elim (begins_two z more ends section (e ∙ sym (append_assoc (print_version h.minor) (print_end h.line_end) section))) [
         | inl s ↦ version_alike h.blank h.method h.target x z is.method is.target is.target_text at (version_cut h.minor h.line_end z s.0 is.minor s.1 s.2)
+            (omega (arith, version_few h.minor h.line_end, ap length s.1, length-append z s.0))
         | inr d ↦ section_alike h.blank h.method h.target h.minor h.line_end x d.0 is.method is.target is.target_text is.minor
             (at ∙ ap (λ (u : List ℕ). print_blank h.blank ++ (h.method ++ 32 ∷ (h.target ++ 32 ∷ u))) d.1)
             (section_cut h.fields h.last d.0 more some is.fields d.2)
@@ -568,7 +592,7 @@ pub is_behind : (bytes : List ℕ) → HasNoRequest bytes → CanBecomeHead byte
     → IsBehind (short bytes) (run_of bytes) bytes
 is_behind bytes none can outside =
     let serves = short_serves bytes none can outside in
-    record { none = none; can = can; alike = serves.alike; stays = serves.stays }
+    record { few = serves.few; none = none; can = can; alike = serves.alike; stays = serves.stays }
 
 -- more of the run decides nothing
 pub run_behind_stays : (bytes text piece : List ℕ) (run : Run) → IsBehind text run bytes → is_in_run run piece ≡ true
@@ -577,6 +601,7 @@ run_behind_stays bytes text piece run x e =
     let more = x.stays piece e in
     let same = alike_sym bytes (bytes ++ piece) more in
     record {
+      few = x.few;
       none = alike_none bytes (bytes ++ piece) more x.none;
       can = alike_can bytes (bytes ++ piece) more x.can;
       alike = alike_trans (bytes ++ piece) bytes text same x.alike;
@@ -593,6 +618,7 @@ open_behind bytes text piece alike is =
     let back = alike_sym all there longer in
     let serves = short_serves there is.none is.can is.outside in
     record {
+      few = serves.few;
       none = alike_none there all back is.none;
       can = alike_can there all back is.can;
       alike = alike_trans all there (short there) longer serves.alike;

@@ -1,5 +1,5 @@
 -- Where the bytes so far end.
-use Rattle.std.specs.Prelude.{◌≡◌, ◌⊎◌, List, ℕ, ◌++◌, Bool, true, IsTrue, not, ◌&&◌, ◌==◌, count_by}
+use Rattle.std.specs.Prelude.{◌≡◌, ◌≤◌, ◌⊎◌, List, ℕ, length, ◌++◌, Bool, true, IsTrue, not, ◌&&◌, ◌==◌, count_by}
 use Rattle.std.specs.List.{list_any}
 use Rattle.httparse.specs.Grammar.{HasNoRequest}
 use Rattle.mq_head.specs.declared.place.Place.{Place}
@@ -12,8 +12,9 @@ use Rattle.mq_head.specs.declared.run.Run.{Run}
 abbrev pub stays_in_target : List ℕ → Bool
 stays_in_target piece = (count_by is_space piece == 0) && not (list_any is_line_byte piece)
 
--- nothing is decided, the next piece is parsed behind the text, and more of the run changes nothing
+-- nothing is decided, the next piece is parsed behind a text of at most 16 bytes, and more of the run changes nothing
 pub record IsBehind (text : List ℕ) (run : Run) (bytes : List ℕ) : Type 0 where
+  pub few : length text ≤ 16
   pub none : HasNoRequest bytes
   pub can : CanBecomeHead bytes
   pub alike : Alike bytes text

@@ -1,15 +1,18 @@
 //! What the fields of a request's head say.
 ghost use Rattle.std.specs.Prelude.{◌≡◌, ◌≤◌, ◌<◌, ℕ, List, length, map, codes, All, IfOk, flat_map, ◌||◌};
 ghost use Rattle.http_header.specs.Token.{lowercase};
-ghost use Rattle.http_header.specs.FieldValue.{plain_value};
+ghost use Rattle.http_header.specs.FieldName.{IsFieldName};
+ghost use Rattle.http_header.specs.FieldValue.{plain_value, IsFieldValue};
 ghost use Rattle.http_header.specs.HeaderMap.{append};
 ghost use Rattle.httparse.specs.Spans.{header_bytes, IsHeaderWithin};
 ghost use Rattle.mq_head.specs.Lists.{members, has_member};
 ghost use Rattle.mq_head.specs.Fields.{values_of, hosts, kind_of, first_kind, upgrade_kind, connection_upgrades, is_there, has_content};
-ghost use Rattle.mq_head.specs.Kept.{Keeps, bytes_of};
+ghost use Rattle.mq_head.specs.Kept.{Keeps, IsKeepable, HasFewer, bytes_of};
 
 use crate::list::{Parts, is_same};
-use http_header::{GetAll, HeaderMap, HeaderName, HeaderValue};
+use http_header::{
+    GetAll, HeaderMap, HeaderMapError, HeaderName, HeaderNameError, HeaderValue, HeaderValueError,
+};
 use httparse::spans::HeaderSpan;
 use mq_addr::Kind;
 use mq_wire::NoMemory;
@@ -21,20 +24,42 @@ pub struct Fields {
     map: HeaderMap,
 }
 
-/// Keeps one more field. An error of `http_header` is want of memory: what `httparse` reads is a name and a value, and
-/// a map has room for 64.
+/// A name of a field, in lower case. What `httparse` reads is one, so an `Err` is want of memory.
+fn name_of(alloc: Global, name: &[u8]) -> Result<HeaderName, NoMemory>
+    requires { IsFieldName name.now }
+    ensures { IfOk result (λ kept. kept ≡ lowercase name.now) }
+{
+    match HeaderName::from_bytes(alloc, name) {
+        Ok(name) => Ok(name),
+        Err(HeaderNameError::OutOfMemory) => Err(NoMemory),
+        Err(HeaderNameError::Invalid) => unreachable!(),
+    }
+}
+
+/// A value of a field. What `httparse` reads is one, so an `Err` is want of memory.
+fn value_of(alloc: Global, value: &[u8]) -> Result<HeaderValue, NoMemory>
+    requires { IsFieldValue value.now }
+    ensures { IfOk result (λ kept. kept ≡ plain_value value.now) }
+{
+    match HeaderValue::from_bytes(alloc, value) {
+        Ok(value) => Ok(value),
+        Err(HeaderValueError::OutOfMemory) => Err(NoMemory),
+        Err(HeaderValueError::Invalid) => unreachable!(),
+    }
+}
+
+/// Keeps one more field. A map has room for more than 64, so an `Err` is want of memory.
 fn keep(alloc: Global, map: &mut HeaderMap, name: &[u8], value: &[u8]) -> Result<(), NoMemory>
+    requires field { IsKeepable (name.now, value.now) }
+    requires room { HasFewer 64 map.old }
     ensures { IfOk result (λ _. map.new ≡ append map.old (lowercase name.now) (plain_value value.now)) }
 {
-    let Ok(name) = HeaderName::from_bytes(alloc, name) else {
-        return Err(NoMemory);
-    };
-    let Ok(value) = HeaderValue::from_bytes(alloc, value) else {
-        return Err(NoMemory);
-    };
+    let name = name_of(alloc, name)?;
+    let value = value_of(alloc, value)?;
     match map.append(name, value) {
         Ok(_) => Ok(()),
-        Err(_) => Err(NoMemory),
+        Err(HeaderMapError::OutOfMemory) => Err(NoMemory),
+        Err(HeaderMapError::MaxSizeReached) => unreachable!(),
     }
 }
 
@@ -116,9 +141,11 @@ fn either(a: bool, b: bool) -> bool
 }
 
 impl Fields {
-    /// Keeps the fields that the spans cover.
+    /// Keeps the fields that the spans cover, at most 64.
     pub fn of(alloc: Global, buf: &[u8], headers: &[HeaderSpan]) -> Result<Fields, NoMemory>
-        requires { All (IsHeaderWithin (length buf.now)) headers.now }
+        requires within { All (IsHeaderWithin (length buf.now)) headers.now }
+        requires fields { All (λ header. IsKeepable (header_bytes buf.now header)) headers.now }
+        requires few { length headers.now ≤ 64 }
         ensures { IfOk result (λ fields. Keeps fields (map (header_bytes buf.now) headers.now)) }
     {
         let mut map = HeaderMap::new(alloc);

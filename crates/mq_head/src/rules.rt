@@ -1,7 +1,8 @@
 //! What a whole head asks for: a tunnel, or the refusal of the first rule that it breaks.
 ghost use Rattle.std.specs.Prelude.{◌≡◌, ◌≤◌, length, option_map, Some, IfOk};
 ghost use Rattle.httparse.specs.Grammar.{RequestHead};
-ghost use Rattle.httparse.specs.Spans.{IsWithin, span_bytes, IsRequestWithin, IsRequestAt};
+ghost use Rattle.httparse.specs.Spans.{IsWithin, span_bytes, IsRequestWithin, IsRequestAt, IsRequestOf};
+ghost use Rattle.mq_head.specs.Heads.{head_limit};
 ghost use Rattle.mq_head.specs.Rules.{fields_of, is_upgrade, with_path, for_kind, asked};
 ghost use Rattle.mq_head.specs.Kept.{Keeps};
 ghost use Rattle.mq_head.specs.Parsed.{meaning, IsSoundAs};
@@ -48,7 +49,9 @@ fn sound_fields(
     headers: &[HeaderSpan],
     head: &RequestSpans,
 ) -> Result<Option<Fields>, NoMemory>
-    requires { IsRequestWithin buf.now headers.now head.now }
+    requires within { IsRequestWithin buf.now headers.now head.now }
+    requires found { IsRequestOf buf.now headers.now head.now }
+    requires short { length buf.now ≤ head_limit }
     ensures { IfOk result (λ found. (h : RequestHead) → IsRequestAt buf.now headers.now head.now h → IsSoundAs h found) }
 {
     if head.headers > MAX_FIELDS {
@@ -97,7 +100,9 @@ pub fn asked_for<'b>(
     headers: &[HeaderSpan],
     head: &RequestSpans,
 ) -> Result<Asked<'b>, NoMemory>
-    requires { IsRequestWithin buf.now headers.now head.now }
+    requires within { IsRequestWithin buf.now headers.now head.now }
+    requires found { IsRequestOf buf.now headers.now head.now }
+    requires short { length buf.now ≤ head_limit }
     ensures { IfOk result (λ a. (h : RequestHead) → IsRequestAt buf.now headers.now head.now h → meaning a ≡ asked h) }
 {
     let Some(fields) = sound_fields(alloc, buf, headers, head)? else {

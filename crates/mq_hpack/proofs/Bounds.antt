@@ -1,54 +1,45 @@
 -- The fields of a block count no more than 16,384.
-use Rattle.std.proofs.Common.{◌≡◌, ℕ, ◌+◌, ◌≤◌, zero, suc, inl, inr, List, [], ◌∷◌, Result, Ok, Err, refl, sym, ap, subst, arith}
+use Rattle.std.proofs.Common.{◌≡◌, ℕ, ◌+◌, ◌≤◌, zero, suc, List, [], ◌∷◌, ◌++◌, Ok, refl, ◌∙◌, ap, arith}
 use Rattle.std.specs.List.{sum_by}
-use Rattle.std.proofs.lemmas.List.Sums.{sum_by-cons}
-use Rattle.mq_hpack.specs.declared.fault.HpackFault.{HpackFault}
+use Rattle.std.proofs.lemmas.List.Sums.{sum_by-cons, sum_by-append}
 use Rattle.mq_hpack.specs.declared.field.Field.{Field}
 use Rattle.mq_hpack.specs.declared.representation.Representation.{Representation}
 use Rattle.mq_hpack.specs.declared.representation.Representation.TheVariants.{Plain, Stored, SizeUpdate}
-use Rattle.mq_hpack.specs.Table.{Table, size_of, with_field, with_limit}
-use Rattle.mq_hpack.specs.Block.{behind, Gains, Goes, IsBlock, Reads}
+use Rattle.mq_hpack.specs.Table.{Table, size_of}
+use Rattle.mq_hpack.specs.Taking.{IsTaken}
+use Rattle.mq_hpack.specs.Block.{Progress, IsBlock, Reads, begun}
 
-abbrev Answer : Type 0
-Answer = Result (List Field × Table) HpackFault
+-- the total is that of the fields, and no more than it may be
+record Fits (fields : List Field) (total : ℕ) : Type 0 where
+  pub counted : sum_by size_of fields ≡ total
+  pub small : total ≤ 16384
 
-abbrev fields_in : Answer → List Field
-fields_in (Ok x) = x.0
-fields_in (Err fault) = []
+one_more : (before after : List Field) (f : Field) (total sum : ℕ) → Fits before total → after ≡ before ++ f ∷ [] → total + size_of f ≤ 16384 → sum ≡ total + size_of f → Fits after sum
+one_more before after f total sum h e le s =
+    let one : sum_by size_of (f ∷ []) ≡ size_of f + 0 = sum_by-cons size_of f [] in
+    let both = ap (λ xs. sum_by size_of xs) e ∙ sum_by-append size_of before (f ∷ []) in
+    let c = h.counted in
+    record { counted = omega arith; small = omega arith }
 
--- with the fields before, which count so much, those of an answer count no more
-abbrev Fits : ℕ → Answer → Type 0
-Fits total r = total + sum_by size_of (fields_in r) ≤ 16384
+taken_fits : (form : Representation) (t new : Table) (before after : List Field) (total sum : ℕ) → Fits before total → IsTaken form t new before after total (Ok sum) → Fits after sum
+taken_fits (SizeUpdate n) t new before after total sum h k =
+    let same = ap (λ xs. sum_by size_of xs) k.1 in
+    let s = k.2 in
+    let c = h.counted in
+    let l = h.small in
+    record { counted = omega arith; small = omega arith }
+taken_fits (Plain f) t new before after total sum h k = one_more before after f total sum h k.1 k.2.0 k.2.1
+taken_fits (Stored f) t new before after total sum h k = one_more before after f total sum h k.1 k.2.0 k.2.1
 
-abbrev AllFit : (Table → ℕ → List ℕ → Answer → Type 0) → Type 0
-AllFit Follows = (t : Table) (total : ℕ) (bytes : List ℕ) (r : Answer) → total ≤ 16384 → Follows t total bytes r → Fits total r
-
-none_fit : (total : ℕ) (r : Answer) → fields_in r ≡ [] → total ≤ 16384 → Fits total r
-none_fit total r e h = let z = ap (λ xs. sum_by size_of xs) e in omega arith
-
-behind_fits : (f : Field) (total : ℕ) (s : Answer) → total + size_of f ≤ 16384 → Fits (total + size_of f) s → Fits total (behind (f ∷ []) s)
-behind_fits f total (Ok x) h fits = let z = sum_by-cons size_of f x.0 in omega arith
-behind_fits f total (Err fault) h fits = none_fit total (Err fault) refl (omega arith)
-
-gains_fit : (Follows : Table → ℕ → List ℕ → Answer → Type 0) → AllFit Follows → (f : Field) (t : Table) (total : ℕ) (rest : List ℕ) (r : Answer) → total ≤ 16384 →
-    Gains Follows f t total rest r → Fits total r
-gains_fit Follows all f t total rest r h (inl g) = none_fit total r (ap fields_in g.1) h
-gains_fit Follows all f t total rest r h (inr g) =
-    subst (λ (s : Answer). Fits total s) (sym g.3) (behind_fits f total g.1 g.0 (all t (total + size_of f) rest g.1 g.0 g.2))
-
-goes_fit : (Follows : Table → ℕ → List ℕ → Answer → Type 0) → AllFit Follows → (form : Representation) (t : Table) (total : ℕ) (rest : List ℕ) (r : Answer) → total ≤ 16384 →
-    Goes Follows form t total rest r → Fits total r
-goes_fit Follows all (SizeUpdate n) t total rest r h g = all (with_limit n t) total rest r h g
-goes_fit Follows all (Plain f) t total rest r h g = gains_fit Follows all f t total rest r h g
-goes_fit Follows all (Stored f) t total rest r h g = gains_fit Follows all f (with_field f t) total rest r h g
-
-either_fits : (k : ℕ) → AllFit (IsBlock k) → (t : Table) (total : ℕ) (bytes : List ℕ) (r : Answer) → total ≤ 16384 → IsBlock (suc k) t total bytes r → Fits total r
-either_fits k all t total bytes r h (some, inl g) = none_fit total r (ap fields_in g.2) h
-either_fits k all t total bytes r h (some, inr g) = goes_fit (IsBlock k) all g.0.0 t total g.0.1 r h g.2
-
-block_fits : (k : ℕ) → AllFit (IsBlock k)
-block_fits zero = λ t total bytes r h g. none_fit total r (ap fields_in g.1) h
-block_fits (suc k) = λ t total bytes r h g. either_fits k (block_fits k) t total bytes r h g
+block_fits : (k : ℕ) (p : Progress) (x : List Field × Table) → Fits p.fields p.total → IsBlock k p (Ok x) → sum_by size_of x.0 ≤ 16384
+block_fits zero p x h g =
+    let e : x.0 ≡ p.fields = cc g.1 in
+    let same = ap (λ xs. sum_by size_of xs) e in
+    let c = h.counted in
+    let l = h.small in
+    omega arith
+block_fits (suc k) p x h (some, (q, (form, is, (left, taken)), next)) =
+    block_fits k q x (taken_fits form.0 p.table q.table p.fields q.fields p.total q.total h taken) next
 
 pub reads_fit : (t new : Table) (bytes : List ℕ) (fields : List Field) → Reads t bytes (Ok (fields, new)) → sum_by size_of fields ≤ 16384
-reads_fit t new bytes fields g = let z = block_fits g.0 t 0 bytes (Ok (fields, new)) (omega arith) g.1 in omega arith
+reads_fit t new bytes fields g = block_fits g.0 (begun t bytes) (fields, new) (record { counted = refl; small = omega arith }) g.1

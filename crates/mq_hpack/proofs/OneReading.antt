@@ -1,5 +1,5 @@
 -- A block has one reading: each relation that it is made of has one answer.
-use Rattle.std.proofs.Common.{◌≡◌, ℕ, ◌+◌, inl, inr, zero, suc, Bool, true, false, List, [], ◌∷◌, take, Result, Ok, Err, sym, ◌∙◌, ap, subst, arith}
+use Rattle.std.proofs.Common.{◌≡◌, ℕ, inl, inr, zero, suc, Bool, true, false, List, take, Result, Ok, Err, sym, ◌∙◌, ap, subst, arith}
 use Rattle.std.specs.Prelude.{nat_le, slice_index}
 use Rattle.mq_huff.specs.Laws.{HaveOneReading, HaveTextOrFault}
 use Rattle.mq_hpack.specs.declared.fault.HpackFault.{HpackFault}
@@ -7,10 +7,11 @@ use Rattle.mq_hpack.specs.declared.field.Field.{Field}
 use Rattle.mq_hpack.specs.declared.representation.Representation.{Representation}
 use Rattle.mq_hpack.specs.declared.representation.Representation.TheVariants.{Plain, Stored, SizeUpdate}
 use Rattle.mq_hpack.specs.Text.{Then, IsInteger, IsPlain, IsLong, IsString}
-use Rattle.mq_hpack.specs.Table.{Table, size_of, with_field, with_limit}
+use Rattle.mq_hpack.specs.Table.{Table}
 use Rattle.mq_hpack.specs.Representation.{Kind, Indexes, Stores, Updates, Passes, kind_of, IsRepresentation, IsOf, IsIndexed, IsNameAt, IsName, IsValue, IsLiteral, IsMade, IsSizeUpdate, IsLate}
-use Rattle.mq_hpack.specs.Block.{behind, Gains, Goes, IsBlock}
+use Rattle.mq_hpack.specs.Block.{Progress, Takes, IsStep, IsBlock, begun}
 use Rattle.mq_hpack.specs.OneReading.{HasOneReading}
+use Rattle.mq_hpack.proofs.Blocks.{progress}
 
 -- two answers that are so are one
 abbrev One : {A : Type 0} → (Result A HpackFault → Type 0) → Type 0
@@ -19,27 +20,35 @@ One {A} R = (r s : Result A HpackFault) → R r → R s → r ≡ s
 same_pair : {A B : Type 0} (x y : A × B) → x.0 ≡ y.0 → x.1 ≡ y.1 → x ≡ y
 same_pair {A} {B} x y e f = ap (λ (a : A). (a, x.1)) e ∙ ap (λ (b : B). (y.0, b)) f
 
--- readings one after another have one answer, where each of them has
-then_one : {A B : Type 0} (R : Result A HpackFault → Type 0) (S : A → Result B HpackFault → Type 0) → One R → ((a : A) → One (S a)) → One (Then R S)
-then_one {A} {B} R S f g (Ok x) (Ok y) h k =
+-- what is so in one way and in the other is the same
+abbrev Agree : {A : Type 0} → (Result A HpackFault → Type 0) → (Result A HpackFault → Type 0) → Type 0
+Agree {A} S T = (r s : Result A HpackFault) → S r → T s → r ≡ s
+
+-- readings one after another agree, where the first has one answer and those after it agree
+then_agree : {A B : Type 0} (R : Result A HpackFault → Type 0) (S T : A → Result B HpackFault → Type 0) → One R → ((a : A) → Agree (S a) (T a)) → Agree (Then R S) (Then R T)
+then_agree {A} {B} R S T f g (Ok x) (Ok y) h k =
     let e : h.0 ≡ k.0 = cc (f (Ok h.0) (Ok k.0) h.1 k.1) in
     g k.0 (Ok x) (Ok y) (subst (λ (a : A). S a (Ok x)) e h.2) k.2
-then_one {A} {B} R S f g (Ok x) (Err d) h (inl k) = cc (f (Ok h.0) (Err d) h.1 k)
-then_one {A} {B} R S f g (Ok x) (Err d) h (inr k) =
+then_agree {A} {B} R S T f g (Ok x) (Err d) h (inl k) = cc (f (Ok h.0) (Err d) h.1 k)
+then_agree {A} {B} R S T f g (Ok x) (Err d) h (inr k) =
     let e : h.0 ≡ k.0 = cc (f (Ok h.0) (Ok k.0) h.1 k.1) in
     g k.0 (Ok x) (Err d) (subst (λ (a : A). S a (Ok x)) e h.2) k.2
-then_one {A} {B} R S f g (Err c) (Ok y) (inl h) k = cc (f (Err c) (Ok k.0) h k.1)
-then_one {A} {B} R S f g (Err c) (Ok y) (inr h) k =
+then_agree {A} {B} R S T f g (Err c) (Ok y) (inl h) k = cc (f (Err c) (Ok k.0) h k.1)
+then_agree {A} {B} R S T f g (Err c) (Ok y) (inr h) k =
     let e : h.0 ≡ k.0 = cc (f (Ok h.0) (Ok k.0) h.1 k.1) in
     g k.0 (Err c) (Ok y) (subst (λ (a : A). S a (Err c)) e h.2) k.2
-then_one {A} {B} R S f g (Err c) (Err d) (inl h) (inl k) =
+then_agree {A} {B} R S T f g (Err c) (Err d) (inl h) (inl k) =
     let e : c ≡ d = cc (f (Err c) (Err d) h k) in
     ap (λ z. Err z) e
-then_one {A} {B} R S f g (Err c) (Err d) (inl h) (inr k) = cc (f (Err c) (Ok k.0) h k.1)
-then_one {A} {B} R S f g (Err c) (Err d) (inr h) (inl k) = cc (f (Ok h.0) (Err d) h.1 k)
-then_one {A} {B} R S f g (Err c) (Err d) (inr h) (inr k) =
+then_agree {A} {B} R S T f g (Err c) (Err d) (inl h) (inr k) = cc (f (Err c) (Ok k.0) h k.1)
+then_agree {A} {B} R S T f g (Err c) (Err d) (inr h) (inl k) = cc (f (Ok h.0) (Err d) h.1 k)
+then_agree {A} {B} R S T f g (Err c) (Err d) (inr h) (inr k) =
     let e : h.0 ≡ k.0 = cc (f (Ok h.0) (Ok k.0) h.1 k.1) in
     g k.0 (Err c) (Err d) (subst (λ (a : A). S a (Err c)) e h.2) k.2
+
+-- and so have one answer, where each has
+then_one : {A B : Type 0} (R : Result A HpackFault → Type 0) (S : A → Result B HpackFault → Type 0) → One R → ((a : A) → One (S a)) → One (Then R S)
+then_one R S f g = then_agree R S S f g
 
 integer_one : (prefix : ℕ) (bytes : List ℕ) → One (IsInteger prefix bytes)
 integer_one prefix bytes (Ok x) (Ok y) h k = cc
@@ -159,41 +168,38 @@ of_one text fault Passes t total bytes = then_one (IsLiteral t 4 bytes) (IsMade 
 form_one : HaveOneReading → HaveTextOrFault → (t : Table) (total : ℕ) (bytes : List ℕ) → One (IsRepresentation t total bytes)
 form_one text fault t total bytes = of_one text fault (kind_of bytes) t total bytes
 
-abbrev Answer : Type 0
-Answer = Result (List Field × Table) HpackFault
+same_progress : (a b : Progress) → a.table ≡ b.table → a.fields ≡ b.fields → a.total ≡ b.total → a.left ≡ b.left → a ≡ b
+same_progress a b e f g h =
+    ap (λ (t : Table). progress t a.fields a.total a.left) e ∙ ap (λ xs. progress b.table xs a.total a.left) f
+    ∙ ap (λ n. progress b.table b.fields n a.left) g ∙ ap (λ xs. progress b.table b.fields b.total xs) h
 
--- what follows in one way and in the other is the same
-abbrev Agree : (Table → ℕ → List ℕ → Answer → Type 0) → (Table → ℕ → List ℕ → Answer → Type 0) → Type 0
-Agree F G = (t : Table) (total : ℕ) (bytes : List ℕ) (r s : Answer) → F t total bytes r → G t total bytes s → r ≡ s
+-- what a representation leads to
+taken_one : (p : Progress) (form : Representation) (rest : List ℕ) → One (Takes p (form, rest))
+taken_one p (SizeUpdate n) rest (Ok a) (Ok b) h k =
+    ap (λ z. Ok z) (same_progress a b (h.1.0 ∙ sym k.1.0) (h.1.1 ∙ sym k.1.1) (h.1.2 ∙ sym k.1.2) (h.0 ∙ sym k.0))
+taken_one p (SizeUpdate n) rest (Ok a) (Err d) h k = absurd k
+taken_one p (SizeUpdate n) rest (Err c) s h k = absurd h
+taken_one p (Plain f) rest (Ok a) (Ok b) h k =
+    ap (λ z. Ok z) (same_progress a b (h.1.0 ∙ sym k.1.0) (h.1.1 ∙ sym k.1.1) (h.1.2.1 ∙ sym k.1.2.1) (h.0 ∙ sym k.0))
+taken_one p (Plain f) rest (Ok a) (Err d) h k = let z = k.0 in absurd (omega (arith, h.1.2.0))
+taken_one p (Plain f) rest (Err c) (Ok b) h k = let z = h.0 in absurd (omega (arith, k.1.2.0))
+taken_one p (Plain f) rest (Err c) (Err d) h k = ap (λ z. Err z) (h.1 ∙ sym k.1)
+taken_one p (Stored f) rest (Ok a) (Ok b) h k =
+    ap (λ z. Ok z) (same_progress a b (h.1.0 ∙ sym k.1.0) (h.1.1 ∙ sym k.1.1) (h.1.2.1 ∙ sym k.1.2.1) (h.0 ∙ sym k.0))
+taken_one p (Stored f) rest (Ok a) (Err d) h k = let z = k.0 in absurd (omega (arith, h.1.2.0))
+taken_one p (Stored f) rest (Err c) (Ok b) h k = let z = h.0 in absurd (omega (arith, k.1.2.0))
+taken_one p (Stored f) rest (Err c) (Err d) h k = ap (λ z. Err z) (h.1 ∙ sym k.1)
 
-gains_agree : (F G : Table → ℕ → List ℕ → Answer → Type 0) → Agree F G → (f : Field) → Agree (Gains F f) (Gains G f)
-gains_agree F G same f t total rest r s (inl h) (inl k) = h.1 ∙ sym k.1
-gains_agree F G same f t total rest r s (inl h) (inr k) = let z = h.0 in absurd (omega (arith, k.0))
-gains_agree F G same f t total rest r s (inr h) (inl k) = let z = k.0 in absurd (omega (arith, h.0))
-gains_agree F G same f t total rest r s (inr h) (inr k) =
-    h.3 ∙ ap (λ z. behind (f ∷ []) z) (same t (total + size_of f) rest h.1 k.1 h.2 k.2) ∙ sym k.3
+step_one : HaveOneReading → HaveTextOrFault → (p : Progress) → One (IsStep p)
+step_one text fault p =
+    then_one (IsRepresentation p.table p.total p.left) (Takes p) (form_one text fault p.table p.total p.left) (λ x. taken_one p x.0 x.1)
 
-goes_agree : (F G : Table → ℕ → List ℕ → Answer → Type 0) → Agree F G → (form : Representation) → Agree (Goes F form) (Goes G form)
-goes_agree F G same (SizeUpdate n) t total rest r s h k = same (with_limit n t) total rest r s h k
-goes_agree F G same (Plain f) t total rest r s h k = gains_agree F G same f t total rest r s h k
-goes_agree F G same (Stored f) t total rest r s h k = gains_agree F G same f (with_field f t) total rest r s h k
-
-either_agrees : (k j : ℕ) → Agree (IsBlock k) (IsBlock j) → HaveOneReading → HaveTextOrFault → Agree (IsBlock (suc k)) (IsBlock (suc j))
-either_agrees k j same text fault t total bytes r s (some, inl h) (more, inl g) =
-    let e : h.0 ≡ g.0 = cc (form_one text fault t total bytes (Err h.0) (Err g.0) h.1 g.1) in
-    h.2 ∙ ap (λ z. Err z) e ∙ sym g.2
-either_agrees k j same text fault t total bytes r s (some, inl h) (more, inr g) = cc (form_one text fault t total bytes (Err h.0) (Ok g.0) h.1 g.1)
-either_agrees k j same text fault t total bytes r s (some, inr h) (more, inl g) = cc (form_one text fault t total bytes (Ok h.0) (Err g.0) h.1 g.1)
-either_agrees k j same text fault t total bytes r s (some, inr h) (more, inr g) =
-    let e : h.0 ≡ g.0 = cc (form_one text fault t total bytes (Ok h.0) (Ok g.0) h.1 g.1) in
-    goes_agree (IsBlock k) (IsBlock j) same g.0.0 t total g.0.1 r s
-    (subst (λ (x : Representation × List ℕ). Goes (IsBlock k) x.0 t total x.1 r) e h.2) g.2
-
-block_agrees : (k j : ℕ) → HaveOneReading → HaveTextOrFault → Agree (IsBlock k) (IsBlock j)
-block_agrees zero zero text fault = λ t total bytes r s h g. h.1 ∙ sym g.1
-block_agrees zero (suc j) text fault = λ t total bytes r s h g. absurd (g.0 h.0)
-block_agrees (suc k) zero text fault = λ t total bytes r s h g. absurd (h.0 g.0)
-block_agrees (suc k) (suc j) text fault = λ t total bytes r s h g. either_agrees k j (block_agrees k j text fault) text fault t total bytes r s h g
+block_agrees : (k j : ℕ) → HaveOneReading → HaveTextOrFault → (p : Progress) → Agree (IsBlock k p) (IsBlock j p)
+block_agrees zero zero text fault p r s h g = h.1 ∙ sym g.1
+block_agrees zero (suc j) text fault p r s h g = absurd (g.0 h.0)
+block_agrees (suc k) zero text fault p r s h g = absurd (h.0 g.0)
+block_agrees (suc k) (suc j) text fault p r s h g =
+    then_agree (IsStep p) (IsBlock k) (IsBlock j) (step_one text fault p) (λ q. block_agrees k j text fault q) r s h.1 g.1
 
 pub has_one_reading : HaveOneReading → HaveTextOrFault → HasOneReading
-has_one_reading text fault = λ t bytes a b h g. block_agrees h.0 g.0 text fault t 0 bytes a b h.1 g.1
+has_one_reading text fault = λ t bytes a b h g. block_agrees h.0 g.0 text fault (begun t bytes) a b h.1 g.1

@@ -1,5 +1,5 @@
 -- What the encoder writes is read back.
-use Rattle.std.proofs.Common.{◌≡◌, ◌≢◌, ℕ, ◌+◌, ◌^◌, ◌<◌, ◌≤◌, inl, inr, zero, suc, Bool, true, false, cond, List, [], ◌∷◌, ◌++◌, length, Option, Some, None, Result, Ok, Err, refl, sym, ◌∙◌, ap, subst, arith, add-one}
+use Rattle.std.proofs.Common.{◌≡◌, ◌≢◌, ℕ, ◌+◌, ◌^◌, ◌<◌, ◌≤◌, inl, inr, zero, suc, Bool, true, false, cond, List, [], ◌∷◌, ◌++◌, length, Option, Some, None, Result, Ok, Err, refl, sym, ◌∙◌, ap, subst, arith, add-one, append-nil}
 use Rattle.std.specs.Prelude.{nat_le}
 use Rattle.std.specs.List.{slice_get, sum_by, AllByRecursion}
 use Rattle.std.proofs.lemmas.Bool.{cases_lt, le-leb, lt-leb}
@@ -13,10 +13,12 @@ use Rattle.mq_hpack.specs.Static.{static_fields}
 use Rattle.mq_hpack.specs.Table.{Table, size_of, field_at, with_limit}
 use Rattle.mq_hpack.specs.Text.{IsString}
 use Rattle.mq_hpack.specs.Representation.{Indexes, Stores, Updates, Passes, Kind, kind_of, IsRepresentation, IsOf, IsNameAt}
-use Rattle.mq_hpack.specs.Block.{IsBlock, Reads}
+use Rattle.mq_hpack.specs.Block.{IsStep, IsBlock, Reads, begun}
 use Rattle.mq_hpack.specs.Encoder.{spelled, AreFields, IsEncoded, IsField, IsLeast, IsWritten}
 use Rattle.mq_hpack.specs.ReadBack.{IsShort, table_after}
+use Rattle.mq_hpack.proofs.Blocks.{progress}
 use Rattle.mq_hpack.proofs.Found.{length-static, found_front}
+use Rattle.mq_hpack.proofs.Readings.{then_so}
 use Rattle.mq_hpack.proofs.StringsBack.{begins, string_back, indexed_back, literal_back, limit_back}
 
 -- the kind of each form, by its first byte
@@ -106,34 +108,42 @@ written_read t total f None None bytes rest w n h short =
 field_read : (t : Table) (total : ℕ) (f : Field) (bytes rest : List ℕ) → IsField f bytes → IsShort f → IsRead t total f (bytes ++ rest) rest
 field_read t total f bytes rest x short = written_read t total f x.whole x.named bytes rest x.least_whole x.least_named x.form short
 
+-- a field that was read, with those before
+field_step : (t : Table) (before : List Field) (total : ℕ) (f : Field) (bytes rest : List ℕ) → IsRead t total f bytes rest → total + size_of f ≤ 16384
+    → IsStep (progress t before total bytes) (Ok (progress t (before ++ f ∷ []) (total + size_of f) rest))
+field_step t before total f bytes rest r fits = ((Plain f, rest), r.form, (refl, (refl, refl, (fits, refl))))
+
 -- fields that count no more than they may
-all_read : (t : Table) (total : ℕ) (fields : List Field) (bytes : List ℕ) → AreFields fields bytes → total + sum_by size_of fields ≤ 16384
-    → (count : ℕ) × IsBlock count t total bytes (Ok (fields, t))
-all_read t total [] bytes h small = (zero, (h, refl))
-all_read t total (f ∷ fs) bytes h small =
+all_read : (t : Table) (before : List Field) (total : ℕ) (fields : List Field) (bytes : List ℕ) → AreFields fields bytes → total + sum_by size_of fields ≤ 16384
+    → (count : ℕ) × IsBlock count (progress t before total bytes) (Ok (before ++ fields, t))
+all_read t before total [] bytes h small = (zero, (h, ap (λ xs. Ok (xs, t)) (append-nil before)))
+all_read t before total (f ∷ fs) bytes h small =
     let first = h.0 in
     let rest = h.1 in
     let s = sum_by-cons size_of f fs in
     let r = field_read t total f first rest h.2 (omega arith, omega arith) in
-    let after = all_read t (total + size_of f) fs rest h.3 (omega arith) in
-    subst (λ (xs : List ℕ). (count : ℕ) × IsBlock count t total xs (Ok (f ∷ fs, t))) (sym h.4)
-    (suc after.0, (r.some, inr ((Plain f, rest), r.form, inr (omega arith, Ok (fs, t), after.1, refl))))
+    let after = all_read t (before ++ f ∷ []) (total + size_of f) fs rest h.3 (omega arith) in
+    let q = progress t (before ++ f ∷ []) (total + size_of f) rest in
+    let next = subst (λ xs. IsBlock after.0 q (Ok (xs, t))) (append_assoc before (f ∷ []) fs) after.1 in
+    subst (λ (xs : List ℕ). (count : ℕ) × IsBlock count (progress t before total xs) (Ok (before ++ f ∷ fs, t))) (sym h.4)
+    (suc after.0, (r.some, (q, field_step t before total f (first ++ rest) rest r (omega arith), next)))
 
 -- fields that count more
-more_read : (t : Table) (total : ℕ) (fields : List Field) (bytes : List ℕ) → AreFields fields bytes → AllByRecursion IsShort fields
-    → total ≤ 16384 → 16384 < total + sum_by size_of fields → (count : ℕ) × IsBlock count t total bytes (Err TooLarge)
-more_read t total [] bytes h short before large = absurd (omega arith)
-more_read t total (f ∷ fs) bytes h short before large =
+more_read : (t : Table) (before : List Field) (total : ℕ) (fields : List Field) (bytes : List ℕ) → AreFields fields bytes → AllByRecursion IsShort fields
+    → total ≤ 16384 → 16384 < total + sum_by size_of fields → (count : ℕ) × IsBlock count (progress t before total bytes) (Err TooLarge)
+more_read t before total [] bytes h short fits large = absurd (omega arith)
+more_read t before total (f ∷ fs) bytes h short fits large =
     let first = h.0 in
     let rest = h.1 in
     let s = sum_by-cons size_of f fs in
     let r = field_read t total f first rest h.2 short.0 in
-    subst (λ (xs : List ℕ). (count : ℕ) × IsBlock count t total xs (Err TooLarge)) (sym h.4)
+    let q = progress t (before ++ f ∷ []) (total + size_of f) rest in
+    subst (λ (xs : List ℕ). (count : ℕ) × IsBlock count (progress t before total xs) (Err TooLarge)) (sym h.4)
     (elim (cases_lt 16384 (total + size_of f)) [
-      | inl over ↦ (suc zero, (r.some, inr ((Plain f, rest), r.form, inl (over, refl))))
-      | inr fits ↦
-          let after = more_read t (total + size_of f) fs rest h.3 short.1 fits (omega arith) in
-          (suc after.0, (r.some, inr ((Plain f, rest), r.form, inr (fits, Err TooLarge, after.1, refl))))
+      | inl over ↦ (suc zero, (r.some, inl (inr ((Plain f, rest), r.form, (over, refl)))))
+      | inr le ↦
+          let after = more_read t (before ++ f ∷ []) (total + size_of f) fs rest h.3 short.1 le (omega arith) in
+          (suc after.0, (r.some, inr (q, field_step t before total f (first ++ rest) rest r le, after.1)))
     ])
 
 -- the new limit in front
@@ -141,17 +151,20 @@ limit_read : (t : Table) (bytes rest : List ℕ) (r : Result (List Field × Tabl
 limit_read t bytes rest r e h =
     let form = subst (λ (k : Kind). IsOf k t 0 (spelled 32 5 0 ++ rest) (Ok (SizeUpdate 0, rest))) (sym (kind_limit 0 rest))
     ((0, rest), limit_back 0 rest (omega arith), (omega arith, refl)) in
-    subst (λ (xs : List ℕ). Reads t xs r) (sym e) (suc h.0, (some_bytes 32 5 0 rest, inr ((SizeUpdate 0, rest), form, h.1)))
+    let p = begun t (spelled 32 5 0 ++ rest) in
+    let q = begun (with_limit 0 t) rest in
+    subst (λ (xs : List ℕ). Reads t xs r) (sym e)
+    (suc h.0, (some_bytes 32 5 0 rest, then_so (IsStep p) (IsBlock h.0) q r ((SizeUpdate 0, rest), form, (refl, (refl, refl, refl))) h.1))
 
 pub read_back : (t : Table) (owed : Bool) (fields : List Field) (bytes : List ℕ)
     → IsEncoded owed fields bytes → sum_by size_of fields ≤ 16384 → Reads t bytes (Ok (fields, table_after owed t))
-read_back t true fields bytes h small = limit_read t bytes h.0 (Ok (fields, with_limit 0 t)) h.2 (all_read (with_limit 0 t) 0 fields h.0 h.1 (omega arith))
+read_back t true fields bytes h small = limit_read t bytes h.0 (Ok (fields, with_limit 0 t)) h.2 (all_read (with_limit 0 t) [] 0 fields h.0 h.1 (omega arith))
 read_back t false fields bytes h small =
-    subst (λ (xs : List ℕ). Reads t xs (Ok (fields, t))) (sym h.2) (all_read t 0 fields h.0 h.1 (omega arith))
+    subst (λ (xs : List ℕ). Reads t xs (Ok (fields, t))) (sym h.2) (all_read t [] 0 fields h.0 h.1 (omega arith))
 
 pub read_too_large : (t : Table) (owed : Bool) (fields : List Field) (bytes : List ℕ)
     → IsEncoded owed fields bytes → AllByRecursion IsShort fields → 16384 < sum_by size_of fields → Reads t bytes (Err TooLarge)
 read_too_large t true fields bytes h short large =
-    limit_read t bytes h.0 (Err TooLarge) h.2 (more_read (with_limit 0 t) 0 fields h.0 h.1 short (omega arith) (omega arith))
+    limit_read t bytes h.0 (Err TooLarge) h.2 (more_read (with_limit 0 t) [] 0 fields h.0 h.1 short (omega arith) (omega arith))
 read_too_large t false fields bytes h short large =
-    subst (λ (xs : List ℕ). Reads t xs (Err TooLarge)) (sym h.2) (more_read t 0 fields h.0 h.1 short (omega arith) (omega arith))
+    subst (λ (xs : List ℕ). Reads t xs (Err TooLarge)) (sym h.2) (more_read t [] 0 fields h.0 h.1 short (omega arith) (omega arith))

@@ -1,5 +1,5 @@
 -- A block comes to something: each relation that it is made of has an answer.
-use Rattle.std.proofs.Common.{◌≡◌, ℕ, ◌+◌, ◌≤◌, inl, inr, zero, suc, Bool, true, false, List, [], ◌∷◌, length, take, drop, Option, Some, None, Result, Ok, Err, refl, arith}
+use Rattle.std.proofs.Common.{◌≡◌, ◌≢◌, ℕ, ◌+◌, ◌<◌, ◌≤◌, inl, inr, zero, suc, Bool, true, false, List, [], ◌∷◌, ◌++◌, length, take, drop, Option, Some, None, Result, Ok, Err, refl, ap, arith}
 use Rattle.std.specs.Prelude.{nat_le, slice_index}
 use Rattle.std.proofs.lemmas.Bool.{cases_lt}
 use Rattle.mq_huff.specs.Laws.{HaveAnAnswer}
@@ -12,8 +12,10 @@ use Rattle.mq_hpack.specs.Integer.{integer_of}
 use Rattle.mq_hpack.specs.Text.{Then, IsInteger, IsPlain, IsLong, IsString}
 use Rattle.mq_hpack.specs.Table.{Table, size_of, field_at, with_field, with_limit}
 use Rattle.mq_hpack.specs.Representation.{Kind, Indexes, Stores, Updates, Passes, kind_of, IsRepresentation, IsOf, IsIndexed, IsNameAt, IsName, IsValue, IsLiteral, IsMade, IsSizeUpdate}
-use Rattle.mq_hpack.specs.Block.{behind, Gains, Goes, IsBlock}
+use Rattle.mq_hpack.specs.Block.{Progress, Takes, IsStep, IsBlock}
 use Rattle.mq_hpack.specs.Outcome.{IsReadable}
+use Rattle.mq_hpack.proofs.Blocks.{progress}
+use Rattle.mq_hpack.proofs.Readings.{then_so}
 use Rattle.mq_hpack.proofs.Shorter.{representation_shorter}
 
 -- some answer is so
@@ -102,38 +104,45 @@ of_comes answer Passes t total bytes = then_comes (IsLiteral t 4 bytes) (IsMade 
 abbrev Answer : Type 0
 Answer = Result (List Field × Table) HpackFault
 
--- blocks of so many bytes come to something
-abbrev AllCome : ℕ → Type 0
-AllCome n = (t : Table) (total : ℕ) (bytes : List ℕ) → length bytes ≤ n → (r : Answer) × ((count : ℕ) × IsBlock count t total bytes r)
-
-gains_come : (n : ℕ) → AllCome n → (f : Field) (t : Table) (total : ℕ) (rest : List ℕ) → length rest ≤ n
-    → (r : Answer) × ((count : ℕ) × Gains (IsBlock count) f t total rest r)
-gains_come n all f t total rest le = elim (cases_lt 16384 (total + size_of f)) [
-  | inl large ↦ (Err TooLarge, (zero, inl (large, refl)))
-  | inr fits ↦
-      let next = all t (total + size_of f) rest le in
-      (behind (f ∷ []) next.0, (next.1.0, inr (fits, next.0, next.1.1, refl)))
+taken_comes : (p : Progress) (form : Representation) (rest : List ℕ) → Comes (Takes p (form, rest))
+taken_comes p (SizeUpdate limit) rest = (Ok (progress (with_limit limit p.table) p.fields p.total rest), (refl, (refl, refl, refl)))
+taken_comes p (Plain f) rest = elim (cases_lt 16384 (p.total + size_of f)) [
+  | inl large ↦ (Err TooLarge, (large, refl))
+  | inr fits ↦ (Ok (progress p.table (p.fields ++ f ∷ []) (p.total + size_of f) rest), (refl, (refl, refl, (fits, refl))))
+]
+taken_comes p (Stored f) rest = elim (cases_lt 16384 (p.total + size_of f)) [
+  | inl large ↦ (Err TooLarge, (large, refl))
+  | inr fits ↦ (Ok (progress (with_field f p.table) (p.fields ++ f ∷ []) (p.total + size_of f) rest), (refl, (refl, refl, (fits, refl))))
 ]
 
-goes_come : (n : ℕ) → AllCome n → (form : Representation) (t : Table) (total : ℕ) (rest : List ℕ) → length rest ≤ n
-    → (r : Answer) × ((count : ℕ) × Goes (IsBlock count) form t total rest r)
-goes_come n all (SizeUpdate limit) t total rest le = all (with_limit limit t) total rest le
-goes_come n all (Plain f) t total rest le = gains_come n all f t total rest le
-goes_come n all (Stored f) t total rest le = gains_come n all f (with_field f t) total rest le
+step_comes : HaveAnAnswer → (p : Progress) → Comes (IsStep p)
+step_comes answer p =
+    then_comes (IsRepresentation p.table p.total p.left) (Takes p) (of_comes answer (kind_of p.left) p.table p.total p.left) (λ x. taken_comes p x.0 x.1)
 
-block_by : (n : ℕ) → AllCome n → (t : Table) (total b : ℕ) (bytes : List ℕ) → length bytes ≤ n → Comes (IsRepresentation t total (b ∷ bytes))
-    → (r : Answer) × ((count : ℕ) × IsBlock count t total (b ∷ bytes) r)
-block_by n all t total b bytes le (Err e, h) = (Err e, (suc zero, ((λ none. absurd cc), inl (e, h, refl))))
-block_by n all t total b bytes le (Ok x, h) =
-    let shorter = representation_shorter t total (b ∷ bytes) x h in
-    let next = goes_come n all x.0 t total x.1 (omega (arith, shorter)) in
-    (next.0, (suc next.1.0, ((λ none. absurd cc), inr (x, h, next.1.1))))
+step_shorter : (p q : Progress) → IsStep p (Ok q) → length q.left < length p.left
+step_shorter p q (x, is, (left, taken)) =
+    let shorter = representation_shorter p.table p.total p.left x is in
+    let same = ap (λ xs. length xs) left in
+    omega (arith, shorter)
 
-block_comes : HaveAnAnswer → (n : ℕ) → AllCome n
-block_comes answer n t total [] le = (Ok ([], t), (zero, (refl, refl)))
-block_comes answer zero t total (b ∷ bytes) le = absurd (omega arith)
-block_comes answer (suc n) t total (b ∷ bytes) le =
-    block_by n (block_comes answer n) t total b bytes (omega arith) (of_comes answer (kind_of (b ∷ bytes)) t total (b ∷ bytes))
+-- blocks of so many bytes come to something
+abbrev AllCome : ℕ → Type 0
+AllCome n = (p : Progress) → length p.left ≤ n → (r : Answer) × ((count : ℕ) × IsBlock count p r)
+
+block_by : (n : ℕ) → AllCome n → (p : Progress) → p.left ≢ [] → length p.left ≤ suc n → Comes (IsStep p) → (r : Answer) × ((count : ℕ) × IsBlock count p r)
+block_by n all p some le (Err e, h) = (Err e, (suc zero, (some, inl h)))
+block_by n all p some le (Ok q, h) =
+    let shorter = step_shorter p q h in
+    let next = all q (omega (arith, shorter)) in
+    (next.0, (suc next.1.0, (some, then_so (IsStep p) (IsBlock next.1.0) q next.0 h next.1.1)))
+
+block_at : HaveAnAnswer → (n : ℕ) (t : Table) (fields : List Field) (total : ℕ) (left : List ℕ) → length left ≤ n
+    → (r : Answer) × ((count : ℕ) × IsBlock count (progress t fields total left) r)
+block_at answer n t fields total [] le = (Ok (fields, t), (zero, (refl, refl)))
+block_at answer zero t fields total (b ∷ bytes) le = absurd (omega arith)
+block_at answer (suc n) t fields total (b ∷ bytes) le =
+    let p = progress t fields total (b ∷ bytes) in
+    block_by n (λ q. block_at answer n q.table q.fields q.total q.left) p (λ none. absurd cc) le (step_comes answer p)
 
 pub is_readable : HaveAnAnswer → IsReadable
-is_readable answer t bytes = let r = block_comes answer (length bytes) t 0 bytes (omega arith) in (r.0, r.1)
+is_readable answer t bytes = block_at answer (length bytes) t [] 0 bytes (omega arith)

@@ -1,39 +1,38 @@
--- Field blocks (RFC 7541, section 3).
-use Rattle.std.specs.Prelude.{◌≡◌, ℕ, ◌+◌, ◌<◌, ◌≤◌, ◌≢◌, ◌⊎◌, zero, suc, List, [], ◌∷◌, ◌++◌, Result, Ok, Err}
+-- Field blocks (RFC 7541, section 3): representations, one after another.
+use Rattle.std.specs.Prelude.{◌≡◌, ℕ, ◌≢◌, zero, suc, List, [], Result, Ok, Err}
 use Rattle.mq_hpack.specs.declared.fault.HpackFault.{HpackFault}
-use Rattle.mq_hpack.specs.declared.fault.HpackFault.TheVariants.{TooLarge}
 use Rattle.mq_hpack.specs.declared.field.Field.{Field}
 use Rattle.mq_hpack.specs.declared.representation.Representation.{Representation}
-use Rattle.mq_hpack.specs.declared.representation.Representation.TheVariants.{Plain, Stored, SizeUpdate}
-use Rattle.mq_hpack.specs.Table.{Table, size_of, with_field, with_limit}
+use Rattle.mq_hpack.specs.Table.{Table}
+use Rattle.mq_hpack.specs.Text.{Then}
 use Rattle.mq_hpack.specs.Representation.{IsRepresentation}
+use Rattle.mq_hpack.specs.Taking.{IsTaken}
 
--- the answer with these fields before its own
-abbrev pub behind : List Field → Result (List Field × Table) HpackFault → Result (List Field × Table) HpackFault
-behind fields (Ok x) = Ok (fields ++ x.0, x.1)
-behind fields (Err fault) = Err fault
+-- what was read of a block: the table then, the fields and what they count, and the bytes that are left
+pub record Progress : Type 0 where
+  pub table : Table
+  pub fields : List Field
+  pub total : ℕ
+  pub left : List ℕ
 
--- with one more field, and this table after it: what follows is so, or the field is one too many
-abbrev pub Gains : (Table → ℕ → List ℕ → Result (List Field × Table) HpackFault → Type 0) → Field → Table → ℕ → List ℕ → Result (List Field × Table) HpackFault → Type 0
-Gains Follows f t total rest r =
-    ((16384 < total + size_of f) × (r ≡ Err TooLarge))
-    ⊎ ((total + size_of f ≤ 16384) × (s : Result (List Field × Table) HpackFault) × Follows t (total + size_of f) rest s × (r ≡ behind (f ∷ []) s))
+-- nothing yet
+abbrev pub begun : Table → List ℕ → Progress
+begun t bytes = record { table = t; fields = []; total = 0; left = bytes }
 
--- what follows a representation
-abbrev pub Goes : (Table → ℕ → List ℕ → Result (List Field × Table) HpackFault → Type 0) → Representation → Table → ℕ → List ℕ → Result (List Field × Table) HpackFault → Type 0
-Goes Follows (SizeUpdate n) t total rest r = Follows (with_limit n t) total rest r
-Goes Follows (Plain f) t total rest r = Gains Follows f t total rest r
-Goes Follows (Stored f) t total rest r = Gains Follows f (with_field f t) total rest r
+-- what a representation leads to, with the bytes after it
+abbrev pub Takes : Progress → Representation × List ℕ → Result Progress HpackFault → Type 0
+Takes p x (Ok q) = (q.left ≡ x.1) × IsTaken x.0 p.table q.table p.fields q.fields p.total (Ok q.total)
+Takes p x (Err fault) = IsTaken x.0 p.table p.table p.fields p.fields p.total (Err fault)
 
--- So many representations, and then the end, or a fault in the last of them. It comes to the fields and the table
--- after them, where the fields before count so much: with these, fields count no more than 16,384.
-abbrev pub IsBlock : ℕ → Table → ℕ → List ℕ → Result (List Field × Table) HpackFault → Type 0
-IsBlock zero t total bytes r = (bytes ≡ []) × (r ≡ Ok ([], t))
-IsBlock (suc k) t total bytes r =
-    (bytes ≢ [])
-    × (((fault : HpackFault) × IsRepresentation t total bytes (Err fault) × (r ≡ Err fault))
-    ⊎ ((x : Representation × List ℕ) × IsRepresentation t total bytes (Ok x) × Goes (IsBlock k) x.0 t total x.1 r))
+-- one step: the representation at the front is read and does what it says, or there is the first fault
+abbrev pub IsStep : Progress → Result Progress HpackFault → Type 0
+IsStep p r = Then (IsRepresentation p.table p.total p.left) (Takes p) r
+
+-- So many steps and then the end, or a fault in the last of them. It comes to the fields and the table after them.
+abbrev pub IsBlock : ℕ → Progress → Result (List Field × Table) HpackFault → Type 0
+IsBlock zero p r = (p.left ≡ []) × (r ≡ Ok (p.fields, p.table))
+IsBlock (suc k) p r = (p.left ≢ []) × Then (IsStep p) (IsBlock k) r
 
 -- the block of a table comes to this
 abbrev pub Reads : Table → List ℕ → Result (List Field × Table) HpackFault → Type 0
-Reads t bytes r = (count : ℕ) × IsBlock count t 0 bytes r
+Reads t bytes r = (count : ℕ) × IsBlock count (begun t bytes) r

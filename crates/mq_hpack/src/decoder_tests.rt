@@ -151,6 +151,11 @@ ff8080808010 is fault Integer
 00018118 is fault Text
 00808100 is fault Text
 8220 is fault Update
+823fe11f is fault Update
+823fe21f is fault Update
+823fe0ffffff0f is fault Update
+823fe1ffffff0f is fault Update
+823f8080808080 is fault Update
 20823f is fault Update
 3fe21f is fault Update
 3fe0ffffff0f is fault Update
@@ -296,6 +301,31 @@ fn a_decoder_tells_the_size_of_its_table(rt: HostRuntime) -> Result<(), Fail> {
         let seen = format!(in rt.alloc(); "{}", decoder.held())?;
         assert!(rt; read, "{row}");
         assert_eq!(rt; seen.as_str(), want, "{row}");
+    }
+    Ok(())
+}
+
+#[test]
+fn a_fault_says_what_it_is(rt: HostRuntime) -> Result<(), Fail> {
+    let rows = [
+        (HpackFault::Index, "an index has no field in the table"),
+        (
+            HpackFault::Integer,
+            "an integer is too large, or is not whole",
+        ),
+        (
+            HpackFault::Text,
+            "a string is not whole, or has a fault of its Huffman code",
+        ),
+        (
+            HpackFault::Update,
+            "a size update stands after a field, or is above 4096",
+        ),
+        (HpackFault::TooLarge, "the fields count more than 16384"),
+        (HpackFault::NoMemory, "memory ran out"),
+    ];
+    for (fault, text) in rows {
+        assert_eq!(rt; format!(in rt.alloc(); "{fault}")?.as_str(), text);
     }
     Ok(())
 }

@@ -1,15 +1,19 @@
 //! Why a text was not decoded or encoded.
 
 use std::alloc::{AllocError, AllocFailed};
+use thiserror::Error;
 
 /// Why a text was not decoded or encoded.
-#[derive(Clone, Copy, Debug, PartialEq, Eq)]
+#[derive(Clone, Copy, Debug, PartialEq, Eq, Error)]
 pub enum HuffFault {
     /// What follows the last symbol has eight or more bits, or a zero bit.
+    #[error("the padding is longer than seven bits, or has a zero bit")]
     Padding,
     /// The code of EOS stands in the text.
+    #[error("the code of EOS stands in the text")]
     Eos,
     /// Memory ran out.
+    #[error("memory ran out")]
     NoMemory,
 }
 

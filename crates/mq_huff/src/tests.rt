@@ -2,6 +2,7 @@
 //! hole takes.
 use crate::{HuffFault, decode, encode, encoded_len};
 use std::alloc::Global;
+use std::test::Fail;
 
 /// The strings in the examples of RFC 7541, appendices C.4 and C.6.
 #[rattlefmt::skip]
@@ -103,4 +104,20 @@ fn every_byte_and_every_offset_come_back(rt: HostRuntime) {
             }
         }
     }
+}
+
+#[test]
+fn a_fault_says_what_it_is(rt: HostRuntime) -> Result<(), Fail> {
+    let rows = [
+        (
+            HuffFault::Padding,
+            "the padding is longer than seven bits, or has a zero bit",
+        ),
+        (HuffFault::Eos, "the code of EOS stands in the text"),
+        (HuffFault::NoMemory, "memory ran out"),
+    ];
+    for (fault, text) in rows {
+        assert_eq!(rt; format!(in rt.alloc(); "{fault}")?.as_str(), text);
+    }
+    Ok(())
 }

@@ -19,7 +19,7 @@ use Rattle.mq_ipcaps.specs.Reading.{◌>>=◌, byte_at, integer_at, version_at, 
 use Rattle.mq_ipcaps.specs.Writing.{addr_text, block_text, asked_text, given_text, range_text, request_text, assign_text, routes_text}
 use Rattle.mq_ipcaps.specs.Lists.{IsRequest, IsAssignment, AreRoutes}
 use Rattle.mq_ipcaps.specs.Laws.{FitsEntry, FitsRange, EntryAt, AreBytes, IsReadRequest, IsReadAssign, AreReadRoutes}
-use Rattle.mq_ipcaps.proofs.Bounds.{int_below}
+use Rattle.mq_wire.proofs.Integers.{int_front}
 use Rattle.mq_ipcaps.proofs.Fields.{bind_ok, guard_ok, passed_ok, ok_is, byte_takes, version_takes, version_again, addr_takes, addr_again, block_takes, block_again, integer_takes, integer_again}
 use Rattle.mq_ipcaps.proofs.Items.{Chain, Took, Takes, Again, items_take, items_again, chain_all, stand_text}
 use Rattle.mq_ipcaps.proofs.Order.{InOrder, range_is, pairs, chain_from}
@@ -45,7 +45,7 @@ entry_takes bytes id block fits e f =
     let b = block_takes id.1 block (subst IsBytes (sym i.2) (IsBytes-drop i.0 bytes fits)) f in
     record {
       stands = (i.0, i.1, sym i.2 ∙ b.parts);
-      fits = record { small = int_below bytes (id.0, i.0) i.1; prefix = b.prefix; addr = b.fits };
+      fits = record { small = (int_front bytes (id.0, i.0) i.1).below; prefix = b.prefix; addr = b.fits };
       rest_fits = b.rest;
     }
 

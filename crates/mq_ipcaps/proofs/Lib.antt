@@ -1,5 +1,4 @@
 mod Back
-mod Bounds
 mod Fields
 mod Front
 mod Items

@@ -283,3 +283,33 @@ fn large_ids_are_refused(rt: HostRuntime) -> Result<(), Fail> {
     }
     Ok(())
 }
+
+#[test]
+fn a_fault_says_what_it_is(rt: HostRuntime) -> Result<(), Fail> {
+    let rows = [
+        (
+            CapsFault::Truncated,
+            "the value ends inside an entry or a range",
+        ),
+        (CapsFault::Version, "an IP version is neither 4 nor 6"),
+        (
+            CapsFault::Bits,
+            "a prefix length is above the bits of its address, or a bit past it is set",
+        ),
+        (CapsFault::Empty, "a request has no entry"),
+        (CapsFault::ZeroId, "an entry of a request has Request ID 0"),
+        (
+            CapsFault::Order,
+            "a range is reversed, or is not behind the one before",
+        ),
+        (
+            CapsFault::TooMany,
+            "there are more entries or ranges than are taken",
+        ),
+        (CapsFault::NoMemory, "memory ran out"),
+    ];
+    for (fault, text) in rows {
+        assert_eq!(rt; format!(in rt.alloc(); "{fault}")?.as_str(), text);
+    }
+    Ok(())
+}

@@ -1,5 +1,5 @@
 //! The integers of RFC 9000, appendix A.1, and the answers around them.
-use crate::{Bytes, Seq, Varint, WireFault, read_varint, write_varint};
+use crate::{Bytes, NoMemory, Seq, Varint, WireFault, read_varint, write_varint};
 use std::test::Fail;
 
 /// Spellings, and what is read at their front.
@@ -104,5 +104,12 @@ fn lists_give_back_what_they_hold(rt: HostRuntime) -> Result<(), Fail> {
     let numbers = Seq::from_vec(Vec::from_slice(rt.alloc(), &[7u32, 9])?);
     assert_eq!(rt; numbers.as_slice(), [7, 9].as_slice());
     assert_eq!(rt; numbers.into_vec().as_slice(), [7, 9].as_slice());
+    Ok(())
+}
+
+#[test]
+fn errors_have_texts(rt: HostRuntime) -> Result<(), Fail> {
+    let text = format!(in rt.alloc(); "{}; {}", NoMemory, WireFault::TooLarge)?;
+    assert_eq!(rt; text.as_str(), "memory ran out; the number is 2^62 or more");
     Ok(())
 }
