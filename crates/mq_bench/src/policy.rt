@@ -3,8 +3,8 @@
 use mq_addr::{Addr, Prefix};
 use mq_policy::{Decision, Policy, Rule};
 use mq_talk::Goal;
-use mq_target::{Host, Target};
-use mq_wire::{Bytes, NoMemory};
+use mq_target::{Host, Name, Target};
+use mq_wire::NoMemory;
 use std::alloc::Global;
 
 /// 255 rules for a network each, and one for every address.
@@ -31,10 +31,12 @@ fn rules(alloc: Global) -> Result<Policy, NoMemory> {
 }
 
 /// The name of this number.
-fn name(alloc: Global, number: u32) -> Result<Bytes, NoMemory> {
+fn name(alloc: Global, number: u32) -> Result<Name, NoMemory> {
     let text = format!(in alloc; "host-{number}.example")?;
-    let bytes = Vec::from_slice(alloc, text.as_bytes())?;
-    Ok(Bytes::from_vec(bytes))
+    match Name::of(alloc, text.as_bytes())? {
+        Some(name) => Ok(name),
+        None => Err(NoMemory),
+    }
 }
 
 /// Gives 64 names their addresses, which lie in no network of a rule, and asks for a port of each.
@@ -42,7 +44,7 @@ fn targets(alloc: Global, policy: &mut Policy) -> Result<Vec<Target>, NoMemory> 
     let mut targets = Vec::new(alloc);
     for number in 0..64u32 {
         let name = name(alloc, number)?;
-        policy.add_name(alloc, name.as_slice(), Addr::V4(0xc000_0200 + number))?;
+        policy.add_name(alloc, &name, Addr::V4(0xc000_0200 + number))?;
         targets.push(Target::Udp {
             host: Host::Name(name),
             port: 443,

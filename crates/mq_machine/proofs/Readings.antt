@@ -16,7 +16,6 @@ use Rattle.mq_talk.specs.declared.goal.Goal.{Goal}
 use Rattle.mq_target.specs.declared.target.Matched.{Matched}
 use Rattle.mq_target.specs.declared.target.Matched.TheVariants.{No, Bad, Yes}
 use Rattle.mq_target.specs.Laws.{HasOneReading}
-use Rattle.mq_target.specs.Told.{IsTold}
 use Rattle.mq_machine.specs.declared.act.StreamAct.{StreamAct}
 use Rattle.mq_machine.specs.declared.act.Due.{Due}
 use Rattle.mq_machine.specs.declared.setup.Setup.{Setup}
@@ -24,7 +23,6 @@ use Rattle.mq_machine.specs.Http2 as request
 use Rattle.mq_machine.specs.Settle.{settle}
 use Rattle.mq_machine.specs.State.{Conn, Stream, Tunnel, Front, Head, OverHttp1, OverHttp2, kind_of}
 use Rattle.mq_machine.specs.Reading.{Meaning, Leads, Refused, decided, MatchedMeans, template_of, PathMeans, StreamEvent, Request, Malformed, Content, Reset, ConnectionError, EndsWith, BytesAsk, has_values, payload_count, acts_of, then_acts, on_stream, mark_of, stream_of, ContentAsks, EventAsks, EventsAsk, content_of, StepBrings, HeadBrings, KindMeans, EventBrings, EventsBring, FramesBring, Opening, Part, Whole, Other, opening_of, OtherBrings, OpeningBrings, Brings, TookNext}
-use Rattle.mq_machine.specs.Laws.{IsToldSetup}
 
 -- what is known of the readers
 pub record Known : Type 0 where
@@ -89,80 +87,76 @@ one_matched known setup No a b x y = x ∙ sym y
 one_matched known setup Bad a b x y = x ∙ sym y
 one_matched known setup (Yes target) a b x y = x.2 ∙ ap decided (known.decision setup.policy target x.0 y.0 x.1 y.1) ∙ sym y.2
 
-told_kind : (setup : Setup) → IsToldSetup setup → (kind : Kind) → IsTold (template_of setup kind)
-told_kind setup told kind.Udp = told.udp
-told_kind setup told kind.Ip = told.ip
-
-one_meaning : Known → (setup : Setup) → IsToldSetup setup → (kind : Kind) (path : List ℕ) (a b : Meaning) → PathMeans setup kind path a → PathMeans setup kind path b → a ≡ b
-one_meaning known setup told kind path a b x y =
+one_meaning : Known → (setup : Setup) → (kind : Kind) (path : List ℕ) (a b : Meaning) → PathMeans setup kind path a → PathMeans setup kind path b → a ≡ b
+one_meaning known setup kind path a b x y =
     let P : Matched → Type 0 = λ m. MatchedMeans setup m b in
-    let same = known.reading (template_of setup kind) path x.0 y.0 (told_kind setup told kind) x.1 y.1 in
+    let same = known.reading (template_of setup kind) path x.0 y.0 x.1 y.1 in
     one_matched known setup x.0 a b x.2 (subst P (sym same) y.2)
 
-one_head : Known → (setup : Setup) → IsToldSetup setup → (before bytes : List ℕ) (step : HeadStep) (e f : List StreamEvent) (a b : Front)
+one_head : Known → (setup : Setup) → (before bytes : List ℕ) (step : HeadStep) (e f : List StreamEvent) (a b : Front)
     → StepBrings setup before bytes step e a → StepBrings setup before bytes step f b → (e ≡ f) × (a ≡ b)
-one_head known setup told before bytes More e f a b x y = (x.0 ∙ sym y.0, x.1 ∙ sym y.1)
-one_head known setup told before bytes (Refuse status) e f a b x y = (x.0 ∙ sym y.0, x.1 ∙ sym y.1)
-one_head known setup told before bytes (Upgrade kind path used) e f a b x y =
-    (x.2 ∙ ap (λ m. Request 0 m false ∷ content_of (drop used bytes)) (one_meaning known setup told kind path x.0 y.0 x.1 y.1) ∙ sym y.2, x.3 ∙ sym y.3)
+one_head known setup before bytes More e f a b x y = (x.0 ∙ sym y.0, x.1 ∙ sym y.1)
+one_head known setup before bytes (Refuse status) e f a b x y = (x.0 ∙ sym y.0, x.1 ∙ sym y.1)
+one_head known setup before bytes (Upgrade kind path used) e f a b x y =
+    (x.2 ∙ ap (λ m. Request 0 m false ∷ content_of (drop used bytes)) (one_meaning known setup kind path x.0 y.0 x.1 y.1) ∙ sym y.2, x.3 ∙ sym y.3)
 
-one_of_kind : Known → (setup : Setup) → IsToldSetup setup → (kind : Option Kind) (path : List ℕ) (a b : Meaning) → KindMeans setup kind path a → KindMeans setup kind path b → a ≡ b
-one_of_kind known setup told None path a b x y = x ∙ sym y
-one_of_kind known setup told (Some kind) path a b x y = one_meaning known setup told kind path a b x y
+one_of_kind : Known → (setup : Setup) → (kind : Option Kind) (path : List ℕ) (a b : Meaning) → KindMeans setup kind path a → KindMeans setup kind path b → a ≡ b
+one_of_kind known setup None path a b x y = x ∙ sym y
+one_of_kind known setup (Some kind) path a b x y = one_meaning known setup kind path a b x y
 
-one_told : Known → (setup : Setup) → IsToldSetup setup → (f : http2.StreamEvent) (a b : StreamEvent) → EventBrings setup f a → EventBrings setup f b → a ≡ b
-one_told known setup told (frame_event.Request id fields ends) a b x y =
-    x.2 ∙ ap (λ m. Request id m ends) (one_of_kind known setup told (request.kind_of fields) (request.path_of fields) x.0 y.0 x.1 y.1) ∙ sym y.2
-one_told known setup told (frame_event.Malformed id code) a b x y = x ∙ sym y
-one_told known setup told (frame_event.Content id bytes size ends) a b x y = x ∙ sym y
-one_told known setup told (frame_event.Reset id code) a b x y = x ∙ sym y
-one_told known setup told (frame_event.ConnectionError code) a b x y = x ∙ sym y
+one_told : Known → (setup : Setup) → (f : http2.StreamEvent) (a b : StreamEvent) → EventBrings setup f a → EventBrings setup f b → a ≡ b
+one_told known setup (frame_event.Request id fields ends) a b x y =
+    x.2 ∙ ap (λ m. Request id m ends) (one_of_kind known setup (request.kind_of fields) (request.path_of fields) x.0 y.0 x.1 y.1) ∙ sym y.2
+one_told known setup (frame_event.Malformed id code) a b x y = x ∙ sym y
+one_told known setup (frame_event.Content id bytes size ends) a b x y = x ∙ sym y
+one_told known setup (frame_event.Reset id code) a b x y = x ∙ sym y
+one_told known setup (frame_event.ConnectionError code) a b x y = x ∙ sym y
 
-all_told : Known → (setup : Setup) → IsToldSetup setup → (fs : List http2.StreamEvent) (a b : List StreamEvent) → EventsBring setup fs a → EventsBring setup fs b → a ≡ b
-all_told known setup told [] a b x y = x ∙ sym y
-all_told known setup told (f ∷ fs) a b x y =
-    x.4 ∙ ap (λ e. e ∷ x.1) (one_told known setup told f x.0 y.0 x.2 y.2) ∙ ap (λ (es : List StreamEvent). y.0 ∷ es) (all_told known setup told fs x.1 y.1 x.3 y.3) ∙ sym y.4
+all_told : Known → (setup : Setup) → (fs : List http2.StreamEvent) (a b : List StreamEvent) → EventsBring setup fs a → EventsBring setup fs b → a ≡ b
+all_told known setup [] a b x y = x ∙ sym y
+all_told known setup (f ∷ fs) a b x y =
+    x.4 ∙ ap (λ e. e ∷ x.1) (one_told known setup f x.0 y.0 x.2 y.2) ∙ ap (λ (es : List StreamEvent). y.0 ∷ es) (all_told known setup fs x.1 y.1 x.3 y.3) ∙ sym y.4
 
-one_frames : Known → (setup : Setup) → IsToldSetup setup → (old : h2.State) (bytes : List ℕ) (e f : List StreamEvent) (s t : List ℕ) (a b : Front)
+one_frames : Known → (setup : Setup) → (old : h2.State) (bytes : List ℕ) (e f : List StreamEvent) (s t : List ℕ) (a b : Front)
     → FramesBring setup old bytes e s a → FramesBring setup old bytes f t b → (e ≡ f) × (s ≡ t) × (a ≡ b)
-one_frames known setup told old bytes e f s t a b x y =
+one_frames known setup old bytes e f s t a b x y =
     let read = known.frames old bytes x.told y.told x.next y.next x.reads y.reads in
     let P : List http2.StreamEvent → Type 0 = λ fs. EventsBring setup fs f in (
-      all_told known setup told x.told e f x.brings (subst P (sym read.0) y.brings),
+      all_told known setup x.told e f x.brings (subst P (sym read.0) y.brings),
       x.text_is ∙ ap (λ (h : h2.State). h.out) read.1 ∙ sym y.text_is,
       x.new_is ∙ ap (λ (h : h2.State). OverHttp2 (record h { out = [] })) read.1 ∙ sym y.new_is,
     )
 
 -- a head is answered in one way
-one_answered : Known → (setup : Setup) → IsToldSetup setup → (before bytes : List ℕ) (e f : List StreamEvent) (a b : Front)
+one_answered : Known → (setup : Setup) → (before bytes : List ℕ) (e f : List StreamEvent) (a b : Front)
     → HeadBrings setup before bytes e a → HeadBrings setup before bytes f b → (e ≡ f) × (a ≡ b)
-one_answered known setup told before bytes e f a b x y =
+one_answered known setup before bytes e f a b x y =
     let P : HeadStep → Type 0 = λ step. StepBrings setup before bytes step f b in
-    one_head known setup told before bytes x.0 e f a b x.2 (subst P (sym (known.answer before bytes x.0 y.0 x.1 y.1)) y.2)
+    one_head known setup before bytes x.0 e f a b x.2 (subst P (sym (known.answer before bytes x.0 y.0 x.1 y.1)) y.2)
 
-one_other : Known → (setup : Setup) → IsToldSetup setup → (earlier : Opening) (before bytes : List ℕ) (e f : List StreamEvent) (a b : Front)
+one_other : Known → (setup : Setup) → (earlier : Opening) (before bytes : List ℕ) (e f : List StreamEvent) (a b : Front)
     → OtherBrings setup earlier before bytes e a → OtherBrings setup earlier before bytes f b → (e ≡ f) × (a ≡ b)
-one_other known setup told Part before bytes e f a b x y = one_answered known setup told [] (before ++ bytes) e f a b x y
-one_other known setup told (Whole frames) before bytes e f a b x y = one_answered known setup told before bytes e f a b x y
-one_other known setup told Other before bytes e f a b x y = one_answered known setup told before bytes e f a b x y
+one_other known setup Part before bytes e f a b x y = one_answered known setup [] (before ++ bytes) e f a b x y
+one_other known setup (Whole frames) before bytes e f a b x y = one_answered known setup before bytes e f a b x y
+one_other known setup Other before bytes e f a b x y = one_answered known setup before bytes e f a b x y
 
-one_opening : Known → (setup : Setup) → IsToldSetup setup → (opening : Opening) (before bytes : List ℕ) (e f : List StreamEvent) (s t : List ℕ) (a b : Front)
+one_opening : Known → (setup : Setup) → (opening : Opening) (before bytes : List ℕ) (e f : List StreamEvent) (s t : List ℕ) (a b : Front)
     → OpeningBrings setup opening before bytes e s a → OpeningBrings setup opening before bytes f t b → (e ≡ f) × (s ≡ t) × (a ≡ b)
-one_opening known setup told Part before bytes e f s t a b x y = (x.0 ∙ sym y.0, x.1 ∙ sym y.1, x.2 ∙ sym y.2)
-one_opening known setup told (Whole frames) before bytes e f s t a b x y = one_frames known setup told h2.new_state frames e f s t a b x y
-one_opening known setup told Other before bytes e f s t a b x y =
-    let same = one_other known setup told (opening_of before) before bytes e f a b x.0 y.0 in
+one_opening known setup Part before bytes e f s t a b x y = (x.0 ∙ sym y.0, x.1 ∙ sym y.1, x.2 ∙ sym y.2)
+one_opening known setup (Whole frames) before bytes e f s t a b x y = one_frames known setup h2.new_state frames e f s t a b x y
+one_opening known setup Other before bytes e f s t a b x y =
+    let same = one_other known setup (opening_of before) before bytes e f a b x.0 y.0 in
     (same.0, x.1 ∙ sym y.1, same.1)
 
-one_read : Known → (setup : Setup) → IsToldSetup setup → (old : Front) (bytes : List ℕ) (e f : List StreamEvent) (s t : List ℕ) (a b : Front)
+one_read : Known → (setup : Setup) → (old : Front) (bytes : List ℕ) (e f : List StreamEvent) (s t : List ℕ) (a b : Front)
     → Brings setup old bytes e s a → Brings setup old bytes f t b → (e ≡ f) × (s ≡ t) × (a ≡ b)
-one_read known setup told OverHttp1 bytes e f s t a b x y = (x.0 ∙ sym y.0, x.1 ∙ sym y.1, x.2 ∙ sym y.2)
-one_read known setup told (OverHttp2 h) bytes e f s t a b x y = one_frames known setup told h bytes e f s t a b x y
-one_read known setup told (Head before) bytes e f s t a b x y = one_opening known setup told (opening_of (before ++ bytes)) before bytes e f s t a b x y
+one_read known setup OverHttp1 bytes e f s t a b x y = (x.0 ∙ sym y.0, x.1 ∙ sym y.1, x.2 ∙ sym y.2)
+one_read known setup (OverHttp2 h) bytes e f s t a b x y = one_frames known setup h bytes e f s t a b x y
+one_read known setup (Head before) bytes e f s t a b x y = one_opening known setup (opening_of (before ++ bytes)) before bytes e f s t a b x y
 
-pub one_took : Known → (setup : Setup) → IsToldSetup setup → (old a b : Conn) (bytes : List ℕ) → TookNext setup old bytes a → TookNext setup old bytes b → a ≡ b
-one_took known setup told old a b bytes x y =
-    let read = one_read known setup told old.front bytes x.events y.events x.text y.text x.front y.front x.brings y.brings in
+pub one_took : Known → (setup : Setup) → (old a b : Conn) (bytes : List ℕ) → TookNext setup old bytes a → TookNext setup old bytes b → a ≡ b
+one_took known setup old a b bytes x y =
+    let read = one_read known setup old.front bytes x.events y.events x.text y.text x.front y.front x.brings y.brings in
     let P : List StreamEvent → Type 0 = λ es. EventsAsk setup.mtu old.tunnels old.streams es y.acts y.streams in
     let asked = one_events known setup.mtu old.tunnels x.events old.streams x.acts y.acts x.streams y.streams x.asks (subst P (sym read.0) y.asks) in
     let make : Front → List Stream → List Due → List ℕ → Conn = λ front streams acts text. settle (record old { front = front; streams = streams; due = acts; out = old.out ++ text }) in

@@ -26,7 +26,7 @@ use Rattle.mq_machine.specs.Reading.{EndsIn, EndsInFrames, EndsBy, stream_of}
 use Rattle.mq_outside.specs.Nets.{Arrival}
 use Rattle.mq_outside.specs.Links.{behind}
 use Rattle.mq_machine.specs.Turn.{Try, Act, Frame, Write, Read, Receive, try_of, acted, ActNext, OwnNext, HeldDone, TakesNext, WriteNext, ReadNext, PortNext, ReceiveNext, TryNext, Seat, Offers, Inbox, Of, SeatNext, WorkerTurn, PumpTry, PushHeld, SendHeld, SendNext, Receives, PumpNext, IsReceived, with_arrivals, IsMet, net_judged, WorkerActs, PumpActs, Actor, WorkerOf, ThePump, Turn, with_held, with_conn, popped, most_read, write_failed, read_failed, receive_failed}
-use Rattle.mq_machine.specs.Laws.{ReadsOnce, ReadsOnceIn, SaysOne}
+use Rattle.mq_machine.specs.Laws.{ReadsOnce, SaysOne}
 
 -- what is inside
 pub some_same : {A : Type 0} {x y : A} → Some x ≡ Some y → x ≡ y
@@ -137,20 +137,20 @@ one_there (Head bytes) streams i j x y = one_inside (stream_of streams 0) i j x 
 one_there OverHttp1 streams i j x y = one_inside (stream_of streams 0) i j x y
 one_there (OverHttp2 h) streams i j x y = one_in_frames h i j x y
 
-one_takes : (setup : Setup) → ReadsOnce setup → (old : Held) (pieces : List (List ℕ)) (n m : Note) (a b : Option Held)
+one_takes : (setup : Setup) → ReadsOnce → (old : Held) (pieces : List (List ℕ)) (n m : Note) (a b : Option Held)
     → TakesNext setup old pieces n a → TakesNext setup old pieces m b → (n ≡ m) × (a ≡ b)
 one_takes setup once old [] n m a b x y =
     let P : Bool → Type 0 = λ i. Some (with_conn old (finished old.conn i)) ≡ Some (m, b) in
     let inside = one_there old.conn.front old.conn.streams x.inside y.inside x.ends y.ends in
     pair_same (Some (with_conn old (finished old.conn x.inside))) n m a b x.is (subst P (sym inside) y.is)
 one_takes setup once old (first ∷ others) n m a b x y =
-    let conn = once old.conn x.conn y.conn (take most_read first) x.took y.took in (
+    let conn = once setup old.conn x.conn y.conn (take most_read first) x.took y.took in (
       x.note_is ∙ sym y.note_is,
       x.new_is ∙ ap (λ (c : Conn). Some (record old { conn = c; link = record old.link { pieces = behind (drop most_read first) others } })) conn ∙ sym y.new_is,
     )
 
 module _ (sh : Shared) (one : SaysOne sh.config sh.book) (k l : Answer) (agree : Agree sh k l) where
-  one_try : (setup : Setup) → ReadsOnce setup → (old : Held) (try : Try) (n m : Note) (a b : Option Held) (s t : Shared)
+  one_try : (setup : Setup) → ReadsOnce → (old : Held) (try : Try) (n m : Note) (a b : Option Held) (s t : Shared)
       → TryNext setup old sh try k n a s → TryNext setup old sh try l m b t → Same n m a b s t k l
   one_try setup once old Act n m a b s t x y = one_act sh one k l agree old n m a b s t x y
   one_try setup once old Frame n m a b s t x y = one_own sh one k l agree _ n m a b s t x y
@@ -176,7 +176,7 @@ module _ (sh : Shared) (one : SaysOne sh.config sh.book) (k l : Answer) (agree :
 -- ---- a worker
 
 module _ (sh : Shared) (one : SaysOne sh.config sh.book) (k l : Answer) (agree : Agree sh k l) where
-  one_seat : (old : Worker) → ReadsOnce old.setup → (seat : Seat) (n m : Note) (a b : Worker) (s t : Shared)
+  one_seat : (old : Worker) → ReadsOnce → (seat : Seat) (n m : Note) (a b : Worker) (s t : Shared)
       → SeatNext old sh seat k n a s → SeatNext old sh seat l m b t → Same n m a b s t k l
   one_seat old once Offers n m a b s t x y =
       let same = pair_same _ n m a b x.1 y.1 in
@@ -200,7 +200,7 @@ module _ (sh : Shared) (one : SaysOne sh.config sh.book) (k l : Answer) (agree :
       let same = one_try sh one k l agree old.setup once x.held x.try n m x.became y.became s t x.next (subst R tries (subst Q held y.next)) in
       (same.0, x.new_is ∙ ap (with_held old conn) same.1 ∙ sym y.new_is, same.2, same.3)
 
-  pub one_worker : (old : Worker) → ReadsOnce old.setup → (box : List Parcel) (n m : Note) (a b : Worker) (s t : Shared)
+  pub one_worker : (old : Worker) → ReadsOnce → (box : List Parcel) (n m : Note) (a b : Worker) (s t : Shared)
       → WorkerTurn old box sh k n a s → WorkerTurn old box sh l m b t → Same n m a b s t k l
   one_worker old once box n m a b s t x y =
       let P : Seat → Type 0 = λ seat. SeatNext old sh seat l m b t in
@@ -208,13 +208,13 @@ module _ (sh : Shared) (one : SaysOne sh.config sh.book) (k l : Answer) (agree :
 
 -- ---- all actors
 
-one_acts : (old : State) → ReadsOnceIn old → SaysOne old.shared.config old.shared.book → (number : ℕ) (n m : Note) (a b : State) → WorkerActs old number n a → WorkerActs old number m b → (n ≡ m) × (a ≡ b)
+one_acts : (old : State) → ReadsOnce → SaysOne old.shared.config old.shared.book → (number : ℕ) (n m : Note) (a b : State) → WorkerActs old number n a → WorkerActs old number m b → (n ≡ m) × (a ≡ b)
 one_acts old once one number n m a b x y =
     let sh = old.shared in
     let worker = some_same (sym y.at ∙ x.at) in
     let P : Worker → Type 0 = λ w. WorkerTurn w (box_at sh.boxes w.id) sh y.answer m y.next y.shared in
     let agree = orders_agree sh one sh.orders x.after.orders y.after.orders x.answer y.answer x.ordered y.ordered in
-    let same = one_worker sh one x.answer y.answer agree x.worker (once number x.worker x.at) (box_at sh.boxes x.worker.id) n m x.next y.next x.shared y.shared x.turn (subst P worker y.turn) in
+    let same = one_worker sh one x.answer y.answer agree x.worker once (box_at sh.boxes x.worker.id) n m x.next y.next x.shared y.shared x.turn (subst P worker y.turn) in
     let Q : Answer → Type 0 = λ answer. Ordered sh.orders answer y.after.orders in
     let orders = same_orders sh.orders x.after.orders y.after.orders x.answer x.ordered (subst Q (sym same.3) y.ordered) in
     let after = x.after_is ∙ ap (λ (s : Shared). record s { orders = x.after.orders }) same.2 ∙ ap (λ (o : Orders). record y.shared { orders = o }) orders ∙ sym y.after_is in (
@@ -253,6 +253,6 @@ one_pump old one n m a b x y =
       x.new_is ∙ ap (λ (d : Note × Pump × Shared). record old { pump = d.1; shared = d.2 }) same ∙ sym y.new_is,
     )
 
-pub one_turn : (old : State) → ReadsOnceIn old → SaysOne old.shared.config old.shared.book → (actor : Actor) (n m : Note) (a b : State) → Turn old actor n a → Turn old actor m b → (n ≡ m) × (a ≡ b)
+pub one_turn : (old : State) → ReadsOnce → SaysOne old.shared.config old.shared.book → (actor : Actor) (n m : Note) (a b : State) → Turn old actor n a → Turn old actor m b → (n ≡ m) × (a ≡ b)
 one_turn old once one (WorkerOf number) n m a b x y = one_acts old once one number n m a b x y
 one_turn old once one ThePump n m a b x y = one_pump old one n m a b x y

@@ -19,7 +19,6 @@ use Rattle.mq_machine.specs.State.{Conn, Front, Head, OverHttp1, OverHttp2, Held
 use Rattle.mq_machine.specs.Want.{Answer}
 use Rattle.mq_machine.specs.Done.{done}
 use Rattle.mq_machine.specs.Steps.{can_read}
-use Rattle.mq_target.specs.Told.{IsTold}
 use Rattle.mq_machine.specs.Reading.{TookNext}
 use Rattle.mq_machine.specs.Silent.{Reached, ConnStarves, SilentTurn}
 use Rattle.mq_machine.specs.Acting.{Sight, TellsAll, HasTold, StepGives, PlainGives}
@@ -27,13 +26,9 @@ use Rattle.mq_machine.specs.Turn.{WorkerTurn, Actor, Turn, Quiet}
 use Rattle.mq_talk.specs.declared.book.Config.{Config}
 use Rattle.mq_talk.specs.declared.book.Entry.{Entry}
 
--- by this setup a read brings one thing: a law of the readers of heads and capsules
-abbrev pub ReadsOnce : Setup → Type 0
-ReadsOnce setup = (old a b : Conn) (bytes : List ℕ) → TookNext setup old bytes a → TookNext setup old bytes b → a ≡ b
-
--- by the setup of each worker
-abbrev pub ReadsOnceIn : State → Type 0
-ReadsOnceIn s = (number : ℕ) (w : Worker) → slice_get s.workers number ≡ Some w → ReadsOnce w.setup
+-- a read brings one thing
+abbrev pub ReadsOnce : Type 0
+ReadsOnce = (setup : Setup) (old a b : Conn) (bytes : List ℕ) → TookNext setup old bytes a → TookNext setup old bytes b → a ≡ b
 
 -- and it isn't so that it brings nothing
 abbrev pub ReadsAlways : Type 0
@@ -55,12 +50,12 @@ IsDoneOnce = (c a b : Conn) (answer : Answer) (n m : Note) → done c answer ≡
 
 -- a worker's turn, by one answer of the outside, is one note, and leads to one state
 abbrev pub HasOneWorkerTurn : Type 0
-HasOneWorkerTurn = (old : Worker) (box : List Parcel) (sh : Shared) (answer : Answer) (n m : Note) (a b : Worker) (s t : Shared) → ReadsOnce old.setup → SaysOne sh.config sh.book
+HasOneWorkerTurn = (old : Worker) (box : List Parcel) (sh : Shared) (answer : Answer) (n m : Note) (a b : Worker) (s t : Shared) → SaysOne sh.config sh.book
     → WorkerTurn old box sh answer n a s → WorkerTurn old box sh answer m b t → (n ≡ m) × (a ≡ b) × (s ≡ t)
 
 -- an actor's turn is one note, and leads to one state
 abbrev pub HasOneTurn : Type 0
-HasOneTurn = (old : State) (actor : Actor) (n m : Note) (a b : State) → ReadsOnceIn old → SaysOne old.shared.config old.shared.book → Turn old actor n a → Turn old actor m b → (n ≡ m) × (a ≡ b)
+HasOneTurn = (old : State) (actor : Actor) (n m : Note) (a b : State) → SaysOne old.shared.config old.shared.book → Turn old actor n a → Turn old actor m b → (n ≡ m) × (a ≡ b)
 
 -- an actor that has a turn isn't quiet
 abbrev pub IsTurnOrQuiet : Type 0
@@ -101,15 +96,6 @@ abbrev pub IsToldStep : Type 0
 IsToldStep = (orders : Orders) (old new : Sight) (boxes : List (List Parcel)) (s t : Worker) (result : Result (Option Note) NoMemory)
     → TellsAll old.outside s → HasTold new.outside t → old.seen.is_whole ≡ true → old.boxes ≡ Some boxes
     → StepGives orders old new s result t → PlainGives orders old new boxes s result t
-
--- the values of its templates can be told from their literals, as those of each template that a text is
-pub record IsToldSetup (setup : Setup) : Type 0 where
-  pub udp : IsTold setup.udp
-  pub ip : IsTold setup.ip
-
--- a read brings one thing, by such a setup
-abbrev pub BringsOnce : Type 0
-BringsOnce = (setup : Setup) → IsToldSetup setup → ReadsOnce setup
 
 -- a connection is refused memory once at most: then it is ending for want of it
 abbrev pub StarvesOnce : Type 0

@@ -1,7 +1,7 @@
 //! Laws of the machine's definitions, each the contract of a function without a body.
 ghost use Rattle.mq_machine.specs.Lawful.{StaysLawful};
 ghost use Rattle.mq_machine.specs.Placing.{StaysPlaced};
-ghost use Rattle.mq_machine.specs.Laws.{StarvesOnce, BringsOnce, IsToldStep, HasOneSilentTurn, IsSilentOrQuiet, HasOneTurn, HasOneWorkerTurn, IsDoneOnce, IsQuietOrTurn, IsTurnOrQuiet, SettlesNothing};
+ghost use Rattle.mq_machine.specs.Laws.{StarvesOnce, IsToldStep, HasOneSilentTurn, IsSilentOrQuiet, HasOneTurn, HasOneWorkerTurn, IsDoneOnce, IsQuietOrTurn, IsTurnOrQuiet, ReadsOnce, SettlesNothing};
 
 use mq_capsule::is_read_once;
 use mq_h2::{is_asked_once, one_read, what_is_told_is_held};
@@ -22,12 +22,16 @@ pub fn settles_nothing()
 /// A worker's turn, by one answer of the outside, is one.
 pub fn one_worker_turn()
     ensures { HasOneWorkerTurn }
-{}
+{
+    brings_once();
+}
 
 /// An actor's turn is one.
 pub fn one_turn()
     ensures { HasOneTurn }
-{}
+{
+    brings_once();
+}
 
 /// An actor that has a turn isn't quiet.
 pub fn turn_or_quiet()
@@ -56,7 +60,7 @@ pub fn told_step()
 
 /// A read brings one thing.
 pub fn brings_once()
-    ensures { BringsOnce }
+    ensures { ReadsOnce }
 {
     one_answer();
     one_read();

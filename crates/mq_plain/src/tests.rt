@@ -1,11 +1,12 @@
 //! A worker whose office refuses memory to one call, and one over the inboxes that threads share.
 
-ghost use Rattle.std.specs.Prelude.{◌≡◌, ◌+◌, [], IfOk, List, length};
+ghost use Rattle.std.specs.Prelude.{◌≡◌, ◌≢◌, ◌+◌, false, [], ◌∷◌, ◌++◌, All, IfOk, OnOk, List, length};
 ghost use Rattle.mq_talk.specs.Mails.{Boxes};
 ghost use Rattle.mq_talk.specs.Offices.{IsSound, Seen};
 ghost use Rattle.mq_machine.specs.State as machine;
 ghost use Rattle.mq_machine.specs.Acting.{Outside, Known};
 ghost use Rattle.mq_mem.specs.Offices.{seen_of};
+ghost use Rattle.mq_actor.specs.Ended.{numbers_in};
 ghost use Rattle.mq_actor.specs.Holds.{IsWorker};
 ghost use Rattle.mq_actor.specs.Steps.{sight};
 ghost use Rattle.mq_mail.specs.Posts.{new_key};
@@ -30,6 +31,41 @@ use std::test::Fail;
 const REQUEST: &[u8] =
     b"GET https://example.org/.well-known/masque/udp/192.0.2.6/443/ HTTP/1.1\r\nHost: example.org\r\nConnection: Upgrade\r\nUpgrade: connect-udp\r\nCapsule-Protocol: ?1\r\n\r\n";
 
+/// What the steps of a worker with two links give, seat by seat in its ring: its links, then each connection.
+const SERVED: [&str; 10] = [
+    "accepted", "took", "accepted", "ported", "took", "opened", "ported", "wrote", "opened",
+    "wrote",
+];
+
+/// The same where the first connection is refused memory at its open. Such a step has no note, and isn't the one behind which the
+/// ring goes on.
+const FIRST_STARVED: [&str; 10] = [
+    "accepted",
+    "took",
+    "accepted",
+    "ported",
+    "took",
+    "no memory",
+    "ended for want of memory",
+    "ported",
+    "opened",
+    "wrote",
+];
+
+/// The same where the second is.
+const SECOND_STARVED: [&str; 10] = [
+    "accepted",
+    "took",
+    "accepted",
+    "ported",
+    "took",
+    "opened",
+    "ported",
+    "wrote",
+    "no memory",
+    "ended for want of memory",
+];
+
 fn nothing<T: Drop>(alloc: Global) -> Seq<T>
     ensures { result ≡ [] }
 {
@@ -40,28 +76,35 @@ fn nothing<T: Drop>(alloc: Global) -> Seq<T>
 fn setup(alloc: Global) -> Result<Setup, NoMemory>
     ensures { IfOk result (λ s. s.pump ≡ 1) }
 {
-    let udp = Template::well_known(alloc, Kind::Udp)?;
-    let ip = Template::well_known(alloc, Kind::Ip)?;
     Ok(Setup {
-        udp,
-        ip,
+        udp: Template::well_known(alloc, Kind::Udp)?,
+        ip: Template::well_known(alloc, Kind::Ip)?,
         policy: Policy::new(alloc),
         mtu: 1500,
         pump: 1,
     })
 }
 
-/// The only worker, to which a link was offered on which the request arrived.
+/// A link is offered to the worker, as the next, and the request arrives on it.
+fn ask(alloc: Global, worker: &mut Plain, number: u32) -> Result<(), NoMemory>
+    requires { All (λ other. other ≢ number) (numbers_in worker.old.ring) }
+    ensures { OnOk result ((links : List machine.Told) (seen : Seen) (boxes : Boxes) (w : machine.Worker) → number ≡ length links → Serves links seen boxes 0 worker.old w
+        → (t : machine.Worker) × Serves (links ++ record { worker = 0; is_ended = false } ∷ []) seen boxes 0 worker.new t) }
+{
+    let request = Bytes::copy_of(alloc, REQUEST)?;
+    offer(alloc, worker, number)?;
+    piece(worker, number, request)?;
+    Ok(())
+}
+
+/// The only worker, to which two links were offered on which the request arrived.
 fn asked(alloc: Global) -> Result<Plain, NoMemory>
     ensures { IfOk result (λ worker. (seen : Seen) (boxes : Boxes) → seen.config.workers ≡ 1 → seen.entries ≡ [] → length boxes ≡ 2
         → (links : List machine.Told) × (w : machine.Worker) × Serves links seen boxes 0 worker w) }
 {
-    let ports = PlainPorts::new(alloc)?;
-    let setup = setup(alloc)?;
-    let mut worker = Plain::new(alloc, 0, setup, ports)?;
-    offer(alloc, &mut worker, 0)?;
-    let request = Bytes::from_vec(Vec::from_slice(alloc, REQUEST)?);
-    piece(&mut worker, 0, request)?;
+    let mut worker = Plain::new(alloc, 0, setup(alloc)?, PlainPorts::new(alloc)?)?;
+    ask(alloc, &mut worker, 0)?;
+    ask(alloc, &mut worker, 1)?;
     Ok(worker)
 }
 
@@ -127,13 +170,16 @@ fn steps<M: Mail>(
     Ok(gave)
 }
 
-/// What the steps of the only worker gave where the call of this number is refused memory, and the office then.
-fn played(alloc: Global, refused: u64) -> Result<(Vec<&'static str>, RefusingOffice), NoMemory> {
+/// What the steps of the only worker gave over an office that heard no call yet.
+fn played(alloc: Global, office: &mut RefusingOffice) -> Result<Vec<&'static str>, NoMemory>
+    requires config { office.old.office.book.config.workers ≡ 1 }
+    requires empty { office.old.office.book.history ≡ [] }
+    requires actor { office.old.office.actor ≡ 0 }
+    requires sound { IsSound (seen_of office.old.office) }
+{
     let mut worker = asked(alloc)?;
-    let mut office = office(alloc, refused)?;
     let mut mail = PlainMail::new(alloc, 2)?;
-    let gave = steps(alloc, &mut worker, &mut office, &mut mail)?;
-    Ok((gave, office))
+    steps(alloc, &mut worker, office, &mut mail)
 }
 
 /// Inboxes that threads share, the only worker's and the pump's, and the worker's key.
@@ -161,19 +207,17 @@ fn played_shared<R: Wait>(rt: &R, alloc: Global) -> Result<Vec<&'static str>, No
 // A connection whose open is refused memory ends, and leaves no entry behind.
 #[test]
 fn an_open_that_is_refused_memory_ends_its_connection(rt: HostRuntime) -> Result<(), Fail> {
-    let starved = [
-        "accepted",
-        "took",
-        "ported",
-        "no memory",
-        "ended for want of memory",
+    let rows = [
+        (0, FIRST_STARVED, 1),
+        (1, SECOND_STARVED, 1),
+        (2, SERVED, 2),
     ];
-    let served = ["accepted", "took", "ported", "opened", "wrote"];
-    for (refused, want, entries) in [(0, starved, 0), (1, served, 1), (2, served, 1)] {
-        let (gave, office) = played(rt.alloc(), refused)?;
+    for (refused, want, entries) in rows {
+        let mut office = office(rt.alloc(), refused)?;
+        let gave = played(rt.alloc(), &mut office)?;
         assert_eq!(rt; gave.as_slice(), want.as_slice(), "call {refused}");
         assert_eq!(rt; office.book().count(), entries);
-        assert_eq!(rt; office.made(), 1);
+        assert_eq!(rt; office.made(), 2);
     }
     Ok(())
 }
@@ -182,7 +226,6 @@ fn an_open_that_is_refused_memory_ends_its_connection(rt: HostRuntime) -> Result
 #[test]
 fn a_worker_serves_over_shared_inboxes(rt: HostRuntime) -> Result<(), Fail> {
     let gave = played_shared(&rt, rt.alloc())?;
-    let served = ["accepted", "took", "ported", "opened", "wrote"];
-    assert_eq!(rt; gave.as_slice(), served.as_slice());
+    assert_eq!(rt; gave.as_slice(), SERVED.as_slice());
     Ok(())
 }

@@ -36,7 +36,6 @@ use Rattle.mq_machine.specs.Shared.{Asked, Answers, Asks, written, at_port, port
 use Rattle.mq_machine.specs.Steps.{framed, finished, starved, received, port_received}
 use Rattle.mq_machine.specs.Turn.{Try, Act, Frame, Write, Read, Receive, HeldDone, with_conn, over_or, acted, ActNext, OwnNext, TakesNext, WriteNext, ReadNext, PortNext, ReceiveNext, TryNext, frame_done, write_done, received_from, write_failed, read_failed, receive_failed, write_count, most_read, Seat, Offers, Inbox, Of, accepted, replace, came_to, tunnel_in, popped, has_tunnel, SeatNext, source_of, PumpTry, PushHeld, SendHeld, SendNext, Receives, PumpNext, parcel_pushed, net_sent, net_popped, net_judged, IsMet, IsReceived, with_arrivals, last_of, Actor, WorkerOf, ThePump, Turn}
 use Rattle.mq_machine.specs.Silent.{Reached, Heard, SeatStarves, SilentTurn}
-use Rattle.mq_machine.specs.Laws.{IsToldSetup}
 use Rattle.mq_play.specs.Events.{at_held, at_worker, at_link, with_ports, with_held_ports, with_port, offered_to, happen}
 use Rattle.mq_play.proofs.Lists.{if_both, each_append, each_map, each_at, each_set, each_found}
 use Rattle.mq_play.proofs.Owned.{NamesOld, Good, apart_step}
@@ -46,7 +45,6 @@ abbrev pub HeldGiven : ℕ → Held → Type 0
 HeldGiven n h = HasGiven n h.conn
 
 pub record GivenWorker (n : ℕ) (w : Worker) : Type 0 where
-  pub setup : IsToldSetup w.setup
   pub conns : AllByRecursion (HeldGiven n) w.conns
 
 pub record Lawful (s : State) : Type 0 where
@@ -59,7 +57,7 @@ held_more n m (g ∷ hs) more h = (given_more n m g.conn.tunnels more h.0, held_
 
 workers_more : (n m : ℕ) (ws : List Worker) → n ≤ m → AllByRecursion (GivenWorker n) ws → AllByRecursion (GivenWorker m) ws
 workers_more n m [] more h = tt
-workers_more n m (w ∷ ws) more h = (record { setup = h.0.setup; conns = held_more n m w.conns more h.0.conns }, workers_more n m ws more h.1)
+workers_more n m (w ∷ ws) more h = (record { conns = held_more n m w.conns more h.0.conns }, workers_more n m ws more h.1)
 
 -- ---- what is shared
 
@@ -251,11 +249,11 @@ found_in n w (place.Tunnel tunnel actor) h =
 popped_so : (n : ℕ) (w : Worker) (parcel : Parcel) → GivenWorker n w → GivenWorker n (popped w parcel).1
 popped_so n w parcel h =
     elim (cases_of (tunnel_in w parcel.to)) [
-      | inl none ↦ rw none (record { setup = h.setup; conns = h.conns })
+      | inl none ↦ rw none (record { conns = h.conns })
       | inr (found, some) ↦ (
           let p : Found n (Some found) = subst (Found n) some (found_in n w parcel.to h.conns) in
           let came = passed_on_given n found.0.conn found.1 (source_of parcel.from) parcel.n (onward parcel.packet) p in
-          rw some (record { setup = h.setup; conns = replaced n found.0.conn.number (Some (came_to found.0 found.1 parcel).1) w.conns came h.conns }))
+          rw some (record { conns = replaced n found.0.conn.number (Some (came_to found.0 found.1 parcel).1) w.conns came h.conns }))
     ]
 
 abbrev Accepts : ℕ → Option (Note × Worker) → Type 0
@@ -265,7 +263,6 @@ Accepts n (Some d) = GivenWorker n d.1
 accepted_so : (n : ℕ) (w : Worker) (offered : List Offer) → GivenWorker n w → Accepts n (accepted w offered)
 accepted_so n w [] h = tt
 accepted_so n w (o ∷ offered) h = record {
-  setup = h.setup;
   conns = each_append (HeldGiven n) w.conns (record { conn = new_conn o.number w.id; link = o.link; ports = [] } ∷ []) h.conns (tt, tt);
 }
 
@@ -278,12 +275,11 @@ turn_own : (sh : Shared) (new : Worker) (after : Shared) → Good sh.config sh.b
 turn_own sh new after g h e = subst (λ (s : Shared). TurnSo sh new s) (sym e) (record { worker = h; goes = record { good = g; more = omega arith } })
 
 -- one of its connections became another
-turn_held : (old : Worker) (sh : Shared) (k : ℕ) (new : Option Held) (after : Shared) (next : Worker) → GivenWorker (length sh.book) old → StepSo sh new after → next.setup ≡ old.setup → next.conns ≡ replace k new old.conns → TurnSo sh next after
-turn_held old sh k new after next h step setup conns =
+turn_held : (old : Worker) (sh : Shared) (k : ℕ) (new : Option Held) (after : Shared) (next : Worker) → GivenWorker (length sh.book) old → StepSo sh new after → next.conns ≡ replace k new old.conns → TurnSo sh next after
+turn_held old sh k new after next h step conns =
     let n = length after.book in
     record {
       worker = record {
-        setup = subst IsToldSetup (sym setup) h.setup;
         conns = subst (λ (hs : List Held). AllByRecursion (HeldGiven n) hs) (sym conns) (replaced n k new old.conns step.held (held_more (length sh.book) n old.conns step.goes.more h.conns));
       };
       goes = step.goes;
@@ -300,7 +296,7 @@ turn_seat old sh Inbox answer note new after h g x =
 turn_seat old sh (Of k) answer note new after h g x =
     let held = each_found (HeldGiven (length sh.book)) (λ (g : Held). g.conn.number == k) old.conns x.held h.conns x.has in
     let step = step_try old.setup x.held sh x.try answer note x.became after held g x.next in
-    turn_held old sh k x.became after new h step (ap (λ (w : Worker). w.setup) x.new_is) (ap (λ (w : Worker). w.conns) x.new_is)
+    turn_held old sh k x.became after new h step (ap (λ (w : Worker). w.conns) x.new_is)
 
 -- ---- what the pump does
 
@@ -400,7 +396,7 @@ turn_starves old sh (Of k) reached answer new after h g x =
     let held = each_found (HeldGiven (length sh.book)) (λ (g : Held). g.conn.number == k) old.conns x.held h.conns x.has in
     let heard = heard_so reached.asked x.held sh x.try answer x.tunnels after held g x.heard in
     let starved_so : Held = record x.held { link = record x.held.link { pieces = x.pieces }; conn = record (starved x.held.conn) { tunnels = x.tunnels } } in
-    turn_held old sh k (Some starved_so) after new h (record { held = heard.0; goes = heard.1 }) (ap (λ (w : Worker). w.setup) x.new_is) (ap (λ (w : Worker). w.conns) x.new_is)
+    turn_held old sh k (Some starved_so) after new h (record { held = heard.0; goes = heard.1 }) (ap (λ (w : Worker). w.conns) x.new_is)
 
 pub lawful_silent : (old new : State) (actor : Actor) (reached : Reached) → Lawful old → SilentTurn old actor reached new → Lawful new
 lawful_silent old new (WorkerOf number) reached h x =
@@ -417,20 +413,20 @@ given_at k n change h p = if_both (HeldGiven k) (h.conn.number == n) (record h {
 lawful_link : (n : ℕ) (change : Link → Link) (s : State) → Lawful s → Lawful (at_link n change s)
 lawful_link n change s h = record {
   workers = each_map (GivenWorker (length s.shared.book)) (GivenWorker (length s.shared.book)) (at_worker n change) s.workers
-      (λ w p. record { setup = p.setup; conns = each_map (HeldGiven (length s.shared.book)) (HeldGiven (length s.shared.book)) (at_held n change) w.conns (λ g q. given_at (length s.shared.book) n change g q) p.conns }) h.workers;
+      (λ w p. record { conns = each_map (HeldGiven (length s.shared.book)) (HeldGiven (length s.shared.book)) (at_held n change) w.conns (λ g q. given_at (length s.shared.book) n change g q) p.conns }) h.workers;
   book = h.book;
 }
 
 lawful_port : (n : ℕ) (change : Port → Port) (s : State) → Lawful s → Lawful (with_port n change s)
 lawful_port n change s h = record {
   workers = each_map (GivenWorker (length s.shared.book)) (GivenWorker (length s.shared.book)) (with_held_ports n change) s.workers
-      (λ w p. record { setup = p.setup; conns = each_map (HeldGiven (length s.shared.book)) (HeldGiven (length s.shared.book)) (with_ports n change) w.conns (λ g q. q) p.conns }) h.workers;
+      (λ w p. record { conns = each_map (HeldGiven (length s.shared.book)) (HeldGiven (length s.shared.book)) (with_ports n change) w.conns (λ g q. q) p.conns }) h.workers;
   book = h.book;
 }
 
 given_offered : (k actor number : ℕ) (ws : List Worker) → AllByRecursion (GivenWorker k) ws → AllByRecursion (GivenWorker k) (offered_to actor number ws)
 given_offered k actor number [] h = tt
-given_offered k zero number (w ∷ ws) h = (record { setup = h.0.setup; conns = h.0.conns }, h.1)
+given_offered k zero number (w ∷ ws) h = (record { conns = h.0.conns }, h.1)
 given_offered k (suc actor) number (w ∷ ws) h = (h.0, given_offered k actor number ws h.1)
 
 pub lawful_happen : (s : State) (e : Event) → Lawful s → Lawful (happen s e)

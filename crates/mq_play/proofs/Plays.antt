@@ -3,7 +3,7 @@ use Rattle.std.proofs.Common.{◌≡◌, ℕ, false, inl, inr, zero, suc, List, 
 use Rattle.std.specs.Option.{unwrap_or}
 use Rattle.mq_book.specs.Laws.{HasOneAnswer}
 use Rattle.mq_talk.specs.declared.note.Note.{Note}
-use Rattle.mq_machine.specs.Laws.{BringsOnce, HasOneTurn, HasOneSilentTurn, IsTurnOrQuiet, IsSilentOrQuiet}
+use Rattle.mq_machine.specs.Laws.{HasOneTurn, HasOneSilentTurn, IsTurnOrQuiet, IsSilentOrQuiet}
 use Rattle.mq_machine.specs.State.{State}
 use Rattle.mq_machine.specs.Turn.{Actor, has_turn}
 use Rattle.mq_play.specs.declared.line.Line.{Line}
@@ -18,7 +18,7 @@ use Rattle.mq_play.specs.Laws.{Alike, AllAlike}
 use Rattle.mq_play.specs.Sayings.{HasOneSaying}
 use Rattle.mq_play.proofs.Plans.{more_kept}
 use Rattle.mq_play.proofs.Lawful.{Lawful, lawful_turn, lawful_silent, lawful_happen}
-use Rattle.mq_play.proofs.Sure.{LawfulStage, lawful_opened, reads_once, book_says_one}
+use Rattle.mq_play.proofs.Sure.{LawfulStage, lawful_opened, book_says_one}
 
 -- what is known of the machine, the book and the grammar
 pub record Known : Type 0 where
@@ -26,7 +26,6 @@ pub record Known : Type 0 where
   pub silent : HasOneSilentTurn
   pub turn_or_quiet : IsTurnOrQuiet
   pub silent_or_quiet : IsSilentOrQuiet
-  pub brings : BringsOnce
   pub answer : HasOneAnswer
   pub says : HasOneSaying
 
@@ -76,7 +75,7 @@ not_quiet known old new actor (Silent reached) text x h = known.silent_or_quiet 
 one_step : Known → (old : State) (actor : Actor) (fate : Fate) (s t : List ℕ) (a b : State) → Lawful old → StepsTo old actor fate s a → StepsTo old actor fate t b → (s ≡ t) × (a ≡ b)
 one_step known old actor Noted s t a b h x y =
     let one = book_says_one known.answer old.shared.config old.shared.book h.book in
-    let same = known.turn old actor x.0 y.0 a b (reads_once known.brings old h) one x.1 y.1 in
+    let same = known.turn old actor x.0 y.0 a b one x.1 y.1 in
     (x.2 ∙ ap (λ (n : Note). printed (SaysNote n)) same.0 ∙ sym y.2, same.1)
 one_step known old actor (Silent reached) s t a b h x y =
     (x.1 ∙ sym y.1, known.silent old actor reached a b (book_says_one known.answer old.shared.config old.shared.book h.book) x.0 y.0)

@@ -1,4 +1,4 @@
--- In a lawful state a read brings one thing, and so does what the book is asked. Settings and lines lead to lawful states.
+-- In a lawful state the book says one thing. Settings and lines lead to lawful states.
 use Rattle.std.proofs.Common.{ℕ, zero, suc, length, List, [], ◌∷◌}
 use Rattle.std.specs.List.{AllByRecursion}
 use Rattle.mq_book.specs.Laws.{HasOneAnswer}
@@ -6,8 +6,7 @@ use Rattle.mq_talk.specs.declared.book.Config.{Config}
 use Rattle.mq_talk.specs.declared.book.Entry.{Entry}
 use Rattle.mq_machine.specs.declared.setup.Setup.{Setup}
 use Rattle.mq_machine.specs.State.{State, new_worker}
-use Rattle.mq_machine.specs.Laws.{BringsOnce, IsToldSetup, ReadsOnceIn, SaysOne}
-use Rattle.mq_target.specs.Told.{is_told}
+use Rattle.mq_machine.specs.Laws.{SaysOne}
 use Rattle.mq_play.specs.declared.line.SettingLine.{SettingLine}
 use Rattle.mq_play.specs.Settings.{plan_of}
 use Rattle.mq_play.specs.Events.{new_workers}
@@ -20,9 +19,6 @@ use Rattle.mq_play.proofs.Owned.{Good, none_apart, verdicts}
 pub book_says_one : HasOneAnswer → (config : Config) (h : List Entry) → Good config h → SaysOne config h
 book_says_one one config h g = record { answers = one config h; judges = λ from flow a b x y. verdicts config h from flow a b g x y }
 
-pub reads_once : BringsOnce → (s : State) → Lawful s → ReadsOnceIn s
-reads_once brings s h = λ number w at. brings w.setup (each_at (GivenWorker (length s.shared.book)) s.workers number w h.workers at).setup
-
 -- ---- stages
 
 abbrev pub LawfulStage : Stage → Type 0
@@ -32,19 +28,13 @@ LawfulStage (Running s) = Lawful s
 pub lawful_opening : LawfulStage (Settings [])
 lawful_opening = none_kept
 
--- a plan's templates are ones that texts are
-told_by : (lines : List SettingLine) → IsKept lines → IsToldSetup (plan_of lines).setup
-told_by lines h =
-    let setup = (kept_plan lines h).setup in
-    record { udp = is_told setup.udp.0 _ setup.udp.1.0; ip = is_told setup.ip.0 _ setup.ip.1.0 }
-
-given_new : (setup : Setup) (n : ℕ) → IsToldSetup setup → AllByRecursion (GivenWorker 0) (new_workers setup n)
-given_new setup zero p = tt
-given_new setup (suc n) p = each_append (GivenWorker 0) (new_workers setup n) (new_worker n setup ∷ []) (given_new setup n p) (record { setup = p; conns = tt }, tt)
+given_new : (setup : Setup) (n : ℕ) → AllByRecursion (GivenWorker 0) (new_workers setup n)
+given_new setup zero = tt
+given_new setup (suc n) = each_append (GivenWorker 0) (new_workers setup n) (new_worker n setup ∷ []) (given_new setup n) (record { conns = tt }, tt)
 
 pub lawful_opened : (s : Stage) → LawfulStage s → Lawful (opened s)
 lawful_opened (Settings lines) p = record {
-  workers = given_new (plan_of lines).setup (plan_of lines).workers (told_by lines p);
+  workers = given_new (plan_of lines).setup (plan_of lines).workers;
   book = record { config_is = (kept_plan lines p).book.config; apart = none_apart (plan_of lines).book };
 }
 lawful_opened (Running state) p = p

@@ -1,7 +1,6 @@
 pub mod Lacking
 pub mod Hexes
 pub mod Texts
-pub mod Templates
 pub mod Parted
 pub mod Words
 pub mod Singles

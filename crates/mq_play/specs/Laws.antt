@@ -1,7 +1,7 @@
 -- What is one for every script.
 use Rattle.std.specs.Prelude.{◌≡◌, ◌↔◌, ℕ, List, [], ◌∷◌, ◌++◌, length, map, ⊤}
 use Rattle.std.specs.List.{flat_map, AllByRecursion}
-use Rattle.mq_machine.specs.Laws.{ReadsOnceIn, SaysOne}
+use Rattle.mq_machine.specs.Laws.{SaysOne}
 use Rattle.mq_text.specs.Cut.{Lacks}
 use Rattle.mq_play.specs.declared.line.SettingLine.{SettingLine}
 use Rattle.mq_play.specs.Settings.{plan_of, IsPlan}
@@ -40,11 +40,10 @@ abbrev pub MakesAPlan : Type 0
 MakesAPlan = (lines : List (List ℕ)) (fates : List (List Fate)) (text : List ℕ) (told : List SettingLine) → Plays opening lines fates text (Settings told)
     → IsPlan (plan_of told)
 
--- In a state that lines lead to, which is the one from which a line that is no setting goes on, a read brings one thing, and so
--- does what the book is asked.
+-- in a state that lines lead to, which is the one from which a line that is no setting goes on, the book says one thing
 abbrev pub IsAlwaysOne : Type 0
 IsAlwaysOne = (lines : List (List ℕ)) (fates : List (List Fate)) (text : List ℕ) (s : Stage) → Plays opening lines fates text s
-    → ReadsOnceIn (opened s) × SaysOne (opened s).shared.config (opened s).shared.book
+    → SaysOne (opened s).shared.config (opened s).shared.book
 
 -- A script is cut into lines in one way: what these lines with their newlines, and a last one without, make is cut so, and no
 -- other script is.

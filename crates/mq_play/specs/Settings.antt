@@ -17,7 +17,7 @@ use Rattle.mq_machine.specs.declared.setup.Setup.{Setup}
 use Rattle.mq_talk.specs.declared.book.Config.{Config}
 use Rattle.mq_talk.specs.Config.{HasNoZero, IsConfig}
 use Rattle.mq_target.specs.Template.{Shape, IsTemplate, well_known}
-use Rattle.mq_target.specs.Values.{IsName as IsHostName}
+use Rattle.mq_target.specs.Names.{IsName as IsHostName}
 use Rattle.mq_play.specs.declared.line.SettingLine.{SettingLine}
 use Rattle.mq_play.specs.declared.line.SettingLine.TheVariants as setting
 use Rattle.mq_play.specs.declared.plan.Plan.{Plan}

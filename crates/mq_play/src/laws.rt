@@ -4,7 +4,7 @@ ghost use Rattle.mq_play.specs.Laws.{AreAlike, HasOneBadLine, HasOneBadPlay, Has
 use crate::sayings::one_saying;
 use mq_addr::{addr_bytes, one_prefix, printed_again};
 use mq_book::one_answer;
-use mq_machine::{brings_once, one_silent_turn, one_turn, silent_or_quiet, turn_or_quiet};
+use mq_machine::{one_silent_turn, one_turn, silent_or_quiet, turn_or_quiet};
 use mq_text::cut_once;
 
 /// Plays in which no step was refused memory are alike.
@@ -17,11 +17,10 @@ pub fn makes_a_plan()
     ensures { MakesAPlan }
 {}
 
-/// In a state that lines lead to, a read brings one thing, and the book says one thing.
+/// In a state that lines lead to, the book says one thing.
 pub fn always_one()
     ensures { IsAlwaysOne }
 {
-    brings_once();
     one_answer();
 }
 
@@ -43,7 +42,6 @@ pub fn one_play()
     one_silent_turn();
     turn_or_quiet();
     silent_or_quiet();
-    brings_once();
     one_answer();
     one_saying();
 }
@@ -56,7 +54,6 @@ pub fn one_play_so_far()
     one_silent_turn();
     turn_or_quiet();
     silent_or_quiet();
-    brings_once();
     one_answer();
     one_saying();
 }
@@ -69,7 +66,6 @@ pub fn one_bad_play()
     one_silent_turn();
     turn_or_quiet();
     silent_or_quiet();
-    brings_once();
     one_answer();
     one_saying();
 }
@@ -82,7 +78,6 @@ pub fn one_bad_line()
     one_silent_turn();
     turn_or_quiet();
     silent_or_quiet();
-    brings_once();
     one_answer();
     one_saying();
 }
@@ -95,7 +90,6 @@ pub fn good_or_bad()
     one_silent_turn();
     turn_or_quiet();
     silent_or_quiet();
-    brings_once();
     one_answer();
     one_saying();
 }
@@ -108,7 +102,6 @@ pub fn part_is_front()
     one_silent_turn();
     turn_or_quiet();
     silent_or_quiet();
-    brings_once();
     one_answer();
     one_saying();
 }
@@ -121,7 +114,6 @@ pub fn part_is_front_of_bad()
     one_silent_turn();
     turn_or_quiet();
     silent_or_quiet();
-    brings_once();
     one_answer();
     one_saying();
 }
@@ -134,7 +126,6 @@ pub fn so_far_is_front()
     one_silent_turn();
     turn_or_quiet();
     silent_or_quiet();
-    brings_once();
     one_answer();
     one_saying();
 }
@@ -147,7 +138,6 @@ pub fn so_far_is_front_of_bad()
     one_silent_turn();
     turn_or_quiet();
     silent_or_quiet();
-    brings_once();
     one_answer();
     one_saying();
 }

@@ -3,8 +3,7 @@
 use mq_addr::{Addr, Kind, Prefix, Range};
 use mq_machine::Event;
 use mq_policy::Rule;
-use mq_target::Template;
-use mq_wire::Bytes;
+use mq_target::{Name, Template};
 
 /// One setting.
 #[derive(Drop)]
@@ -13,8 +12,8 @@ pub enum SettingLine {
     Workers(u32),
     /// The template of the tunnels of this kind, which is its own kind too. The last one counts.
     Template { kind: Kind, template: Template },
-    /// A name, in lower case, and its address. The last line of a name counts.
-    Name { name: Bytes, addr: Addr },
+    /// A name and its address. The last line of a name counts.
+    Name { name: Name, addr: Addr },
     /// A rule, behind the others.
     Rule(Rule),
     /// One more block of which clients are given addresses.

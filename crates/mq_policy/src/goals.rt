@@ -33,7 +33,7 @@ impl Names {
     {
         match host {
             Host::Address(addr) => Some(*addr),
-            Host::Name(name) => self.get(name.as_slice()),
+            Host::Name(name) => self.get(name),
         }
     }
 
@@ -45,7 +45,7 @@ impl Names {
             Area::All => Some(None),
             Area::Block(block) => Some(Some(*block)),
             Area::Name(name) => {
-                let addr = self.get(name.as_slice())?;
+                let addr = self.get(name)?;
                 Some(Some(alone(addr)))
             }
         }

@@ -3,6 +3,7 @@ ghost use Rattle.std.specs.Prelude.{◌≡◌, OnOk, OnErr, IfOk};
 ghost use Rattle.std.specs.FinMap as map;
 
 use mq_addr::Addr;
+use mq_target::Name;
 use mq_wire::NoMemory;
 use std::alloc::Global;
 use std::collections::BTreeMap;
@@ -35,20 +36,20 @@ impl Names {
     }
 
     /// Gives a name its address, in place of the one that it had. `NoMemory` changes nothing.
-    pub fn set(&mut self, alloc: Global, name: &[u8], addr: Addr) -> Result<(), NoMemory>
+    pub fn set(&mut self, alloc: Global, name: &Name, addr: Addr) -> Result<(), NoMemory>
         ensures ok { OnOk result (self.new ≡ map.insert self.old name.now addr) }
         ensures err { OnErr result (self.new ≡ self.old) }
     {
-        let name = Vec::from_slice(alloc, name)?;
+        let name = Vec::from_slice(alloc, name.as_slice())?;
         self.addrs.insert(name, addr)?;
         Ok(())
     }
 
     /// The address of a name.
-    pub fn get(&self, name: &[u8]) -> Option<Addr>
+    pub fn get(&self, name: &Name) -> Option<Addr>
         ensures { result ≡ map.get self.now name.now }
     {
-        self.addrs.get(name).copied()
+        self.addrs.get(name.as_slice()).copied()
     }
 
     /// Equal names.

@@ -7,7 +7,7 @@ use crate::matching::decide_goal;
 use crate::names::Names;
 use crate::{Decision, Rule};
 use mq_addr::Addr;
-use mq_target::Target;
+use mq_target::{Name, Target};
 use mq_wire::NoMemory;
 use std::alloc::Global;
 use std::marker::Model;
@@ -43,9 +43,8 @@ impl Policy {
         }
     }
 
-    /// Gives a name its address, in place of the one that it had. A name is matched byte for byte, and targets have
-    /// theirs in lower case. `NoMemory` changes nothing.
-    pub fn add_name(&mut self, alloc: Global, name: &[u8], addr: Addr) -> Result<(), NoMemory>
+    /// Gives a name its address, in place of the one that it had. `NoMemory` changes nothing.
+    pub fn add_name(&mut self, alloc: Global, name: &Name, addr: Addr) -> Result<(), NoMemory>
         ensures ok { OnOk result (self.new ≡ record self.old { names = map.insert self.old.names name.now addr }) }
         ensures err { OnErr result (self.new ≡ self.old) }
     {

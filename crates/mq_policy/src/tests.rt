@@ -4,8 +4,8 @@ ghost use Rattle.std.specs.Prelude.{◌<◌, ◌^◌, length};
 use super::*;
 use mq_addr::{Addr, Prefix};
 use mq_talk::Goal;
-use mq_target::{Area, Host, Target};
-use mq_wire::{Bytes, NoMemory};
+use mq_target::{Area, Host, Name, Target};
+use mq_wire::NoMemory;
 use std::alloc::Global;
 
 /// 192.0.2.6.
@@ -413,9 +413,17 @@ fn without_rules_all_is_allowed(rt: HostRuntime) {
     }
 }
 
+/// The name that a text is. That a text is none fails a test as want of memory does.
+fn name_of(alloc: Global, text: &str) -> Result<Name, NoMemory> {
+    match Name::of(alloc, text.as_bytes())? {
+        Some(name) => Ok(name),
+        None => Err(NoMemory),
+    }
+}
+
 /// What is decided on UDP to a port of a name.
 fn on_name(alloc: Global, policy: &Policy, name: &str, port: u16) -> Result<Decision, NoMemory> {
-    let name = Bytes::from_vec(Vec::from_slice(alloc, name.as_bytes())?);
+    let name = name_of(alloc, name)?;
     Ok(policy.decide(&Target::Udp {
         host: Host::Name(name),
         port,
@@ -424,7 +432,7 @@ fn on_name(alloc: Global, policy: &Policy, name: &str, port: u16) -> Result<Deci
 
 /// What is decided on packets to a name.
 fn on_area(alloc: Global, policy: &Policy, name: &str) -> Result<Decision, NoMemory> {
-    let name = Bytes::from_vec(Vec::from_slice(alloc, name.as_bytes())?);
+    let name = name_of(alloc, name)?;
     Ok(policy.decide(&Target::Ip {
         area: Area::Name(name),
         protocol: Some(17),
@@ -434,7 +442,7 @@ fn on_area(alloc: Global, policy: &Policy, name: &str) -> Result<Decision, NoMem
 /// A policy with a name, and a rule that denies all UDP.
 fn closed(alloc: Global) -> Result<Policy, NoMemory> {
     let mut policy = Policy::new(alloc);
-    policy.add_name(alloc, b"a.example".as_slice(), HOST)?;
+    policy.add_name(alloc, &name_of(alloc, "a.example")?, HOST)?;
     policy.add_rule(udp(false, None, 1, 65535))?;
     Ok(policy)
 }
@@ -448,7 +456,7 @@ fn names_come_before_rules(rt: HostRuntime) {
     assert!(rt; on_name(rt.alloc(), &policy, "a.example", 1) == Ok(Decision::Denied(1)));
     assert!(rt; on_name(rt.alloc(), &policy, "b.example", 1) == Ok(Decision::UnknownName));
     assert!(rt; on_name(rt.alloc(), &policy, "a.exampl", 1) == Ok(Decision::UnknownName));
-    assert!(rt; on_name(rt.alloc(), &policy, "A.example", 1) == Ok(Decision::UnknownName));
+    assert!(rt; on_name(rt.alloc(), &policy, "A.example", 1) == Ok(Decision::Denied(1)));
     assert!(rt; on_area(rt.alloc(), &policy, "a.example") == Ok(Decision::Denied(0)));
     assert!(rt; on_area(rt.alloc(), &policy, "b.example") == Ok(Decision::UnknownName));
 }
@@ -456,9 +464,9 @@ fn names_come_before_rules(rt: HostRuntime) {
 /// A policy with a name that has a second address, and another.
 fn renamed(alloc: Global) -> Result<Policy, NoMemory> {
     let mut policy = Policy::new(alloc);
-    policy.add_name(alloc, b"a.example".as_slice(), HOST)?;
-    policy.add_name(alloc, b"b.example".as_slice(), HOST)?;
-    policy.add_name(alloc, b"a.example".as_slice(), HOST_6)?;
+    policy.add_name(alloc, &name_of(alloc, "a.example")?, HOST)?;
+    policy.add_name(alloc, &name_of(alloc, "b.example")?, HOST)?;
+    policy.add_name(alloc, &name_of(alloc, "a.example")?, HOST_6)?;
     policy.copy()
 }
 
@@ -484,7 +492,7 @@ fn crowded(alloc: Global) -> Result<Policy, NoMemory> {
     }
     for number in 0..64u32 {
         let name = format!(in alloc; "name{number}.example")?;
-        policy.add_name(alloc, name.as_bytes(), Addr::V4(number))?;
+        policy.add_name(alloc, &name_of(alloc, name.as_str())?, Addr::V4(number))?;
     }
     policy.copy()
 }

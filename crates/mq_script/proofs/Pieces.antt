@@ -1,5 +1,5 @@
 -- How pieces and payloads are read.
-use Rattle.std.proofs.Common.{◌≡◌, ◌≢◌, ℕ, ◌<◌, List, [], ◌∷◌, length, refl, sym, ◌∙◌, ap, subst, Result, Ok, Err, ◌⊎◌, arith}
+use Rattle.std.proofs.Common.{◌≡◌, ◌↔◌, ◌≢◌, ℕ, ◌<◌, List, [], ◌∷◌, length, refl, sym, ◌∙◌, ap, subst, Result, Ok, Err, ◌⊎◌, arith}
 use Rattle.std.specs.List.{flat_map}
 use Rattle.hex.specs.Hex.{encode_lower, encode_with, decode_of}
 use Rattle.hex.specs.declared.error.FromHexError.{FromHexError}
@@ -50,8 +50,8 @@ pub empty_hex : (text : List ℕ) → text ≡ [] → (value : List ℕ) → IsH
 empty_hex text empty value h = h.some (one_hex text value [] (h.are, h.is) (All-nil (λ b. b < 256), empty ∙ sym nothing))
 
 -- why a text isn't read
-pub hex_fault : (text : List ℕ) (e : FromHexError) (fault : LineFault) → (fault ≡ Syntax → e ≢ OutOfMemory) → (e ≡ OutOfMemory) ⊎ (decode_of text ≡ Err e) → IsParsed {T = List ℕ} (IsHex text) (Err fault)
-hex_fault text e Syntax gives told = λ value h. hex_refused text e (gives refl) told value (h.are, h.is)
+pub hex_fault : (text : List ℕ) (e : FromHexError) (fault : LineFault) → (fault ≡ NoMemory) ↔ (e ≡ OutOfMemory) → (e ≡ OutOfMemory) ⊎ (decode_of text ≡ Err e) → IsParsed {T = List ℕ} (IsHex text) (Err fault)
+hex_fault text e Syntax gives told = λ value h. hex_refused text e (λ none. (let no : Syntax ≡ NoMemory = gives.1 none in cc)) told value (h.are, h.is)
 hex_fault text e NoMemory gives told = tt
 
 -- one byte in hex

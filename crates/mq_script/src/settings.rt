@@ -11,8 +11,8 @@ use mq_machine::Setup;
 use mq_play::{Plan, SettingLine};
 use mq_policy::{Policy, Rule};
 use mq_talk::Config;
-use mq_target::Template;
-use mq_wire::{Bytes, NoMemory, Seq};
+use mq_target::{Name, Template};
+use mq_wire::{NoMemory, Seq};
 use std::alloc::Global;
 use std::marker::Model;
 
@@ -179,13 +179,13 @@ impl Settings {
         Ok(true)
     }
 
-    fn put_name(&mut self, name: Bytes, addr: Addr) -> Result<bool, NoMemory>
+    fn put_name(&mut self, name: Name, addr: Addr) -> Result<bool, NoMemory>
         ensures { Grows self.old (told.Name name addr) result self.new }
     {
         if self.names >= MOST_NAMES {
             return Ok(false);
         }
-        self.policy.add_name(self.alloc, name.as_slice(), addr)?;
+        self.policy.add_name(self.alloc, &name, addr)?;
         self.names += 1;
         Ok(true)
     }

@@ -31,11 +31,12 @@ use Rattle.mq_target.specs.declared.target.Area.TheVariants as area
 use Rattle.mq_target.specs.declared.target.Target.{Target}
 use Rattle.mq_target.specs.declared.target.Target.TheVariants as target
 use Rattle.mq_target.specs.declared.target.Matched.TheVariants.{Yes}
-use Rattle.mq_target.specs.Classes.{is_name_byte, is_unreserved, is_value_byte, is_delimiter}
+use Rattle.mq_target.specs.Classes.{begins, ends_or_begins, is_name_byte, is_unreserved, is_value_byte, is_delimiter}
 use Rattle.mq_target.specs.Template.{Shape}
 use Rattle.mq_target.specs.Values.{IsNameText, IsHost, IsArea, IsPort, IsProtocol, IsTarget}
 use Rattle.mq_target.specs.Matching.{IsValue, Reads, Matches}
 use Rattle.mq_target.specs.Expansion.{SuitsHost, SuitsArea, Suits, escaped, escaped_byte, expanded, host_text, area_text, protocol_text, target_text, detail_text, first_text, second_text}
+use Rattle.mq_target.proofs.Splitting.{delimited_ends, ended_ends}
 use Rattle.mq_target.specs.Laws.{HostFits, AreaFits, ProtocolFits, TargetFits}
 
 -- a byte, as a test
@@ -250,12 +251,19 @@ module _ (bytes : HasAddrBytes) (again : printed.IsReadAgain) where
   in_order k TargetFirst t h = (escaped_value (target_text t) h.target_value, escaped_value (detail_text t) h.detail_value, read_escaped k t h)
   in_order k TargetLast t h = (escaped_value (detail_text t) h.detail_value, escaped_value (target_text t) h.target_value, read_escaped k t h)
 
-  pub read_again : (shape : Shape) (t : Target) → TargetFits t → Suits shape.kind t → Matches shape (expanded shape t) (Yes t)
+  pub read_again : (shape : Shape) (t : Target) → begins is_delimiter shape.between ≡ true → ends_or_begins is_delimiter shape.after ≡ true
+      → TargetFits t → Suits shape.kind t → Matches shape (expanded shape t) (Yes t)
   unfolding expanded
-  read_again shape t fits suits =
+  read_again shape t delimited ended fits suits =
       let parts = in_order shape.kind shape.order t (target_fine shape.kind t fits suits) in (
         escaped (first_text shape.order t),
         escaped (second_text shape.order t),
-        record { is = simp append_assoc; first_value = parts.0; second_value = parts.1 },
+        record {
+          is = simp append_assoc;
+          first_value = parts.0;
+          first_ends = delimited_ends shape.between (escaped (second_text shape.order t) ++ shape.after) delimited;
+          second_value = parts.1;
+          second_ends = ended_ends shape.after ended;
+        },
         parts.2,
       )

@@ -20,11 +20,10 @@ use Rattle.mq_target.specs.declared.target.Matched.{Matched}
 use Rattle.mq_target.specs.declared.target.Matched.TheVariants.{No, Bad, Yes}
 use Rattle.mq_target.specs.Classes.{is_name_byte}
 use Rattle.mq_target.specs.Template.{Shape}
-use Rattle.mq_target.specs.Told.{IsTold}
 use Rattle.mq_target.specs.Values.{IsNameText, IsHost, IsArea, IsProtocol, IsTarget}
 use Rattle.mq_target.specs.Matching.{Splits, Reads, Matches}
 use Rattle.mq_target.proofs.Bytes.{all_lack, lacks_none}
-use Rattle.mq_target.proofs.Splitting.{first_is, second_is, delimited_ends, ended_ends, same_front}
+use Rattle.mq_target.proofs.Splitting.{first_is, second_is, same_front}
 
 star_addr : is_addr_byte 42 ≡ false
 unfolding is_addr_byte
@@ -104,28 +103,28 @@ one_reads : HasAddrBytes → HasOneAddr → HasOnePrefix → (k : Kind) (order :
 one_reads bytes addr prefix k TargetFirst x y a b h g = one_target bytes addr prefix k (percent_decode x) (percent_decode y) a b h g
 one_reads bytes addr prefix k TargetLast x y a b h g = one_target bytes addr prefix k (percent_decode y) (percent_decode x) a b h g
 
-one_split : (shape : Shape) (path x y u v : List ℕ) → IsTold shape → Splits shape path x y → Splits shape path u v → (x ≡ u) × (y ≡ v)
-one_split shape path x y u v told h k =
+one_split : (shape : Shape) (path x y u v : List ℕ) → Splits shape path x y → Splits shape path u v → (x ≡ u) × (y ≡ v)
+one_split shape path x y u v h k =
     let rest = same_front shape.before (x ++ (shape.between ++ (y ++ shape.after))) (u ++ (shape.between ++ (v ++ shape.after))) (sym h.is ∙ k.is) in
-    let first = first_is shape.before shape.between shape.after path x y told.delimited told.ended h u (shape.between ++ (v ++ shape.after)) rest k.first_value (delimited_ends shape.between (v ++ shape.after) told.delimited) in
+    let first = first_is shape.before shape.between shape.after path x y h u (shape.between ++ (v ++ shape.after)) rest k.first_value k.first_ends in
     let left = same_front shape.between (y ++ shape.after) (v ++ shape.after) first.1 in
-    let second = second_is shape.before shape.between shape.after path x y told.delimited told.ended h v shape.after left k.second_value (ended_ends shape.after told.ended) in
+    let second = second_is shape.before shape.between shape.after path x y h v shape.after left k.second_value k.second_ends in
     (first.0, second.0)
 
 -- what one reading says of the values of another
-moved : (shape : Shape) (path x y u v : List ℕ) (target : Target) → IsTold shape → Splits shape path x y → Splits shape path u v → Reads shape.kind shape.order x y target → Reads shape.kind shape.order u v target
-moved shape path x y u v target told h k reads =
-    let same = one_split shape path x y u v told h k in
+moved : (shape : Shape) (path x y u v : List ℕ) (target : Target) → Splits shape path x y → Splits shape path u v → Reads shape.kind shape.order x y target → Reads shape.kind shape.order u v target
+moved shape path x y u v target h k reads =
+    let same = one_split shape path x y u v h k in
     subst (λ (t : List ℕ). Reads shape.kind shape.order t v target) same.0 (subst (λ (t : List ℕ). Reads shape.kind shape.order x t target) same.1 reads)
 
-pub one_reading : HasAddrBytes → HasOneAddr → HasOnePrefix → (shape : Shape) (path : List ℕ) (a b : Matched) → IsTold shape → Matches shape path a → Matches shape path b → a ≡ b
-one_reading bytes addr prefix shape path No No told h k = refl
-one_reading bytes addr prefix shape path No Bad told h k = absurd (h k.0 k.1 k.2)
-one_reading bytes addr prefix shape path No (Yes b) told h k = absurd (h k.0 k.1 k.2)
-one_reading bytes addr prefix shape path Bad No told h k = absurd (k h.0 h.1 h.2)
-one_reading bytes addr prefix shape path Bad Bad told h k = refl
-one_reading bytes addr prefix shape path Bad (Yes b) told h k = absurd (h.3 b (moved shape path k.0 k.1 h.0 h.1 b told k.2 h.2 k.3))
-one_reading bytes addr prefix shape path (Yes a) No told h k = absurd (k h.0 h.1 h.2)
-one_reading bytes addr prefix shape path (Yes a) Bad told h k = absurd (k.3 a (moved shape path h.0 h.1 k.0 k.1 a told h.2 k.2 h.3))
-one_reading bytes addr prefix shape path (Yes a) (Yes b) told h k =
-    ap Yes (one_reads bytes addr prefix shape.kind shape.order h.0 h.1 a b h.3 (moved shape path k.0 k.1 h.0 h.1 b told k.2 h.2 k.3))
+pub one_reading : HasAddrBytes → HasOneAddr → HasOnePrefix → (shape : Shape) (path : List ℕ) (a b : Matched) → Matches shape path a → Matches shape path b → a ≡ b
+one_reading bytes addr prefix shape path No No h k = refl
+one_reading bytes addr prefix shape path No Bad h k = absurd (h k.0 k.1 k.2)
+one_reading bytes addr prefix shape path No (Yes b) h k = absurd (h k.0 k.1 k.2)
+one_reading bytes addr prefix shape path Bad No h k = absurd (k h.0 h.1 h.2)
+one_reading bytes addr prefix shape path Bad Bad h k = refl
+one_reading bytes addr prefix shape path Bad (Yes b) h k = absurd (h.3 b (moved shape path k.0 k.1 h.0 h.1 b k.2 h.2 k.3))
+one_reading bytes addr prefix shape path (Yes a) No h k = absurd (k h.0 h.1 h.2)
+one_reading bytes addr prefix shape path (Yes a) Bad h k = absurd (k.3 a (moved shape path h.0 h.1 k.0 k.1 a h.2 k.2 h.3))
+one_reading bytes addr prefix shape path (Yes a) (Yes b) h k =
+    ap Yes (one_reads bytes addr prefix shape.kind shape.order h.0 h.1 a b h.3 (moved shape path k.0 k.1 h.0 h.1 b k.2 h.2 k.3))

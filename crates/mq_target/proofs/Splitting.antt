@@ -41,15 +41,15 @@ ended_ends [] h = refl
 ended_ends (b ∷ bs) h = delimiter_ends b h
 
 -- what is left of the path behind each part
-module _ (before between after path first second : List ℕ) (delimited : begins is_delimiter between ≡ true) (ended : ends_or_begins is_delimiter after ≡ true) (h : SplitsAt before between after path first second) where
+module _ (before between after path first second : List ℕ) (h : SplitsAt before between after path first second) where
   pub behind_before : (rest : List ℕ) → path ≡ before ++ rest → rest ≡ first ++ (between ++ (second ++ after))
   behind_before rest e = same_front before rest (first ++ (between ++ (second ++ after))) (sym e ∙ h.is)
 
   pub first_is : (x y : List ℕ) → first ++ (between ++ (second ++ after)) ≡ x ++ y → IsValue x → begins is_value_byte y ≡ false → (first ≡ x) × (between ++ (second ++ after) ≡ y)
-  first_is x y e value stops = same_value first x (between ++ (second ++ after)) y h.first_value.1 value.1 (delimited_ends between (second ++ after) delimited) stops e
+  first_is x y e value stops = same_value first x (between ++ (second ++ after)) y h.first_value.1 value.1 h.first_ends stops e
 
   pub second_is : (x y : List ℕ) → second ++ after ≡ x ++ y → IsValue x → begins is_value_byte y ≡ false → (second ≡ x) × (after ≡ y)
-  second_is x y e value stops = same_value second x after y h.second_value.1 value.1 (ended_ends after ended) stops e
+  second_is x y e value stops = same_value second x after y h.second_value.1 value.1 h.second_ends stops e
 
   -- the path begins with the literals, and with a value behind them
   pub at_first : (rest : List ℕ) → path ≡ before ++ rest → begins is_value_byte rest ≡ false → ⊥

@@ -10,20 +10,23 @@ use Rattle.mq_target.specs.declared.target.Target.{Target}
 use Rattle.mq_target.specs.declared.target.Target.TheVariants as target
 use Rattle.mq_target.specs.declared.target.Matched.{Matched}
 use Rattle.mq_target.specs.declared.target.Matched.TheVariants.{Yes}
-use Rattle.mq_target.specs.Classes.{is_unreserved}
-use Rattle.mq_target.specs.Template.{Shape}
-use Rattle.mq_target.specs.Told.{IsTold}
+use Rattle.mq_target.specs.Classes.{begins, ends_or_begins, is_delimiter, is_unreserved}
+use Rattle.mq_target.specs.Template.{Shape, IsTemplate}
 use Rattle.mq_target.specs.Values.{IsHost}
 use Rattle.mq_target.specs.Matching.{Matches}
 use Rattle.mq_target.specs.Expansion.{Suits, escaped, expanded}
 
 -- a path is one thing to a template
 abbrev pub HasOneReading : Type 0
-HasOneReading = (shape : Shape) (path : List ℕ) (a b : Matched) → IsTold shape → Matches shape path a → Matches shape path b → a ≡ b
+HasOneReading = (shape : Shape) (path : List ℕ) (a b : Matched) → Matches shape path a → Matches shape path b → a ≡ b
 
 -- a text is at most one host
 abbrev pub HasOneHost : Type 0
 HasOneHost = (text : List ℕ) (a b : Host) → IsHost text a → IsHost text b → a ≡ b
+
+-- a text is at most one template of its kind
+abbrev pub HasOneTemplate : Type 0
+HasOneTemplate = (text : List ℕ) (a b : Shape) → IsTemplate text a → IsTemplate text b → a.kind ≡ b.kind → a ≡ b
 
 -- an escaped value has unreserved bytes and those of escapes, `%` and hex digits, alone (RFC 3986, section 2.1)
 pub record IsEscaped (text value : List ℕ) : Type 0 where
@@ -51,7 +54,7 @@ abbrev pub TargetFits : Target → Type 0
 TargetFits (target.Udp host port) = HostFits host × (port < 2 ^ 16)
 TargetFits (target.Ip area protocol) = AreaFits area × ProtocolFits protocol
 
--- the path of a target is read as that target
+-- the path of a target is read as that target, where a delimiter follows each variable that something follows, as in each template that a text is
 abbrev pub IsReadAgain : Type 0
-IsReadAgain = (shape : Shape) (target : Target) → TargetFits target → Suits shape.kind target
-    → Matches shape (expanded shape target) (Yes target)
+IsReadAgain = (shape : Shape) (target : Target) → begins is_delimiter shape.between ≡ true → ends_or_begins is_delimiter shape.after ≡ true
+    → TargetFits target → Suits shape.kind target → Matches shape (expanded shape target) (Yes target)

@@ -4,9 +4,9 @@ pub mod Stepping
 pub mod Template
 pub mod Outlines
 pub mod Parsed
+pub mod Names
 pub mod Values
 pub mod Judged
 pub mod Matching
 pub mod Expansion
-pub mod Told
 pub mod Laws

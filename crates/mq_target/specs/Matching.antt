@@ -1,5 +1,5 @@
 -- What a path is to a template.
-use Rattle.std.specs.Prelude.{◌≡◌, ℕ, ◌<◌, true, List, ◌++◌, length}
+use Rattle.std.specs.Prelude.{◌≡◌, ℕ, ◌<◌, true, false, List, ◌++◌, length}
 use Rattle.std.specs.List.{list_all}
 use Rattle.percent_encoding.specs.Percent.{percent_decode}
 use Rattle.mq_addr.specs.declared.kind.Kind.{Kind}
@@ -8,7 +8,7 @@ use Rattle.mq_target.specs.declared.shape.Order.TheVariants.{TargetFirst, Target
 use Rattle.mq_target.specs.declared.target.Target.{Target}
 use Rattle.mq_target.specs.declared.target.Matched.{Matched}
 use Rattle.mq_target.specs.declared.target.Matched.TheVariants.{No, Bad, Yes}
-use Rattle.mq_target.specs.Classes.{is_value_byte}
+use Rattle.mq_target.specs.Classes.{begins, is_value_byte}
 use Rattle.mq_target.specs.Template.{Shape}
 use Rattle.mq_target.specs.Values.{IsTarget}
 
@@ -16,11 +16,13 @@ use Rattle.mq_target.specs.Values.{IsTarget}
 abbrev pub IsValue : List ℕ → Type 0
 IsValue text = (0 < length text) × (list_all is_value_byte text ≡ true)
 
--- the path is these literals with these values between them
+-- the path is these literals with these values between them, each as long as it can be
 pub record SplitsAt (before between after path first second : List ℕ) : Type 0 where
   pub is : path ≡ before ++ (first ++ (between ++ (second ++ after)))
   pub first_value : IsValue first
+  pub first_ends : begins is_value_byte (between ++ (second ++ after)) ≡ false
   pub second_value : IsValue second
+  pub second_ends : begins is_value_byte after ≡ false
 
 -- the path is the template with these values for its variables
 abbrev pub Splits : Shape → List ℕ → List ℕ → List ℕ → Type 0

@@ -1,6 +1,5 @@
 -- The values that a template's variables take, after percent-decoding (RFC 9298, section 2; RFC 9484, section 3).
-use Rattle.std.specs.Prelude.{◌≡◌, ℕ, ◌≤◌, true, List, length, map, codes, Option, Some, None}
-use Rattle.std.specs.List.{list_all}
+use Rattle.std.specs.Prelude.{◌≡◌, ℕ, ◌≤◌, List, length, map, codes, Option, Some, None}
 use Rattle.std.specs.Char.{to_ascii_lowercase}
 use Rattle.std.specs.Str.Parse.{IsNumeral, digits_value}
 use Rattle.mq_addr.specs.declared.addr.Addr.{Addr}
@@ -14,13 +13,7 @@ use Rattle.mq_target.specs.declared.target.Area.{Area}
 use Rattle.mq_target.specs.declared.target.Area.TheVariants as area
 use Rattle.mq_target.specs.declared.target.Target.{Target}
 use Rattle.mq_target.specs.declared.target.Target.TheVariants as target
-use Rattle.mq_target.specs.Classes.{is_name_byte}
-
--- 1 to 253 letters, digits, `-`, `.` or `_`
-pub record IsName (text : List ℕ) : Type 0 where
-  pub some : 1 ≤ length text
-  pub short : length text ≤ 253
-  pub bytes : list_all is_name_byte text ≡ true
+use Rattle.mq_target.specs.Names.{IsName}
 
 -- a name that isn't an address, taken in lower case
 pub record IsNameText (text name : List ℕ) : Type 0 where

@@ -1,12 +1,19 @@
 //! Why a text is no template.
 use mq_wire::NoMemory;
 use std::alloc::AllocError;
+use thiserror::Error;
 
-/// `Syntax`: the text hasn't the form of a template. `Variables`: it has, and not exactly the two variables of its kind.
-#[derive(Clone, Copy, Debug, PartialEq, Eq)]
+/// Why a text is no template of a kind.
+#[derive(Clone, Copy, Debug, PartialEq, Eq, Error)]
 pub enum TemplateFault {
+    /// The text hasn't the form of a template.
+    #[error("the text hasn't the form of a template")]
     Syntax,
+    /// The text has the form, and not exactly the two variables of its kind.
+    #[error("the text hasn't exactly the two variables of its kind")]
     Variables,
+    /// Memory ran out.
+    #[error("memory ran out")]
     NoMemory,
 }
 

@@ -1,7 +1,8 @@
 //! What holds of every template and every path.
-ghost use Rattle.mq_target.specs.Laws.{AreEscaped, HasOneHost, HasOneReading, IsReadAgain};
+ghost use Rattle.mq_target.specs.Laws.{AreEscaped, HasOneHost, HasOneReading, HasOneTemplate, IsReadAgain};
 
 use mq_addr::{addr_bytes, one_addr, one_prefix, printed_again};
+use mq_text::cut_once;
 
 /// A path is one thing to a template, and no other.
 pub fn one_reading()
@@ -30,4 +31,11 @@ pub fn expanded_again()
 {
     addr_bytes();
     printed_again();
+}
+
+/// A text is at most one template of its kind.
+pub fn one_template()
+    ensures { HasOneTemplate }
+{
+    cut_once();
 }

@@ -8,6 +8,7 @@ mod fault;
 mod form;
 mod judge;
 mod laws;
+mod name;
 mod outline;
 mod shape;
 mod split;
@@ -16,8 +17,9 @@ mod template;
 mod values;
 
 pub use fault::TemplateFault;
-pub use laws::{expanded_again, one_host, one_reading, values_are_escaped};
+pub use laws::{expanded_again, one_host, one_reading, one_template, values_are_escaped};
 pub use mq_addr::Kind;
+pub use name::Name;
 pub use target::{Area, Host, Matched, Target};
 pub use template::Template;
 pub use values::host_of;

@@ -1,20 +1,19 @@
 //! A path cut into the values of a template's variables.
 ghost use Rattle.std.specs.Prelude.{◌≡◌, ◌++◌, ℕ, List, MatchOption, false, true, length, take, drop, ◌≤◌};
 ghost use Rattle.std.specs.List.{list_all};
-ghost use Rattle.mq_target.specs.Classes.{begins, ends_or_begins, is_delimiter, is_value_byte};
+ghost use Rattle.mq_target.specs.Classes.{begins, is_value_byte};
 ghost use Rattle.mq_target.specs.Matching.{IsValue, SplitsAt};
 
 use crate::classes::is_value_byte;
 
-/// The two values, where the path is these literals with values between them. Goes once over the path.
+/// The two values, where the path is these literals with values between them, each as long as it can be. Goes once over
+/// the path.
 pub fn split<'a>(
     before: &[u8],
     between: &[u8],
     after: &[u8],
     path: &'a [u8],
 ) -> Option<(&'a [u8], &'a [u8])>
-    requires delimited { begins is_delimiter between.now ≡ true }
-    requires ended { ends_or_begins is_delimiter after.now ≡ true }
     ensures { MatchOption result
         ((first second : List ℕ) → ¬ (SplitsAt before.now between.now after.now path.now first second))
         (λ found. SplitsAt before.now between.now after.now path.now found.0.now found.1.now) }

@@ -1,59 +1,45 @@
 //! What a path asks for.
-ghost use Rattle.mq_addr.specs.Printed.{Fits};
 ghost use Rattle.mq_target.specs.Laws.{AreaFits, HostFits, ProtocolFits, TargetFits};
 
-use mq_addr::{Addr, Prefix};
-use mq_wire::Bytes;
+use crate::name::Name;
+use mq_addr::{Addr, Prefix, has_its_size};
 
 /// Where UDP payloads go: an address, or a name in lower case (RFC 9298, section 2).
-#[derive(Drop)]
+#[derive(Debug, PartialEq, Eq, Drop)]
 pub enum Host {
     Address(Addr),
-    Name(Bytes),
+    Name(Name),
 }
 
 /// Where IP packets may go: everywhere, a block, or a name in lower case (RFC 9484, section 3).
-#[derive(Drop)]
+#[derive(Debug, PartialEq, Eq, Drop)]
 pub enum Area {
     All,
     Block(Prefix),
-    Name(Bytes),
+    Name(Name),
 }
 
 /// What a tunnel is asked for. No protocol stands for all of them.
-#[derive(Drop)]
+#[derive(Debug, PartialEq, Eq, Drop)]
 pub enum Target {
     Udp { host: Host, port: u16 },
     Ip { area: Area, protocol: Option<u8> },
 }
 
 /// What a path is to a template: no path of it, one with values that aren't well-formed, or the path of a target.
-#[derive(Drop)]
+#[derive(Debug, PartialEq, Eq, Drop)]
 pub enum Matched {
     No,
     Bad,
     Yes(Target),
 }
 
-/// The number of an address has its type's size, and so on for all numbers of a target.
-fn addr_has_its_size(addr: &Addr)
-    ensures { Fits addr.now }
-{
-    match addr {
-        Addr::V4(bits) => {
-            let _bits = *bits;
-        }
-        Addr::V6(bits) => {
-            let _bits = *bits;
-        }
-    }
-}
-
+/// The numbers of a host have their types' sizes, and so on for all numbers of a target.
 fn host_has_its_sizes(host: &Host)
     ensures { HostFits host.now }
 {
     match host {
-        Host::Address(addr) => addr_has_its_size(addr),
+        Host::Address(addr) => has_its_size(addr),
         Host::Name(_) => {}
     }
 }
@@ -62,7 +48,7 @@ fn area_has_its_sizes(area: &Area)
     ensures { AreaFits area.now }
 {
     match area {
-        Area::Block(block) => addr_has_its_size(&block.addr),
+        Area::Block(block) => has_its_size(&block.addr),
         Area::All | Area::Name(_) => {}
     }
 }

@@ -23,7 +23,7 @@ use std::alloc::Global;
 use std::marker::Model;
 
 /// A template of a kind of tunnel, with the two variables of that kind.
-#[derive(Drop)]
+#[derive(Debug, Drop)]
 pub struct Template {
     kind: Kind,
     order: Order,

@@ -3,8 +3,9 @@ ghost use Rattle.mq_target.specs.Expansion.{Suits};
 
 use super::*;
 use mq_addr::Addr;
-use mq_wire::{Bytes, NoMemory};
+use mq_wire::NoMemory;
 use std::alloc::Global;
+use std::test::Fail;
 
 const UDP: &[u8] = b"/.well-known/masque/udp/{target_host}/{target_port}/";
 
@@ -150,41 +151,6 @@ fn sort_of_target(target: &Target) -> &'static str {
     }
 }
 
-fn is_same(a: &Target, b: &Target) -> bool {
-    match (a, b) {
-        (Target::Udp { host: a, port: p }, Target::Udp { host: b, port: q }) => p == q
-            && is_same_host(a, b),
-        (
-            Target::Ip {
-                area: a,
-                protocol: p,
-            },
-            Target::Ip {
-                area: b,
-                protocol: q,
-            },
-        ) => p == q && is_same_area(a, b),
-        _ => false,
-    }
-}
-
-fn is_same_host(a: &Host, b: &Host) -> bool {
-    match (a, b) {
-        (Host::Address(a), Host::Address(b)) => a == b,
-        (Host::Name(a), Host::Name(b)) => a.as_slice() == b.as_slice(),
-        _ => false,
-    }
-}
-
-fn is_same_area(a: &Area, b: &Area) -> bool {
-    match (a, b) {
-        (Area::All, Area::All) => true,
-        (Area::Block(a), Area::Block(b)) => a == b,
-        (Area::Name(a), Area::Name(b)) => a.as_slice() == b.as_slice(),
-        _ => false,
-    }
-}
-
 #[test]
 fn paths_are_sorted(rt: HostRuntime) {
     let Ok(udp) = Template::parse(rt.alloc(), Kind::Udp, UDP) else {
@@ -212,7 +178,7 @@ fn paths_are_sorted(rt: HostRuntime) {
 /// Whether a template matches a path as this target.
 fn gives(alloc: Global, template: &Template, path: &[u8], want: &Target) -> bool {
     match template.matches(alloc, path) {
-        Ok(Matched::Yes(target)) => is_same(&target, want),
+        Ok(Matched::Yes(target)) => target == *want,
         _ => false,
     }
 }
@@ -228,12 +194,14 @@ fn long_name(alloc: Global, template: &Template, count: u32) -> Result<Matched, 
 }
 
 /// A target with a name.
-fn named(alloc: Global, name: &[u8], port: u16) -> Result<Target, NoMemory> {
-    let name = Bytes::from_vec(Vec::from_slice(alloc, name)?);
-    Ok(Target::Udp {
-        host: Host::Name(name),
-        port,
-    })
+fn named(alloc: Global, name: &[u8], port: u16) -> Result<Option<Target>, NoMemory> {
+    match Name::of(alloc, name)? {
+        Some(name) => Ok(Some(Target::Udp {
+            host: Host::Name(name),
+            port,
+        })),
+        None => Ok(None),
+    }
 }
 
 #[test]
@@ -246,7 +214,7 @@ fn names_are_short_and_in_lower_case(rt: HostRuntime) {
     assert!(rt; sort(&long_name(rt.alloc(), &template, 253)) == "h");
     assert!(rt; sort(&long_name(rt.alloc(), &template, 254)) == "b");
     let path = b"/.well-known/masque/udp/TARGET.example.COM/443/".as_slice();
-    let Ok(target) = named(rt.alloc(), b"target.example.com".as_slice(), 443) else {
+    let Ok(Some(target)) = named(rt.alloc(), b"target.example.com".as_slice(), 443) else {
         assert!(rt; false, "a name");
         return;
     };
@@ -317,4 +285,67 @@ fn targets_go_round(rt: HostRuntime) {
             b"/.well-known/masque/ip/%2A/%2A/".as_slice()
         )
     );
+}
+
+#[test]
+fn names_go_round_by_the_default_templates(rt: HostRuntime) -> Result<(), Fail> {
+    let udp = Template::well_known(rt.alloc(), Kind::Udp)?;
+    let Some(host) = named(rt.alloc(), b"a_b-c.Example", 53)? else {
+        return Err(Fail::from("no name"));
+    };
+    let path = b"/.well-known/masque/udp/a_b-c.example/53/".as_slice();
+    assert!(rt; goes_round(rt.alloc(), &udp, &host, path));
+    let ip = Template::well_known(rt.alloc(), Kind::Ip)?;
+    let Some(name) = Name::of(rt.alloc(), b"target.example")? else {
+        return Err(Fail::from("no name"));
+    };
+    let area = Target::Ip {
+        area: Area::Name(name),
+        protocol: Some(17),
+    };
+    let path = b"/.well-known/masque/ip/target.example/17/".as_slice();
+    assert!(rt; goes_round(rt.alloc(), &ip, &area, path));
+    Ok(())
+}
+
+#[test]
+fn a_name_has_one_form(rt: HostRuntime) -> Result<(), Fail> {
+    let rows = [
+        ("a", "a"),
+        ("A.B-c_9", "a.b-c_9"),
+        ("192.0.2.6", "192.0.2.6"),
+        ("", ""),
+        ("a b", ""),
+        ("a~b", ""),
+        ("a:b", ""),
+        ("\u{e9}", ""),
+    ];
+    for (text, want) in rows {
+        let name = Name::of(rt.alloc(), text.as_bytes())?;
+        let found = match &name {
+            Some(name) => name.as_slice(),
+            None => b"",
+        };
+        assert!(rt; found == want.as_bytes(), "{text}");
+    }
+    Ok(())
+}
+
+#[test]
+fn a_fault_says_what_it_is(rt: HostRuntime) -> Result<(), Fail> {
+    let rows = [
+        (
+            TemplateFault::Syntax,
+            "the text hasn't the form of a template",
+        ),
+        (
+            TemplateFault::Variables,
+            "the text hasn't exactly the two variables of its kind",
+        ),
+        (TemplateFault::NoMemory, "memory ran out"),
+    ];
+    for (fault, text) in rows {
+        assert_eq!(rt; format!(in rt.alloc(); "{fault}")?.as_str(), text);
+    }
+    Ok(())
 }

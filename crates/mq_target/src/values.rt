@@ -7,13 +7,13 @@ ghost use Rattle.mq_addr.specs.Addr.{IsAddrText};
 ghost use Rattle.mq_addr.specs.Prefixes.{IsPrefixForm};
 ghost use Rattle.mq_target.specs.declared.target.Area.{Area};
 ghost use Rattle.mq_target.specs.declared.target.Host.{Host};
-ghost use Rattle.mq_target.specs.Values.{IsArea, IsHost, IsName, IsNameText, IsNumber, IsPort, IsProtocol};
+ghost use Rattle.mq_target.specs.Values.{IsArea, IsHost, IsNameText, IsNumber, IsPort, IsProtocol};
 
-use crate::classes::are_name_bytes;
+use crate::name::Name;
 use crate::target::{Area, Host};
 use mq_addr::{AddrFault, one_prefix, parse_addr, parse_prefix};
 use mq_text::parse_digits;
-use mq_wire::{Bytes, NoMemory};
+use mq_wire::NoMemory;
 use std::alloc::Global;
 
 /// A number of at most so many digits, which may begin with zeros, up to a limit.
@@ -70,35 +70,13 @@ pub fn protocol_of(text: &[u8]) -> Option<Option<u8>>
     }
 }
 
-/// Whether a text has the form of a name.
-fn is_name(text: &[u8]) -> bool
-    ensures { IsTrue result ↔ IsName text.now }
-{
-    !text.is_empty() && text.len() <= 253 && are_name_bytes(text)
-}
-
-/// The bytes in lower case.
-fn lowered(alloc: Global, text: &[u8]) -> Result<Vec<u8>, NoMemory>
-    ensures { IfOk result (λ v. v.items ≡ map to_ascii_lowercase text.now) }
-{
-    let lower = text
-        .iter()
-        .map(|byte| byte.to_ascii_lowercase())
-        .collect(alloc)?;
-    Ok(lower)
-}
-
 /// The name that a text is, where it is no address. Memory is asked for only where it is one.
-fn name_of(alloc: Global, text: &[u8]) -> Result<Option<Bytes>, NoMemory>
+fn name_of(alloc: Global, text: &[u8]) -> Result<Option<Name>, NoMemory>
     requires { (a : Addr) → ¬ (IsAddrText text.now a) }
     ensures err { OnErr result (IsNameText text.now (map to_ascii_lowercase text.now)) }
     ensures ok { IfOk result (λ found. MatchOption found ((name : List ℕ) → ¬ (IsNameText text.now name)) (λ name. IsNameText text.now name)) }
 {
-    if !is_name(text) {
-        return Ok(None);
-    }
-    let name = lowered(alloc, text)?;
-    Ok(Some(Bytes::from_vec(name)))
+    Name::of(alloc, text)
 }
 
 /// The host that a text is. Memory is asked for only where it is a name.

@@ -1,6 +1,4 @@
 //! A client of a proxy, as words ask for it.
-ghost use Rattle.std.specs.Prelude.{ℕ, List};
-ghost use Rattle.mq_target.specs.Values.{IsHost};
 ghost use Rattle.mq_top.specs.Asking.{Asks};
 ghost use Rattle.mq_udp.specs.Udp.{OutcomeCounts, SourceCounts, seen_of};
 
@@ -23,7 +21,6 @@ pub fn ask<R: Wait, S: Source, K: Sink, O: Outside>(
 ) -> Outcome
 where
     <O::L as Link>::Rest: Send,
-    requires { (text : List ℕ) × IsHost text words.host }
     ensures asks { Asks words (S.left source.old) (S.left source.new) (K.taken sink.old) (K.taken sink.new)
         (seen_of (O.past outside.old) (O.faults outside.old)) (seen_of (O.past outside.new) (O.faults outside.new)) result }
     ensures reading { SourceCounts (S.faults source.old) (S.faults source.new) result }

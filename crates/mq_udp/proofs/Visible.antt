@@ -112,6 +112,3 @@ short are h port small few =
 
 pub path_short : AreEscaped → (t : Target) (h : Host) (port : ℕ) → t ≡ target.Udp h port → port < 2 ^ 16 → length (host_text h) ≤ 253 → length (path_to t) ≤ 800
 path_short are t h port is small few = subst (λ (x : Target). length (path_to x) ≤ 800) (sym is) (short are h port small few)
-
-pub same_host : (t : Target) (a b : Host) (p q : ℕ) → t ≡ target.Udp a p → t ≡ target.Udp b q → a ≡ b
-same_host t a b p q e f = cc

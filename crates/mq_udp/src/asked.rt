@@ -1,14 +1,12 @@
 //! What a client asks of which proxy.
 ghost use Rattle.std.specs.Prelude.{◌≡◌, ℕ, ◌+◌, ◌≤◌, ◌++◌, List, length, IfOk, OnOk};
-ghost use Rattle.mq_addr.specs.Printed.{Fits};
 ghost use Rattle.mq_client.specs.Requests.{AreVisible, target_limit};
 ghost use Rattle.mq_target.specs.declared.target.Host.{Host};
 ghost use Rattle.mq_target.specs.declared.target.Target.TheVariants as to;
 ghost use Rattle.mq_target.specs.Expansion.{host_text};
-ghost use Rattle.mq_target.specs.Values.{IsHost};
 ghost use Rattle.mq_udp.specs.Asked.{authority, in_brackets, path_to};
 
-use mq_addr::{Addr, Kind, addr_bytes, addr_text, printed_again};
+use mq_addr::{Addr, Kind, addr_bytes, addr_text, has_its_size, printed_again};
 use mq_target::{Host, Target, Template, values_are_escaped};
 use mq_wire::{Bytes, NoMemory};
 use std::alloc::Global;
@@ -55,20 +53,6 @@ fn authority(alloc: Global, addr: &Addr, port: u16) -> Result<Bytes, NoMemory>
     Ok(Bytes::from_vec(out))
 }
 
-/// The number of an address has its type's size.
-fn has_its_size(addr: &Addr)
-    ensures { Fits addr.now }
-{
-    match addr {
-        Addr::V4(bits) => {
-            let _bits = *bits;
-        }
-        Addr::V6(bits) => {
-            let _bits = *bits;
-        }
-    }
-}
-
 /// Such a host has at most 47 bytes, all of them visible.
 fn authority_fits(addr: &Addr, port: u16)
     ensures visible { AreVisible (authority addr.now port) }
@@ -82,18 +66,22 @@ fn authority_fits(addr: &Addr, port: u16)
 
 /// A host has at most 253 bytes.
 fn host_is_short(host: &Host)
-    ensures { (text : List ℕ) → IsHost text host.now → length (host_text host.now) ≤ 253 }
+    ensures { length (host_text host.now) ≤ 253 }
 {
-    if let Host::Address(addr) = host {
-        let _text = addr_text(addr);
+    match host {
+        Host::Address(addr) => {
+            let _text = addr_text(addr);
+        }
+        Host::Name(name) => {
+            let _text = name.as_slice();
+        }
     }
 }
 
 /// The path to a target has visible bytes alone, and to a host for UDP at most 800.
 fn path_fits(target: &Target)
     ensures visible { AreVisible (path_to target.now) }
-    ensures short { (text : List ℕ) (host : Host) (port : ℕ) → target.now ≡ to.Udp host port → IsHost text host
-        → length (path_to target.now) ≤ 800 }
+    ensures short { (host : Host) (port : ℕ) → target.now ≡ to.Udp host port → length (path_to target.now) ≤ 800 }
 {
     values_are_escaped();
     if let Target::Udp { host, port } = target {
@@ -103,7 +91,7 @@ fn path_fits(target: &Target)
 }
 
 impl Asked {
-    /// A tunnel to a target for UDP, whose host a text is, by the template where none is set (RFC 9298, section 2): asked of the
+    /// A tunnel to a target, by the template for UDP where none is set (RFC 9298, section 2), asked of the
     /// proxy at this address and port, which is also the host of the request.
     pub fn to(
         alloc: Global,
@@ -122,7 +110,7 @@ impl Asked {
           count = count;
         }) }
         ensures visible { IfOk result (λ asked. AreVisible asked.path × AreVisible asked.host) }
-        ensures fits { (text : List ℕ) (host : Host) (port : ℕ) → target.now ≡ to.Udp host port → IsHost text host
+        ensures fits { (host : Host) (port : ℕ) → target.now ≡ to.Udp host port
             → IfOk result (λ asked. length asked.path + length asked.host ≤ target_limit) }
     {
         authority_fits(&addr, port);

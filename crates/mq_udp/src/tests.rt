@@ -8,7 +8,7 @@ ghost use Rattle.mq_mem.specs.Outsides.{AreNew};
 use crate::{Asked, Outcome, udp};
 use mq_addr::Addr;
 use mq_mem::{MemAcceptor, MemLink, MemOutside, MemSink, MemSource};
-use mq_target::{Host, Target};
+use mq_target::{Host, Name, Target};
 use mq_wire::{Bytes, NoMemory, Seq};
 use std::alloc::Global;
 use std::sync::Wait;
@@ -252,6 +252,14 @@ fn request(alloc: Global, addr: Addr, host: Host, port: u16) -> Result<String, F
     Ok(format!(in alloc; "{path} {host}")?)
 }
 
+/// The name that a text is.
+fn name(alloc: Global, text: &[u8]) -> Result<Name, Fail> {
+    match Name::of(alloc, text)? {
+        Some(name) => Ok(name),
+        None => Err(Fail::from("no name")),
+    }
+}
+
 #[test]
 fn a_target_stands_in_the_path(rt: HostRuntime) -> Result<(), Fail> {
     let cases = [
@@ -269,7 +277,7 @@ fn a_target_stands_in_the_path(rt: HostRuntime) -> Result<(), Fail> {
         ),
         (
             Addr::V4(1),
-            Host::Name(bytes(rt.alloc(), b"target.example-1.org")?),
+            Host::Name(name(rt.alloc(), b"target.example-1.org")?),
             1,
             "/.well-known/masque/udp/target.example-1.org/1/ 0.0.0.1:8080",
         ),

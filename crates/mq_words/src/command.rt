@@ -4,7 +4,7 @@ use mq_addr::Addr;
 use mq_target::Host;
 
 /// A client of a proxy, and what it asks for.
-#[derive(Drop)]
+#[derive(Debug, Drop)]
 pub struct UdpWords {
     /// Where the proxy is.
     pub addr: Addr,
@@ -19,7 +19,7 @@ pub struct UdpWords {
 }
 
 /// What words ask for.
-#[derive(Drop)]
+#[derive(Debug, Drop)]
 pub enum Command {
     /// A script is read and played.
     Replay,

@@ -1,6 +1,7 @@
 //! What a world answers.
 
 use mq_talk::Note;
+use thiserror::Error;
 
 /// What a world answers where the event names what was there.
 #[derive(Drop)]
@@ -17,11 +18,13 @@ pub enum Stepped {
 }
 
 /// Why nothing happened.
-#[derive(Clone, Copy, Debug, PartialEq, Eq)]
+#[derive(Clone, Copy, Debug, PartialEq, Eq, Error)]
 pub enum WorldFault {
     /// The event names what never was: an actor, a link or a tunnel for UDP; or it is a piece behind the end of its link, or
     /// one link too many.
+    #[error("nothing of that name is there, its link has ended, or there is no room for one more")]
     Missing,
     /// Memory for a new link, a piece, a datagram or a packet was refused.
+    #[error("memory ran out")]
     NoMemory,
 }

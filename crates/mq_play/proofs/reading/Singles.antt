@@ -17,7 +17,7 @@ use Rattle.mq_play.specs.Settings.{IsBlock, IsNamed, IsRoute, IsShare, IsTemplat
 use Rattle.mq_play.proofs.reading.Hexes.{hex_lacks, one_hex}
 use Rattle.mq_play.proofs.reading.Lacking.{class_lacks, holds_separator, is_visible, lacks_both, lacks_decimal, letterless, starless}
 use Rattle.mq_play.proofs.reading.Parted.{IsLacking, IsSingle, means_once, number_lacks, number_once, parted_once}
-use Rattle.mq_play.proofs.reading.Templates.{one_template}
+use Rattle.mq_target.proofs.Templates.{one_template}
 use Rattle.mq_play.proofs.reading.Texts.{one_text}
 
 -- ---- numbers

@@ -8,7 +8,6 @@ known c = record {
   silent = c.one_silent_turn.ensures;
   turn_or_quiet = c.turn_or_quiet.ensures;
   silent_or_quiet = c.silent_or_quiet.ensures;
-  brings = c.brings_once.ensures;
   answer = c.one_answer.ensures;
   says = c.one_saying.ensures;
 }

@@ -9,7 +9,7 @@ use Rattle.mq_target.specs.declared.shape.Order.TheVariants.{TargetFirst, Target
 use Rattle.mq_target.specs.Classes.{is_literal, is_name_byte, is_unreserved}
 use Rattle.mq_target.specs.Form.{AreLiterals}
 use Rattle.mq_target.specs.Template.{Shape, IsPair, IsPlain, IsTemplate, detail_name, first_name, pair_shape, second_name, target_name}
-use Rattle.mq_play.proofs.reading.Lacking.{class_lacks}
+use Rattle.mq_target.proofs.Bytes.{all_lack}
 
 -- names of variables have no brace, no comma and no question mark
 
@@ -40,27 +40,27 @@ detail_high kind.Udp = refl
 detail_high kind.Ip = refl
 
 first_closed : (k : Kind) (o : Order) → Lacks 125 (first_name k o)
-first_closed k TargetFirst = class_lacks is_low 125 (target_name k) refl (target_low k)
-first_closed k TargetLast = class_lacks is_low 125 (detail_name k) refl (detail_low k)
+first_closed k TargetFirst = all_lack is_low 125 (target_name k) refl (target_low k)
+first_closed k TargetLast = all_lack is_low 125 (detail_name k) refl (detail_low k)
 
 second_closed : (k : Kind) (o : Order) → Lacks 125 (second_name k o)
-second_closed k TargetFirst = class_lacks is_low 125 (detail_name k) refl (detail_low k)
-second_closed k TargetLast = class_lacks is_low 125 (target_name k) refl (target_low k)
+second_closed k TargetFirst = all_lack is_low 125 (detail_name k) refl (detail_low k)
+second_closed k TargetLast = all_lack is_low 125 (target_name k) refl (target_low k)
 
 first_plain : (k : Kind) (o : Order) → Lacks 63 (first_name k o)
-first_plain k TargetFirst = class_lacks is_high 63 (target_name k) refl (target_high k)
-first_plain k TargetLast = class_lacks is_high 63 (detail_name k) refl (detail_high k)
+first_plain k TargetFirst = all_lack is_high 63 (target_name k) refl (target_high k)
+first_plain k TargetLast = all_lack is_high 63 (detail_name k) refl (detail_high k)
 
 first_alone : (k : Kind) (o : Order) → Lacks 44 (first_name k o)
-first_alone k TargetFirst = class_lacks is_high 44 (target_name k) refl (target_high k)
-first_alone k TargetLast = class_lacks is_high 44 (detail_name k) refl (detail_high k)
+first_alone k TargetFirst = all_lack is_high 44 (target_name k) refl (target_high k)
+first_alone k TargetLast = all_lack is_high 44 (detail_name k) refl (detail_high k)
 
 no_opening : is_literal 123 ≡ false
 unfolding is_literal is_unreserved is_name_byte
 no_opening = refl
 
 literals_open : (text : List ℕ) → AreLiterals text → Lacks 123 text
-literals_open text h = class_lacks is_literal 123 text no_opening h
+literals_open text h = all_lack is_literal 123 text no_opening h
 
 -- the first name tells the order: `target_host` and `target_port` differ in their eighth letter, `target` and `ipproto` in their lengths
 
