@@ -3,7 +3,8 @@ ghost use Rattle.std.specs.Prelude.{◌≡◌, ◌++◌, ◌-◌, take, ℕ, Lis
 ghost use Rattle.mq_head.specs.Heads.{head_limit};
 ghost use Rattle.mq_client.specs.Answers.{IsWaiting, IsAnswer};
 
-use crate::front::{MAX_HEAD, decide};
+use crate::front::decide;
+use mq_head::MAX_HEAD;
 use mq_wire::NoMemory;
 use std::alloc::Global;
 

@@ -9,11 +9,9 @@ ghost use Rattle.mq_client.specs.Answers.{IsParsed, IsDecided};
 use crate::answer::Answer;
 use httparse::Status;
 use httparse::spans::{EMPTY_HEADER_SPAN, HeaderSpan, ResponseSpans, parse_response};
+use mq_head::MAX_HEAD;
 use mq_wire::NoMemory;
 use std::alloc::Global;
-
-/// The most bytes that a head may have.
-pub const MAX_HEAD: usize = 8192;
 
 /// The most fields that a head may have.
 const MAX_FIELDS: usize = 64;

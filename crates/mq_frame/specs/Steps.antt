@@ -33,3 +33,11 @@ Gives place bytes state (Some frame) = (front_of place bytes ≡ Some (frame, le
 -- a step took bytes of the piece, behind the first bytes of a frame
 pub record IsStep (place : Place) (bytes piece : List ℕ) (step : Step) : Type 0 where
   pub gives : Gives place (bytes ++ take step.used piece) step.state step.frame
+
+-- a step that took the whole piece, with which no frame is whole
+abbrev pub all_taken : State → List ℕ → Step
+all_taken s piece = record { state = s; frame = None; used = length piece }
+
+-- from whatever the state holds, a step of the piece leads there
+abbrev pub LeadsTo : Place → State → List ℕ → Step → Type 0
+LeadsTo place s piece step = (rest : List ℕ) → Holds s rest → IsStep place rest piece step

@@ -9,7 +9,7 @@ ghost use Rattle.mq_frame.specs.Told.{IsBounded};
 use super::frame::Frame;
 use super::place::Place;
 use super::state::State;
-use super::step::{Step, advance};
+use super::step::{Step, advance, take_in_place};
 use arrayvec::ArrayVec;
 use mq_wire::{NoMemory, Seq};
 use std::alloc::Global;
@@ -101,6 +101,9 @@ impl FrameReader {
         ensures some { IfOk result (λ used. (bytes : List ℕ) → Stands self.old bytes → 0 < length piece.now → 0 < used) }
         ensures went { IfOk result (λ used. Reads self.old self.new (take used piece.now) frames.old.items frames.new.items) }
     {
+        if take_in_place(&mut self.state, piece)? {
+            return Ok(piece.len());
+        }
         let state = mem::replace(&mut self.state, State::Spent);
         let Step { state, frame, used } = advance(alloc, self.place, state, piece)?;
         self.state = state;

@@ -1,8 +1,9 @@
 //! One step of reading: bytes of a piece, until a frame is whole or the piece ends.
 ghost use Rattle.std.specs.Prelude.{◌≡◌, ℕ, ◌<◌, ◌≤◌, List, [], length, drop, false, true, IfOk};
+ghost use Rattle.mq_frame.specs.declared.place.Place.{Place};
 ghost use Rattle.mq_frame.specs.Header.{header_of, is_skipped};
 ghost use Rattle.mq_frame.specs.Stream.{is_ended};
-ghost use Rattle.mq_frame.specs.Steps.{IsStep, IsBegun, Holds};
+ghost use Rattle.mq_frame.specs.Steps.{IsStep, IsBegun, Holds, LeadsTo, all_taken};
 
 use super::codes::{FRAME_SIZE_ERROR, MAX_FRAME_SIZE};
 use super::contents::{frame_at, frame_of};
@@ -30,7 +31,7 @@ pub fn advance(alloc: Global, place: Place, state: State, piece: &[u8]) -> Resul
     requires { is_ended place ≡ false }
     ensures within { IfOk result (λ s. s.used ≤ length piece.now) }
     ensures some { IfOk result (λ s. (rest : List ℕ) → Holds state rest → 0 < length piece.now → 0 < s.used) }
-    ensures gives { IfOk result (λ s. (rest : List ℕ) → Holds state rest → IsStep place rest piece.now s) }
+    ensures gives { IfOk result (λ s. LeadsTo place state piece.now s) }
 {
     match state {
         State::Head { bytes } => read_head(alloc, place, bytes, piece),
@@ -41,6 +42,32 @@ pub fn advance(alloc: Global, place: Place, state: State, piece: &[u8]) -> Resul
         } => read_contents(alloc, place, header, bytes, missing, piece),
         State::Skip { header, missing } => skip_contents(alloc, place, header, missing, piece),
         State::Spent => Err(NoMemory),
+    }
+}
+
+/// Takes the whole piece into the state where it stands, if more bytes of the contents are missing than the piece has, and
+/// tells whether it did. A stream that comes by the byte would pay for a move of the state at each.
+pub fn take_in_place(state: &mut State, piece: &[u8]) -> Result<bool, NoMemory>
+    ensures takes { IfOk result (λ taken. taken ≡ true → (place : Place) → LeadsTo place state.old piece.now (all_taken state.new piece.now)) }
+    ensures leaves { IfOk result (λ taken. taken ≡ false → state.new ≡ state.old) }
+{
+    match state {
+        State::Contents { bytes, missing, .. } => {
+            if piece.len() >= *missing {
+                return Ok(false);
+            }
+            bytes.extend_from_slice(piece)?;
+            *missing -= piece.len();
+            Ok(true)
+        }
+        State::Skip { missing, .. } => {
+            if piece.len() >= *missing {
+                return Ok(false);
+            }
+            *missing -= piece.len();
+            Ok(true)
+        }
+        State::Head { .. } | State::Spent => Ok(false),
     }
 }
 

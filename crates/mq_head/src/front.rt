@@ -14,7 +14,7 @@ use httparse::spans::{EMPTY_HEADER_SPAN, HeaderSpan, RequestSpans, parse_request
 use mq_wire::{Bytes, NoMemory};
 use std::alloc::Global;
 
-/// The most bytes that a head may have.
+/// The most bytes that a head may have, of a request and of its answer.
 pub const MAX_HEAD: usize = 8192;
 
 /// What stands at the front of the bytes.

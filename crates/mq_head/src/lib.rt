@@ -16,6 +16,7 @@ mod step;
 mod target;
 
 pub use answers::{refusal, success};
+pub use front::MAX_HEAD;
 pub use laws::{head_stands, head_waits, one_answer, reader_waits, refusal_stays, upgrade_stays};
 pub use mq_addr::Kind;
 pub use reader::HeadReader;

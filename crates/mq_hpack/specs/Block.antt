@@ -28,7 +28,8 @@ Takes p x (Err fault) = IsTaken x.0 p.table p.table p.fields p.fields p.total (E
 abbrev pub IsStep : Progress → Result Progress HpackFault → Type 0
 IsStep p r = Then (IsRepresentation p.table p.total p.left) (Takes p) r
 
--- So many steps and then the end, or a fault in the last of them. It comes to the fields and the table after them.
+-- So many representations and then the end, which comes to the fields and the table after them; or at most so many, the
+-- last of them with a fault, which it comes to.
 abbrev pub IsBlock : ℕ → Progress → Result (List Field × Table) HpackFault → Type 0
 IsBlock zero p r = (p.left ≡ []) × (r ≡ Ok (p.fields, p.table))
 IsBlock (suc k) p r = (p.left ≢ []) × Then (IsStep p) (IsBlock k) r

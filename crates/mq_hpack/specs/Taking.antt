@@ -1,4 +1,5 @@
--- What a representation that was read does: to the fields so far, to what they count, and to the table.
+-- What a representation that was read does: to the fields so far and to the table (RFC 7541, sections 3.2 and 6), and to
+-- what the fields count (RFC 9113, section 6.5.2).
 use Rattle.std.specs.Prelude.{◌≡◌, ℕ, ◌+◌, ◌<◌, ◌≤◌, List, [], ◌∷◌, ◌++◌, Result, Ok, Err}
 use Rattle.mq_hpack.specs.declared.fault.HpackFault.{HpackFault}
 use Rattle.mq_hpack.specs.declared.fault.HpackFault.TheVariants.{TooLarge}

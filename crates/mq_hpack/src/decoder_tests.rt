@@ -311,7 +311,7 @@ fn a_fault_says_what_it_is(rt: HostRuntime) -> Result<(), Fail> {
         (HpackFault::Index, "an index has no field in the table"),
         (
             HpackFault::Integer,
-            "an integer is too large, or is not whole",
+            "an integer is too large, has too many bytes, or is not whole",
         ),
         (
             HpackFault::Text,

@@ -10,7 +10,7 @@ pub enum HpackFault {
     #[error("an index has no field in the table")]
     Index,
     /// An integer above 2^32 - 1, with more than five further bytes, or that isn't whole.
-    #[error("an integer is too large, or is not whole")]
+    #[error("an integer is too large, has too many bytes, or is not whole")]
     Integer,
     /// A string that is longer than the rest of the block, or a fault of its Huffman code.
     #[error("a string is not whole, or has a fault of its Huffman code")]

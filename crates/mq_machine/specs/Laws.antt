@@ -1,5 +1,5 @@
 -- What is one, whatever the state.
-use Rattle.std.specs.Prelude.{slice_get, ◌≡◌, ⊤, ℕ, true, List, [], ◌∷◌, Option, Some, Result}
+use Rattle.std.specs.Prelude.{◌≡◌, ⊤, ℕ, true, List, [], ◌∷◌, Option, Some, Result}
 use Rattle.mq_wire.specs.declared.NoMemory.{NoMemory}
 use Rattle.mq_talk.specs.declared.book.Call.{Call}
 use Rattle.mq_talk.specs.declared.book.Reply.{Reply}

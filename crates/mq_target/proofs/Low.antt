@@ -7,7 +7,7 @@ use Rattle.std.proofs.lemmas.Str.Ascii.{lowercase-lowercase}
 use Rattle.std.specs.List.{list_all}
 use Rattle.std.specs.Char.{to_ascii_lowercase}
 use Rattle.mq_target.specs.Classes.{is_name_byte}
-use Rattle.mq_target.specs.Names.{IsName, IsLowName}
+use Rattle.mq_target.specs.Names.{IsName, IsLowercaseName}
 
 low_byte : (b : ℕ) → is_name_byte b ≡ true → is_name_byte (to_ascii_lowercase b) ≡ true
 unfolding is_name_byte
@@ -25,7 +25,7 @@ lowered_again (b ∷ text) =
     ap (λ (c : ℕ). c ∷ map to_ascii_lowercase (map to_ascii_lowercase text)) (lowercase-lowercase b)
     ∙ ap (λ (bs : List ℕ). to_ascii_lowercase b ∷ bs) (lowered_again text)
 
-pub low_name : (text : List ℕ) → IsName text → IsLowName (map to_ascii_lowercase text)
+pub low_name : (text : List ℕ) → IsName text → IsLowercaseName (map to_ascii_lowercase text)
 low_name text h = record {
   form = record {
     some = rw (length-map text to_ascii_lowercase) h.some;

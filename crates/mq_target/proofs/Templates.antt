@@ -1,5 +1,5 @@
--- A text is one template of its kind.
-use Rattle.std.proofs.Common.{◌≡◌, ℕ, Bool, true, false, ◌==◌, List, [], ◌∷◌, ◌++◌, length, get_or, nat_lt, refl, sym, ◌∙◌, ap, subst, arith, if◌then◌else◌, inl, inr}
+-- A text is one template.
+use Rattle.std.proofs.Common.{◌≡◌, ℕ, Bool, true, false, ◌==◌, ◌||◌, List, [], ◌∷◌, ◌++◌, length, get_or, nat_lt, refl, sym, ◌∙◌, ap, arith, if◌then◌else◌, inl, inr}
 use Rattle.std.specs.List.{list_all}
 use Rattle.mq_text.specs.Cut.{Lacks, IsCut, IsCutOnce}
 use Rattle.mq_addr.specs.declared.kind.Kind.{Kind}
@@ -62,100 +62,112 @@ no_opening = refl
 literals_open : (text : List ℕ) → AreLiterals text → Lacks 123 text
 literals_open text h = all_lack is_literal 123 text no_opening h
 
--- the first name tells the order: `target_host` and `target_port` differ in their eighth letter, `target` and `ipproto` in their lengths
+-- the first name tells the kind and the order: `target_host` and `target_port` differ in their eighth letter, and `target` and
+-- `ipproto` are shorter, each by its own length
 
-abbrev order_by : Kind → List ℕ → Order
-order_by kind.Udp name = if get_or name 7 0 == 104 then TargetFirst else TargetLast
-order_by kind.Ip name = if length name == 6 then TargetFirst else TargetLast
+abbrev kind_by : List ℕ → Kind
+kind_by name = if length name == 11 then kind.Udp else kind.Ip
 
-order_back : (k : Kind) (o : Order) → order_by k (first_name k o) ≡ o
+abbrev order_by : List ℕ → Order
+order_by name = if get_or name 7 0 == 104 || length name == 6 then TargetFirst else TargetLast
+
+kind_back : (k : Kind) (o : Order) → kind_by (first_name k o) ≡ k
+unfolding target_name detail_name
+kind_back kind.Udp TargetFirst = refl
+kind_back kind.Udp TargetLast = refl
+kind_back kind.Ip TargetFirst = refl
+kind_back kind.Ip TargetLast = refl
+
+order_back : (k : Kind) (o : Order) → order_by (first_name k o) ≡ o
 unfolding target_name detail_name
 order_back kind.Udp TargetFirst = refl
 order_back kind.Udp TargetLast = refl
 order_back kind.Ip TargetFirst = refl
 order_back kind.Ip TargetLast = refl
 
-one_order : (k : Kind) (a b : Order) → first_name k a ≡ first_name k b → a ≡ b
-one_order k a b e = sym (order_back k a) ∙ ap (order_by k) e ∙ order_back k b
+one_kind : (k l : Kind) (a b : Order) → first_name k a ≡ first_name l b → k ≡ l
+one_kind k l a b e = sym (kind_back k a) ∙ ap kind_by e ∙ kind_back l b
 
--- a template of this kind
+one_order : (k l : Kind) (a b : Order) → first_name k a ≡ first_name l b → a ≡ b
+one_order k l a b e = sym (order_back k a) ∙ ap order_by e ∙ order_back l b
+
+-- a template with these parts
 abbrev shape_of : Kind → Order → List ℕ → List ℕ → List ℕ → Shape
 shape_of k order before between after = record { kind = k; order = order; before = before; between = between; after = after }
 
-same_shape : (k : Kind) (oa ob : Order) (ba bb ma mb aa ab : List ℕ) → oa ≡ ob → ba ≡ bb → ma ≡ mb → aa ≡ ab → shape_of k oa ba ma aa ≡ shape_of k ob bb mb ab
-same_shape k oa ob ba bb ma mb aa ab o b m a =
-    ap (λ (x : Order). shape_of k x ba ma aa) o ∙ ap (λ (x : List ℕ). shape_of k ob x ma aa) b
-    ∙ ap (λ (x : List ℕ). shape_of k ob bb x aa) m ∙ ap (λ (x : List ℕ). shape_of k ob bb mb x) a
+same_shape : (a b : Shape) → a.kind ≡ b.kind → a.order ≡ b.order → a.before ≡ b.before → a.between ≡ b.between → a.after ≡ b.after → a ≡ b
+same_shape a b k o f m l =
+    ap (λ (x : Kind). shape_of x a.order a.before a.between a.after) k ∙ ap (λ (x : Order). shape_of b.kind x a.before a.between a.after) o
+    ∙ ap (λ (x : List ℕ). shape_of b.kind b.order x a.between a.after) f ∙ ap (λ (x : List ℕ). shape_of b.kind b.order b.before x a.after) m
+    ∙ ap (λ (x : List ℕ). shape_of b.kind b.order b.before b.between x) l
 
-plain_plain : IsCutOnce → (k : Kind) (text : List ℕ) (oa ob : Order) (ba bb ma mb aa ab : List ℕ) → IsPlain text (shape_of k oa ba ma aa) → IsPlain text (shape_of k ob bb mb ab)
-    → shape_of k oa ba ma aa ≡ shape_of k ob bb mb ab
-plain_plain once k text oa ob ba bb ma mb aa ab h g =
-    let last_a = second_name k oa ++ 125 ∷ aa in
-    let last_b = second_name k ob ++ 125 ∷ ab in
-    let rest_a = ma ++ 123 ∷ last_a in
-    let rest_b = mb ++ 123 ∷ last_b in
-    let tail_a = first_name k oa ++ 125 ∷ rest_a in
-    let tail_b = first_name k ob ++ 125 ∷ rest_b in
-    let open_a : IsCut 123 text ba tail_a = record { is = h.is; first = literals_open ba h.start.1 } in
-    let open_b : IsCut 123 text bb tail_b = record { is = g.is; first = literals_open bb g.start.1 } in
-    let one = once 123 text ba tail_a bb tail_b open_a open_b in
-    let close_a : IsCut 125 tail_a (first_name k oa) rest_a = record { is = refl; first = first_closed k oa } in
-    let close_b : IsCut 125 tail_a (first_name k ob) rest_b = record { is = one.1; first = first_closed k ob } in
-    let two = once 125 tail_a (first_name k oa) rest_a (first_name k ob) rest_b close_a close_b in
-    let again_a : IsCut 123 rest_a ma last_a = record { is = refl; first = literals_open ma h.around.between_literals } in
-    let again_b : IsCut 123 rest_a mb last_b = record { is = two.1; first = literals_open mb g.around.between_literals } in
-    let three = once 123 rest_a ma last_a mb last_b again_a again_b in
-    let end_a : IsCut 125 last_a (second_name k oa) aa = record { is = refl; first = second_closed k oa } in
-    let end_b : IsCut 125 last_a (second_name k ob) ab = record { is = three.1; first = second_closed k ob } in
-    let four = once 125 last_a (second_name k oa) aa (second_name k ob) ab end_a end_b in
-    same_shape k oa ob ba bb ma mb aa ab (one_order k oa ob two.0) one.0 three.0 four.1
+plain_plain : IsCutOnce → (text : List ℕ) (a b : Shape) → IsPlain text a → IsPlain text b → a ≡ b
+plain_plain once text a b h g =
+    let first_a = first_name a.kind a.order in
+    let first_b = first_name b.kind b.order in
+    let second_a = second_name a.kind a.order in
+    let second_b = second_name b.kind b.order in
+    let last_a = second_a ++ 125 ∷ a.after in
+    let last_b = second_b ++ 125 ∷ b.after in
+    let rest_a = a.between ++ 123 ∷ last_a in
+    let rest_b = b.between ++ 123 ∷ last_b in
+    let tail_a = first_a ++ 125 ∷ rest_a in
+    let tail_b = first_b ++ 125 ∷ rest_b in
+    let open_a : IsCut 123 text a.before tail_a = record { is = h.is; first = literals_open a.before h.start.1 } in
+    let open_b : IsCut 123 text b.before tail_b = record { is = g.is; first = literals_open b.before g.start.1 } in
+    let one = once 123 text a.before tail_a b.before tail_b open_a open_b in
+    let close_a : IsCut 125 tail_a first_a rest_a = record { is = refl; first = first_closed a.kind a.order } in
+    let close_b : IsCut 125 tail_a first_b rest_b = record { is = one.1; first = first_closed b.kind b.order } in
+    let two = once 125 tail_a first_a rest_a first_b rest_b close_a close_b in
+    let again_a : IsCut 123 rest_a a.between last_a = record { is = refl; first = literals_open a.between h.around.between_literals } in
+    let again_b : IsCut 123 rest_a b.between last_b = record { is = two.1; first = literals_open b.between g.around.between_literals } in
+    let three = once 123 rest_a a.between last_a b.between last_b again_a again_b in
+    let end_a : IsCut 125 last_a second_a a.after = record { is = refl; first = second_closed a.kind a.order } in
+    let end_b : IsCut 125 last_a second_b b.after = record { is = three.1; first = second_closed b.kind b.order } in
+    let four = once 125 last_a second_a a.after second_b b.after end_a end_b in
+    same_shape a b (one_kind a.kind b.kind a.order b.order two.0) (one_order a.kind b.kind a.order b.order two.0) one.0 three.0 four.1
 
 no_mark : (name rest more : List ℕ) → Lacks 63 name → name ++ 125 ∷ rest ≡ 63 ∷ more → ⊥
 no_mark [] rest more h e = let head : 125 ≡ 63 = ap (λ (xs : List ℕ). get_or xs 0 0) e in absurd (omega (arith, head))
 no_mark (b ∷ name) rest more h e = h.0 (ap (λ (xs : List ℕ). get_or xs 0 0) e)
 
-plain_pair : IsCutOnce → (k : Kind) (text : List ℕ) (oa ob : Order) (ba bb ma mb aa ab : List ℕ) → IsPlain text (shape_of k oa ba ma aa) → IsPair text (shape_of k ob bb mb ab) → ⊥
-plain_pair once k text oa ob ba bb ma mb aa ab h g =
-    let rest_a = ma ++ 123 ∷ (second_name k oa ++ 125 ∷ aa) in
-    let tail_a = first_name k oa ++ 125 ∷ rest_a in
-    let more = first_name k ob ++ 44 ∷ (second_name k ob ++ 125 ∷ []) in
-    let open_a : IsCut 123 text ba tail_a = record { is = h.is; first = literals_open ba h.start.1 } in
+plain_pair : IsCutOnce → (text : List ℕ) (a b : Shape) → IsPlain text a → IsPair text b → ⊥
+plain_pair once text a b h g =
+    let first_a = first_name a.kind a.order in
+    let rest_a = a.between ++ 123 ∷ (second_name a.kind a.order ++ 125 ∷ a.after) in
+    let tail_a = first_a ++ 125 ∷ rest_a in
+    let more = first_name b.kind b.order ++ 44 ∷ (second_name b.kind b.order ++ 125 ∷ []) in
+    let open_a : IsCut 123 text a.before tail_a = record { is = h.is; first = literals_open a.before h.start.1 } in
     let open_b : IsCut 123 text g.front (63 ∷ more) = record { is = g.is; first = literals_open g.front g.start.1 } in
-    let one = once 123 text ba tail_a g.front (63 ∷ more) open_a open_b in
-    no_mark (first_name k oa) rest_a more (first_plain k oa) one.1
+    let one = once 123 text a.before tail_a g.front (63 ∷ more) open_a open_b in
+    no_mark first_a rest_a more (first_plain a.kind a.order) one.1
 
 abbrev tail_of : List ℕ → List ℕ
 tail_of [] = []
 tail_of (b ∷ bs) = bs
 
-pair_pair : IsCutOnce → (k : Kind) (text : List ℕ) (oa ob : Order) (ba bb ma mb aa ab : List ℕ) → IsPair text (shape_of k oa ba ma aa) → IsPair text (shape_of k ob bb mb ab)
-    → shape_of k oa ba ma aa ≡ shape_of k ob bb mb ab
-pair_pair once k text oa ob ba bb ma mb aa ab h g =
-    let last_a = second_name k oa ++ 125 ∷ [] in
-    let last_b = second_name k ob ++ 125 ∷ [] in
-    let more_a = first_name k oa ++ 44 ∷ last_a in
-    let more_b = first_name k ob ++ 44 ∷ last_b in
+pair_pair : IsCutOnce → (text : List ℕ) (a b : Shape) → IsPair text a → IsPair text b → a ≡ b
+pair_pair once text a b h g =
+    let first_a = first_name a.kind a.order in
+    let first_b = first_name b.kind b.order in
+    let last_a = second_name a.kind a.order ++ 125 ∷ [] in
+    let last_b = second_name b.kind b.order ++ 125 ∷ [] in
+    let more_a = first_a ++ 44 ∷ last_a in
+    let more_b = first_b ++ 44 ∷ last_b in
     let open_a : IsCut 123 text h.front (63 ∷ more_a) = record { is = h.is; first = literals_open h.front h.start.1 } in
     let open_b : IsCut 123 text g.front (63 ∷ more_b) = record { is = g.is; first = literals_open g.front g.start.1 } in
     let one = once 123 text h.front (63 ∷ more_a) g.front (63 ∷ more_b) open_a open_b in
     let more_is : more_a ≡ more_b = ap tail_of one.1 in
-    let comma_a : IsCut 44 more_a (first_name k oa) last_a = record { is = refl; first = first_alone k oa } in
-    let comma_b : IsCut 44 more_a (first_name k ob) last_b = record { is = more_is; first = first_alone k ob } in
-    let two = once 44 more_a (first_name k oa) last_a (first_name k ob) last_b comma_a comma_b in
-    let order_is = one_order k oa ob two.0 in
-    h.means ∙ ap (λ (o : Order). pair_shape k o h.front) order_is ∙ ap (λ (front : List ℕ). pair_shape k ob front) one.0 ∙ sym g.means
+    let comma_a : IsCut 44 more_a first_a last_a = record { is = refl; first = first_alone a.kind a.order } in
+    let comma_b : IsCut 44 more_a first_b last_b = record { is = more_is; first = first_alone b.kind b.order } in
+    let two = once 44 more_a first_a last_a first_b last_b comma_a comma_b in
+    let kind_is = one_kind a.kind b.kind a.order b.order two.0 in
+    let order_is = one_order a.kind b.kind a.order b.order two.0 in
+    h.means ∙ ap (λ (k : Kind). pair_shape k a.order h.front) kind_is ∙ ap (λ (o : Order). pair_shape b.kind o h.front) order_is
+    ∙ ap (λ (front : List ℕ). pair_shape b.kind b.order front) one.0 ∙ sym g.means
 
-one_shape : IsCutOnce → (k : Kind) (text : List ℕ) (oa ob : Order) (ba bb ma mb aa ab : List ℕ) → IsTemplate text (shape_of k oa ba ma aa) → IsTemplate text (shape_of k ob bb mb ab)
-    → shape_of k oa ba ma aa ≡ shape_of k ob bb mb ab
-one_shape once k text oa ob ba bb ma mb aa ab (inl h) (inl g) = plain_plain once k text oa ob ba bb ma mb aa ab h g
-one_shape once k text oa ob ba bb ma mb aa ab (inl h) (inr g) = absurd (plain_pair once k text oa ob ba bb ma mb aa ab h g)
-one_shape once k text oa ob ba bb ma mb aa ab (inr h) (inl g) = absurd (plain_pair once k text ob oa bb ba mb ma ab aa g h)
-one_shape once k text oa ob ba bb ma mb aa ab (inr h) (inr g) = pair_pair once k text oa ob ba bb ma mb aa ab h g
-
-of_kind : (k : Kind) (text : List ℕ) (shape : Shape) → IsTemplate text shape → shape.kind ≡ k → IsTemplate text (shape_of k shape.order shape.before shape.between shape.after)
-of_kind k text shape is kind_is = subst (λ (other : Kind). IsTemplate text (shape_of other shape.order shape.before shape.between shape.after)) kind_is is
-
-pub one_template : IsCutOnce → (k : Kind) (text : List ℕ) (a b : Shape) → IsTemplate text a → a.kind ≡ k → IsTemplate text b → b.kind ≡ k → a ≡ b
-one_template once k text a b is_a kind_a is_b kind_b =
-    let same = one_shape once k text a.order b.order a.before b.before a.between b.between a.after b.after (of_kind k text a is_a kind_a) (of_kind k text b is_b kind_b) in
-    ap (λ (other : Kind). shape_of other a.order a.before a.between a.after) kind_a ∙ same ∙ sym (ap (λ (other : Kind). shape_of other b.order b.before b.between b.after) kind_b)
+pub one_template : IsCutOnce → (text : List ℕ) (a b : Shape) → IsTemplate text a → IsTemplate text b → a ≡ b
+one_template once text a b (inl h) (inl g) = plain_plain once text a b h g
+one_template once text a b (inl h) (inr g) = absurd (plain_pair once text a b h g)
+one_template once text a b (inr h) (inl g) = absurd (plain_pair once text b a g h)
+one_template once text a b (inr h) (inr g) = pair_pair once text a b h g

@@ -24,9 +24,9 @@ HasOneReading = (shape : Shape) (path : List ℕ) (a b : Matched) → Matches sh
 abbrev pub HasOneHost : Type 0
 HasOneHost = (text : List ℕ) (a b : Host) → IsHost text a → IsHost text b → a ≡ b
 
--- a text is at most one template of its kind
+-- a text is at most one template: its first variable tells its kind
 abbrev pub HasOneTemplate : Type 0
-HasOneTemplate = (text : List ℕ) (a b : Shape) → IsTemplate text a → IsTemplate text b → a.kind ≡ b.kind → a ≡ b
+HasOneTemplate = (text : List ℕ) (a b : Shape) → IsTemplate text a → IsTemplate text b → a ≡ b
 
 -- an escaped value has unreserved bytes and those of escapes, `%` and hex digits, alone (RFC 3986, section 2.1)
 pub record IsEscaped (text value : List ℕ) : Type 0 where
@@ -54,7 +54,8 @@ abbrev pub TargetFits : Target → Type 0
 TargetFits (target.Udp host port) = HostFits host × (port < 2 ^ 16)
 TargetFits (target.Ip area protocol) = AreaFits area × ProtocolFits protocol
 
--- the path of a target is read as that target, where a delimiter follows each variable that something follows, as in each template that a text is
+-- the path of a target is read as that target, where a delimiter follows each variable behind which something follows, as in each
+-- template that a text is
 abbrev pub IsReadAgain : Type 0
 IsReadAgain = (shape : Shape) (target : Target) → begins is_delimiter shape.between ≡ true → ends_or_begins is_delimiter shape.after ≡ true
     → TargetFits target → Suits shape.kind target → Matches shape (expanded shape target) (Yes target)

@@ -11,6 +11,6 @@ pub record IsName (text : List ℕ) : Type 0 where
   pub bytes : list_all is_name_byte text ≡ true
 
 -- such a name in lower case
-pub record IsLowName (name : List ℕ) : Type 0 where
+pub record IsLowercaseName (name : List ℕ) : Type 0 where
   pub form : IsName name
   pub lower : map to_ascii_lowercase name ≡ name

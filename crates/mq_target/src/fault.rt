@@ -1,9 +1,9 @@
-//! Why a text is no template.
+//! Why `Template::parse` gave no template.
 use mq_wire::NoMemory;
 use std::alloc::AllocError;
 use thiserror::Error;
 
-/// Why a text is no template of a kind.
+/// Why `parse` gave no template of a kind: of the text, or for want of memory.
 #[derive(Clone, Copy, Debug, PartialEq, Eq, Error)]
 pub enum TemplateFault {
     /// The text hasn't the form of a template.

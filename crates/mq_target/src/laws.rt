@@ -25,7 +25,8 @@ pub fn values_are_escaped()
     ensures { AreEscaped }
 {}
 
-/// The path of a target is read as that target.
+/// The path of a target is read as that target, by any template in which a delimiter follows each variable behind which
+/// something follows, as in each that a text is.
 pub fn expanded_again()
     ensures { IsReadAgain }
 {
@@ -33,7 +34,7 @@ pub fn expanded_again()
     printed_again();
 }
 
-/// A text is at most one template of its kind.
+/// A text is at most one template, whatever its kind.
 pub fn one_template()
     ensures { HasOneTemplate }
 {

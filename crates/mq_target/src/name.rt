@@ -1,10 +1,10 @@
 //! Names of hosts.
-ghost use Rattle.std.specs.Prelude.{◌≡◌, ℕ, ◌≤◌, ◌↔◌, IsTrue, IfOk, OnErr, MatchOption, List, length, map, nat_eq};
+ghost use Rattle.std.specs.Prelude.{◌≡◌, ◌↔◌, IsTrue, IfOk, OnErr, MatchOption, map, nat_eq};
 ghost use Rattle.std.specs.Char.{to_ascii_lowercase};
 ghost use Rattle.std.specs.Cmp.Lexicographic.{pointwise};
 ghost use Rattle.std.specs.Cmp.Rules.{comparing};
 ghost use Rattle.std.proofs.Common.{rules};
-ghost use Rattle.mq_target.specs.Names.{IsLowName, IsName};
+ghost use Rattle.mq_target.specs.Names.{IsLowercaseName, IsName};
 
 use crate::classes::are_name_bytes;
 use mq_wire::{Bytes, NoMemory};
@@ -25,11 +25,11 @@ impl Model for Name {
 
     ghost Value = { List ℕ };
 
-    ghost use Rattle.mq_target.specs.Names.{IsLowName};
+    ghost use Rattle.mq_target.specs.Names.{IsLowercaseName};
 
     ghost view = { λ name. name.text };
 
-    ghost invariant = { λ name. IsLowName name.text };
+    ghost invariant = { λ name. IsLowercaseName name.text };
 }
 
 impl Name {
@@ -46,18 +46,10 @@ impl Name {
         Ok(Some(Name { text }))
     }
 
-    /// An equal name.
-    pub fn copy(&self, alloc: Global) -> Result<Name, NoMemory>
-        ensures { IfOk result (λ copy. copy ≡ self.now) }
-    {
-        let text = Bytes::copy_of(alloc, self.text.as_slice())?;
-        Ok(Name { text })
-    }
-
     /// The bytes of the name.
     pub fn as_slice(&self) -> &[u8]
         ensures same { result.now ≡ self.now }
-        ensures form { IsLowName result.now }
+        ensures form { IsLowercaseName result.now }
     {
         self.text.as_slice()
     }

@@ -1,5 +1,5 @@
 //! What a client asks of which proxy.
-ghost use Rattle.std.specs.Prelude.{◌≡◌, ℕ, ◌+◌, ◌≤◌, ◌++◌, List, length, IfOk, OnOk};
+ghost use Rattle.std.specs.Prelude.{◌≡◌, ℕ, ◌+◌, ◌≤◌, ◌++◌, length, IfOk, OnOk};
 ghost use Rattle.mq_client.specs.Requests.{AreVisible, target_limit};
 ghost use Rattle.mq_target.specs.declared.target.Host.{Host};
 ghost use Rattle.mq_target.specs.declared.target.Target.TheVariants as to;
