@@ -10,7 +10,7 @@ use Rattle.mq_talk.specs.declared.book.Entry.{Entry}
 use Rattle.mq_talk.specs.declared.note.Note.{Note}
 use Rattle.mq_talk.specs.declared.place.Parcel.{Parcel}
 use Rattle.mq_talk.specs.Answers.{IsLegal}
-use Rattle.mq_talk.specs.Mails.{Boxes, IsTold}
+use Rattle.mq_talk.specs.Mails.{Boxes, IsTold, Inboxes}
 use Rattle.mq_machine.specs.Placing.{ArePlaced}
 use Rattle.mq_machine.specs.State.{Conn, Held, Offer, Worker, Tunnel, Orders, Shared}
 use Rattle.mq_machine.specs.Steps.{starved}
@@ -129,8 +129,8 @@ module _ {L Q : Type 0} (words : Words L Q) (r m : Ring L) (old mid new : Moment
   seat_is : slice_get (seats_of x) (place + 2) ≡ Some (Of number)
   seat_is = seat_at x place acting.s acting.at_is
 
-  box_was : WasInbox old.boxes x.id so.box
-  box_was = was_inbox old.boxes so.mail.boxes x.id so.box so.mail.told (ap (λ (k : ℕ). slice_get so.mail.boxes k) is.id ∙ so.mail.at)
+  box_was : WasInbox old.boxes.told x.id so.box
+  box_was = was_inbox old.boxes.told so.mail.boxes x.id so.box so.mail.told (ap (λ (k : ℕ). slice_get so.mail.boxes k) is.id ∙ so.mail.at)
 
   fits : (found : Found) → HeldFits o n (filled o found acting.s) → worker_fits o n (refill o number found x)
   fits found here_fits = faults_refilled o n number found x (λ h has same. All-contains P x.conns h (all_at P x.conns each) has same) where
@@ -482,7 +482,7 @@ module _ {L Q : Type 0} (words : Words L Q) (r m : Ring L) (old mid new : Moment
               tunnels = d.tunnels;
               has = held_is o x d.found place acting.s apart acting.at_is;
               tries = d.is;
-              alive = d.alive;
+              takes = d.takes;
               leaves = d.leaves;
               heard = d.heard;
               new_is = ap (λ (cs : List Held). record (refill o number d.found x) { conns = cs }) (same ∙ ap (λ (h : Held). replace number (Some h) (refill o number d.found x).conns) d.then);

@@ -3,7 +3,7 @@ use Rattle.std.proofs.Common.{◌≡◌, ◌≢◌, ◌⊎◌, inl, inr, ℕ, ze
 use Rattle.std.proofs.lemmas.List.Elements.{All-contains_itself}
 use Rattle.slab.specs.Slab.{Slab}
 use Rattle.mq_talk.specs.declared.note.End.{End}
-use Rattle.mq_talk.specs.Mails.{Boxes}
+use Rattle.mq_talk.specs.Mails.{Inboxes}
 use Rattle.mq_talk.specs.Offices.{Seen, Sees}
 use Rattle.mq_machine.specs.State.{Conn, Held, Port, Tunnel, Shared, Worker}
 use Rattle.mq_machine.specs.Acting.{Outside, Known, IsOpen}
@@ -86,7 +86,7 @@ was_or_new c sh ts after i t (inr (inr (inr tells))) at =
 
 -- ---- no two connections
 
-module _ (x : Worker) (o : Outside) (seen : Seen) (boxes : Option Boxes) (known : Known (sight o seen boxes) x) (apart : AreApart x.conns) where
+module _ (x : Worker) (o : Outside) (seen : Seen) (boxes : Inboxes) (known : Known (sight o seen boxes) x) (apart : AreApart x.conns) where
   pub open_of : (i k : ℕ) (s : Held) (v : Tunnel) → slice_get x.conns i ≡ Some s → slice_get s.conn.tunnels k ≡ Some v → IsOpen seen.entries x.id v.id s.conn.number v.stream v.goal
   open_of i k s v at at_v =
       let C : Tunnel → Type 0 = λ u. Contains s.conn.tunnels u in

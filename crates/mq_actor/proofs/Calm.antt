@@ -9,7 +9,7 @@ use Rattle.mq_talk.specs.declared.book.Entry.{Entry}
 use Rattle.mq_talk.specs.declared.note.Note.{Note}
 use Rattle.mq_talk.specs.declared.note.Note.TheVariants as note
 use Rattle.mq_talk.specs.declared.place.Parcel.{Parcel}
-use Rattle.mq_talk.specs.Mails.{Boxes, IsTold, PopGives}
+use Rattle.mq_talk.specs.Mails.{Boxes, IsTold, PopGives, Inboxes, MailMoves}
 use Rattle.mq_talk.specs.Offices.{Seen, IsSame}
 use Rattle.mq_machine.specs.declared.act.Due.{Due}
 use Rattle.mq_machine.specs.Placing.{ArePlaced}
@@ -52,6 +52,7 @@ use Rattle.mq_actor.proofs.SoFar.{Vain, SoFar, Covers}
 use Rattle.mq_actor.proofs.Tunnels.{known_same, known_accepted, known_goes}
 use Rattle.mq_actor.proofs.Writing.{writes_nothing}
 use Rattle.mq_actor.proofs.Turning.{turn_is, no_turn, before_waited, offers_can, all_waited}
+use Rattle.mq_talk.proofs.Mails.{nothing_moved, pop_moved}
 
 module _ {L Q : Type 0} (words : Words L Q) (r m s : Ring L) (old mid : Moment L Q) (count : ℕ)
     (tried : Tried) (offers_tried inbox_tried : Type 0) (so : SoFar words r m old mid count tried offers_tried inbox_tried)
@@ -132,9 +133,9 @@ module _ {L Q : Type 0} (words : Words L Q) (r m s : Ring L) (old mid : Moment L
   abbrev shared : Orders → Boxes → Shared
   shared orders b = record { config = old.seen.config; book = old.seen.entries; boxes = b; orders = orders }
 
-  meets : (orders : Orders) (after : Option Boxes) (b c : Boxes) → IsTold old.boxes b → length b ≡ count → IsTold after c
+  meets : (orders : Orders) (after : Inboxes) (b c : Boxes) → IsTold old.boxes.told b → length b ≡ count → IsTold after.told c → MailMoves old.boxes after b c
       → Meets orders (sight o old.seen old.boxes) (sight n mid.seen after) (shared orders b) (shared orders c)
-  meets orders after b c told size tells = record {
+  meets orders after b c told size tells moves = record {
     config = refl;
     same = same_seen;
     book = sees_same old.seen;
@@ -142,18 +143,19 @@ module _ {L Q : Type 0} (words : Words L Q) (r m s : Ring L) (old mid : Moment L
     boxes = told;
     count = size ∙ count_is;
     boxes_after = tells;
+    moves = moves;
     orders_are = refl;
   }
 
-  sized : (after : Option Boxes) (c : Boxes) → IsTold after c → length c ≡ count
-      → (bs : Boxes) → after ≡ Some bs → length bs ≡ mid.seen.config.workers + 1
+  sized : (after : Inboxes) (c : Boxes) → IsTold after.told c → length c ≡ count
+      → (bs : Boxes) → after.told ≡ Some bs → length bs ≡ mid.seen.config.workers + 1
   sized after c tells size bs some =
       let workers : mid.seen.config.workers ≡ old.seen.config.workers = ap (λ (z : Seen). z.config.workers) so.passed.seen in
-      boxes_told after c count tells size bs some ∙ count_is ∙ ap (λ (k : ℕ). k + 1) (sym workers)
+      boxes_told after.told c count tells size bs some ∙ count_is ∙ ap (λ (k : ℕ). k + 1) (sym workers)
 
   -- what the mail tells now
-  mail_tells : IsTold mid.boxes so.mail.boxes
-  mail_tells = let P : Option Boxes → Type 0 = λ b. IsTold b so.mail.boxes in subst P (sym so.passed.boxes) so.mail.told
+  mail_tells : IsTold mid.boxes.told so.mail.boxes
+  mail_tells = let P : Inboxes → Type 0 = λ b. IsTold b.told so.mail.boxes in subst P (sym so.passed.boxes) so.mail.told
 
   -- ---- the ring
 
@@ -211,7 +213,7 @@ module _ {L Q : Type 0} (words : Words L Q) (r m s : Ring L) (old mid : Moment L
       }
 
   -- and the office knows it
-  known_now : (next : ℕ) (after : Option Boxes) (c : Boxes) → IsTold after c → length c ≡ count
+  known_now : (next : ℕ) (after : Inboxes) (c : Boxes) → IsTold after.told c → length c ≡ count
       → Known (sight n mid.seen after) (record now { next_seat = next })
   known_now next after c tells size =
       known_same (sight o old.seen old.boxes) (sight n mid.seen after) x (record now { next_seat = next }) known refl refl
@@ -237,7 +239,7 @@ module _ {L Q : Type 0} (words : Words L Q) (r m s : Ring L) (old mid : Moment L
       now = now;
       box = so.box;
       refills = refills o 0 idle x;
-      was = was_box old.boxes so.mail.boxes r.id x.id so.box so.mail.told is.id so.mail.at;
+      was = was_box old.boxes.told so.mail.boxes r.id x.id so.box so.mail.told is.id so.mail.at;
       none = no_turn o n x so.box apart
           (offers_so_far words r m old mid count tried offers_tried inbox_tried so o n sees x is (so.offers offers))
           (so.inbox inbox) over;
@@ -251,9 +253,7 @@ module _ {L Q : Type 0} (words : Words L Q) (r m s : Ring L) (old mid : Moment L
         offers = all_at OfferSame x.offered (offer_same offered);
       };
       binds = nothing_bound;
-      boxes = so.mail.boxes;
-      told = so.mail.told;
-      tells = mail_tells;
+      boxes = so.passed.boxes;
       same = (refills o 0 idle x).same;
     },
   ) where
@@ -315,8 +315,8 @@ module _ {L Q : Type 0} (words : Words L Q) (r m s : Ring L) (old mid : Moment L
       after = shared orders so.mail.boxes;
       reached = record { took = false; asked = false };
       refills = refills o 0 idle x;
-      was = was_box old.boxes so.mail.boxes r.id x.id so.box so.mail.told is.id so.mail.at;
-      meets = meets orders mid.boxes so.mail.boxes so.mail.boxes so.mail.told so.mail.size mail_tells;
+      was = was_box old.boxes.told so.mail.boxes r.id x.id so.box so.mail.told is.id so.mail.at;
+      meets = meets orders mid.boxes so.mail.boxes so.mail.boxes so.mail.told so.mail.size mail_tells (nothing_moved old.boxes mid.boxes so.mail.boxes so.passed.boxes);
       binds = held_back;
       starves = record { seat = Offers; turn = refused_turn (seen_same conns) covers may; starves = (refl, refl, refl, refl) };
     },
@@ -360,7 +360,7 @@ module _ {L Q : Type 0} (words : Words L Q) (r m s : Ring L) (old mid : Moment L
     pub fine : AllFine words.most mid.table n x.id s.conns.items us
     pub ports : HaveOwnPorts s.conns.items
     pub numbers : AreDistinct (numbers_of s.conns.items r.offered.items)
-    pub knows : (after : Option Boxes) (c : Boxes) → IsTold after c → length c ≡ count → Known (sight n mid.seen after) (record now { conns = us; next_seat = 2 })
+    pub knows : (after : Inboxes) (c : Boxes) → IsTold after.told c → length c ≡ count → Known (sight n mid.seen after) (record now { conns = us; next_seat = 2 })
 
   taken_none : (us : List Held) → s.conns.items ≡ m.conns.items → us ≡ now.conns → Taken us
   taken_none us items conns =
@@ -414,7 +414,7 @@ module _ {L Q : Type 0} (words : Words L Q) (r m s : Ring L) (old mid : Moment L
         (subst AreDistinct (sym (numbers_now r.offered.items)) is.numbers)
 
     -- the tunnels that the office knows are those that it knew
-    knows_one : (after : Option Boxes) (c : Boxes) → IsTold after c → length c ≡ count
+    knows_one : (after : Inboxes) (c : Boxes) → IsTold after.told c → length c ≡ count
         → Known (sight n mid.seen after) (record now { conns = slice_set now.conns one.place became; next_seat = 2 })
     knows_one after c tells size = by_held (map_get (refilled o 0 idle) x.conns one.place one.h one.at_is) where
       seen_are : mid.seen.entries ≡ old.seen.entries
@@ -466,7 +466,7 @@ module _ {L Q : Type 0} (words : Words L Q) (r m s : Ring L) (old mid : Moment L
   taken_by mine us (inr one) = taken_one mine us one
 
   -- The parcel in front of the inbox was taken, and came to its tunnel, or was dropped. The inbox wasn't tried before.
-  pub taken_gives : (orders : Orders) (said : Note) (boxes_after : Option Boxes) → old.seen.actor ≡ r.id
+  pub taken_gives : (orders : Orders) (said : Note) (boxes_after : Inboxes) → old.seen.actor ≡ r.id
       → Covers r.next_seat tried offers_tried inbox_tried 1 Inbox → Takes count mid.boxes r.id m s said boxes_after
       → (t : Worker) × IsWorker words.most mid.table s t × HasTold n t × Known (sight n mid.seen boxes_after) t × Writes old.seen mid.seen x.id
       × StepDone orders (sight o old.seen old.boxes) (sight n mid.seen boxes_after) x said t
@@ -484,8 +484,8 @@ module _ {L Q : Type 0} (words : Words L Q) (r m s : Ring L) (old mid : Moment L
       sh = shared orders p.before;
       after = shared orders p.after;
       refills = refills o 0 idle x;
-      was = was_box old.boxes p.before r.id x.id box told is.id p.does.1;
-      meets = meets orders boxes_after p.before p.after told p.size p.is;
+      was = was_box old.boxes.told p.before r.id x.id box told is.id p.does.1;
+      meets = meets orders boxes_after p.before p.after told p.size p.is moved;
       turn = turn_is o n x box 0 idle 1 Inbox apart refl (λ i h at found. inr refl) can_here vain_here;
       waited = before_waited o n x box 0 idle 1 Inbox apart refl (λ i h at found. inr refl) can_here vain_here;
       faults = faults;
@@ -513,8 +513,13 @@ module _ {L Q : Type 0} (words : Words L Q) (r m s : Ring L) (old mid : Moment L
     box : List Parcel
     box = takes.parcel ∷ rest
 
-    told : IsTold old.boxes p.before
-    told = let P : Option Boxes → Type 0 = λ bs. IsTold bs p.before in subst P so.passed.boxes p.was
+    told : IsTold old.boxes.told p.before
+    told = let P : Inboxes → Type 0 = λ bs. IsTold bs.told p.before in subst P so.passed.boxes p.was
+
+    moved : MailMoves old.boxes boxes_after p.before p.after
+    moved =
+        let P : Inboxes → Type 0 = λ bs. MailMoves bs boxes_after p.before p.after in
+        subst P so.passed.boxes (pop_moved count r.id mid.boxes boxes_after takes.parcel p)
 
     offered : s.offered ≡ r.offered
     offered = ap (λ (q : Ring L). q.offered) takes.rest ∙ ap (λ (q : Ring L). q.offered) so.ring
@@ -593,8 +598,8 @@ module _ {L Q : Type 0} (words : Words L Q) (r m s : Ring L) (old mid : Moment L
       sh = shared orders so.mail.boxes;
       after = shared orders so.mail.boxes;
       refills = refills o 0 idle x;
-      was = was_box old.boxes so.mail.boxes r.id x.id so.box so.mail.told is.id so.mail.at;
-      meets = meets orders mid.boxes so.mail.boxes so.mail.boxes so.mail.told so.mail.size mail_tells;
+      was = was_box old.boxes.told so.mail.boxes r.id x.id so.box so.mail.told is.id so.mail.at;
+      meets = meets orders mid.boxes so.mail.boxes so.mail.boxes so.mail.told so.mail.size mail_tells (nothing_moved old.boxes mid.boxes so.mail.boxes so.passed.boxes);
       turn = turn_is o n x so.box 0 idle 0 Offers apart refl (λ i h at same. inr refl) can (vain 0 Offers covers seen);
       waited = before_waited o n x so.box 0 idle 0 Offers apart refl (λ i h at same. inr refl) can (vain 0 Offers covers seen);
       faults = faults;

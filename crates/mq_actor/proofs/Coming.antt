@@ -2,7 +2,7 @@
 use Rattle.std.proofs.Common.{◌≡◌, ◌⊎◌, inl, inr, ℕ, ◌+◌, ◌<◌, Bool, true, false, List, [], length, Option, Some, None, refl, sym, ap, subst, ◌∙◌, arith}
 use Rattle.std.specs.Prelude.{⊤}
 use Rattle.mq_talk.specs.declared.place.Parcel.{Parcel}
-use Rattle.mq_talk.specs.Mails.{Boxes, PopGives}
+use Rattle.mq_talk.specs.Mails.{Boxes, PopGives, Inboxes}
 use Rattle.mq_actor.specs.declared.ring.Ring.{Ring}
 use Rattle.mq_actor.specs.Passing.{Tried, Passed, is_in_part, InPart}
 use Rattle.mq_actor.specs.Seats.{OffersWait}
@@ -15,31 +15,31 @@ use Rattle.mq_actor.proofs.Stages.{Untried, AllUpper, Lower, AllTried, InUpper, 
 -- ---- the inbox
 
 -- what is in the own inbox, and that it was found empty where it was tried
-pub record Own (mail : Option Boxes) (count id : ℕ) (inbox_tried : Type 0) : Type 0 where
+pub record Own (mail : Inboxes) (count id : ℕ) (inbox_tried : Type 0) : Type 0 where
   pub box : List Parcel
   pub mail_is : MailKept mail count id box
   pub empty : inbox_tried → box ≡ []
 
-module _ (mail : Option Boxes) (count id : ℕ) (lt : id < count) (fit : (bs : Boxes) → mail ≡ Some bs → length bs ≡ count) where
+module _ (mail : Inboxes) (count id : ℕ) (lt : id < count) (fit : (bs : Boxes) → mail.told ≡ Some bs → length bs ≡ count) where
   -- before it was tried
   pub own_untried : Own mail count id ⊥
   own_untried = let k = kept mail count id lt fit in record { box = k.0; mail_is = k.1; empty = λ never. absurd never }
 
   -- behind its turn in the upper part
-  pub own_upper : (from : ℕ) (mail_now : Option Boxes) → (InUpper from 1 → PopGives count mail id None mail_now) → Own mail count id (InUpper from 1)
+  pub own_upper : (from : ℕ) (mail_now : Inboxes) → (InUpper from 1 → PopGives count mail id None mail_now) → Own mail count id (InUpper from 1)
   own_upper from now pops = by_part (is_in_part true from 1) refl where
     by_part : (b : Bool) → is_in_part true from 1 ≡ b → Own mail count id (InUpper from 1)
     by_part true is = record { box = []; mail_is = kept_popped mail now count id lt (pops is); empty = λ up. refl }
     by_part false is = let k = kept mail count id lt fit in record { box = k.0; mail_is = k.1; empty = λ up. let e : true ≡ false = sym up ∙ is in absurd cc }
 
   -- and in the lower part
-  pub own_lower : (from : ℕ) (mail_one mail_mid mail_now : Option Boxes) → (InUpper from 1 → PopGives count mail id None mail_one) → mail_mid ≡ mail
+  pub own_lower : (from : ℕ) (mail_one mail_mid mail_now : Inboxes) → (InUpper from 1 → PopGives count mail id None mail_one) → mail_mid ≡ mail
       → (is_in_part false from 1 ≡ true → PopGives count mail_mid id None mail_now) → Own mail count id ⊤
   own_lower from one mid now pops same pops_later = by_part (in_other from 1) where
     by_part : (is_in_part true from 1 ≡ true) ⊎ (is_in_part false from 1 ≡ true) → Own mail count id ⊤
     by_part (inl up) = record { box = []; mail_is = kept_popped mail one count id lt (pops up); empty = λ any. refl }
     by_part (inr down) =
-        let P : Option Boxes → Type 0 = λ b. PopGives count b id None now in
+        let P : Inboxes → Type 0 = λ b. PopGives count b id None now in
         record { box = []; mail_is = kept_popped mail now count id lt (subst P same (pops_later down)); empty = λ any. refl }
 
 -- ---- all that went before

@@ -4,7 +4,7 @@ use Rattle.mq_wire.specs.declared.NoMemory.{NoMemory}
 use Rattle.mq_talk.specs.declared.note.Note.{Note}
 use Rattle.mq_talk.specs.declared.place.Place.{Place}
 use Rattle.mq_talk.specs.declared.place.Place.TheVariants as place
-use Rattle.mq_talk.specs.Mails.{Boxes}
+use Rattle.mq_talk.specs.Mails.{Inboxes}
 use Rattle.mq_held.specs.declared.held.Held.{Held as HeldBy}
 use Rattle.mq_step.specs.declared.stepped.Stepped.{Stepped}
 use Rattle.mq_step.specs.declared.stepped.Stepped.TheVariants.{Quiet, Did, Ended}
@@ -84,7 +84,7 @@ refused_left {L} conns offers upper r s refused gives all =
 
 -- ---- the inbox
 
-pub pop_left : {L : Type 0} (conns offers : List ℕ) (count : ℕ) (old new : Option Boxes) (id : ℕ) (upper : Bool) (r s : Ring L) (said : Note)
+pub pop_left : {L : Type 0} (conns offers : List ℕ) (count : ℕ) (old new : Inboxes) (id : ℕ) (upper : Bool) (r s : Ring L) (said : Note)
     → InboxGives count old id upper r s (Some said) new → AllLeft conns offers r → AreLeft conns offers s
 pop_left {L} conns offers count old new id upper r s said gives all =
     let t = gives.1 in

@@ -3,7 +3,7 @@ use Rattle.std.proofs.Common.{◌≡◌, ◌≢◌, ℕ, zero, suc, ◌+◌, Boo
 use Rattle.std.specs.Prelude.{⊤}
 use Rattle.mq_wire.specs.declared.NoMemory.{NoMemory}
 use Rattle.mq_talk.specs.declared.note.Note.{Note}
-use Rattle.mq_talk.specs.Mails.{Boxes}
+use Rattle.mq_talk.specs.Mails.{Inboxes}
 use Rattle.mq_talk.specs.Offices.{Seen}
 use Rattle.mq_machine.specs.declared.setup.Setup.{Setup}
 use Rattle.mq_machine.specs.State.{Offer, Worker, Orders}
@@ -66,7 +66,7 @@ module _ {L Q : Type 0} (words : Words L Q) (r m : Ring L) (old mid new : Moment
   given stepped acts sees_now =
       let S : Setup → Type 0 = λ z. Gives z tries_of Anything o n mid.seen new.seen mid.boxes new.boxes (IsHeld words.most new.table now) acting.s stepped in
       let E : Seen → Type 0 = λ z. Gives x.setup tries_of Anything o n z new.seen mid.boxes new.boxes (IsHeld words.most new.table now) acting.s stepped in
-      let M : Option Boxes → Type 0 = λ z. Gives x.setup tries_of Anything o n old.seen new.seen z new.boxes (IsHeld words.most new.table now) acting.s stepped in
+      let M : Inboxes → Type 0 = λ z. Gives x.setup tries_of Anything o n old.seen new.seen z new.boxes (IsHeld words.most new.table now) acting.s stepped in
       let setup : m.setup ≡ x.setup = ap (λ (z : Ring L). z.setup) so.ring ∙ sym is.setup in
       let before : Sees words.link words.link_counts words.port words.port_counts mid.binds mid.table was o = record {
         of_link = acting.seen.of_link;

@@ -11,7 +11,7 @@ use Rattle.mq_talk.specs.declared.place.Verdict.TheVariants as verdict
 use Rattle.mq_talk.specs.Answers.{IsLegal}
 use Rattle.mq_talk.specs.Book.{History}
 use Rattle.mq_talk.specs.Judging.{IsJudged}
-use Rattle.mq_talk.specs.Mails.{Boxes}
+use Rattle.mq_talk.specs.Mails.{Boxes, Inboxes}
 use Rattle.mq_talk.specs.Offices.{IsSound, Seen}
 use Rattle.mq_book.proofs.Inboxes.{judged_has_inbox}
 use Rattle.mq_outside.specs.Links.{behind, room_left}
@@ -28,11 +28,11 @@ use Rattle.mq_actor.proofs.Behind.{mapped, acted_done, conn_of}
 use Rattle.mq_actor.proofs.Searches.{each_at}
 
 -- what the office has seen behind a step is sound, and there are as many inboxes as it says
-pub record IsFit (seen : Seen) (mail : Option Boxes) : Type 0 where
+pub record IsFit (seen : Seen) (mail : Inboxes) : Type 0 where
   pub sound : IsSound seen
-  pub boxes : (bs : Boxes) → mail ≡ Some bs → length bs ≡ seen.config.workers + 1
+  pub boxes : (bs : Boxes) → mail.told ≡ Some bs → length bs ≡ seen.config.workers + 1
 
-pub fitting : (seen : Seen) (count : ℕ) (mail : Option Boxes) → IsSound seen → HasInboxes seen count mail → IsFit seen mail
+pub fitting : (seen : Seen) (count : ℕ) (mail : Inboxes) → IsSound seen → HasInboxes seen count mail → IsFit seen mail
 fitting seen count mail sound has = record { sound = sound; boxes = λ bs is. has.size bs is ∙ has.count_is }
 
 -- ---- what is answered

@@ -125,7 +125,7 @@ module _ {L Q : Type 0} (words : Words L Q) (self : Ring L) (old : Moment L Q) (
   pub plain_by : (s : Ring L) (new : Moment L Q) (result : Result (Option Note) NoMemory)
       → Promise words self old starts count office inboxes s new result → Seen words self old starts count office inboxes s new
       → AlwaysTells words.link → AlwaysTells words.port → (o : Outside) (x : Worker) (bs : Boxes) (orders : Orders) → IsWorker words.most old.table self x → TellsRing words old.table self x
-      → Known (sight o old.seen old.boxes) x → old.seen.is_whole ≡ true → old.boxes ≡ Some bs
+      → Known (sight o old.seen old.boxes) x → old.seen.is_whole ≡ true → old.boxes.told ≡ Some bs
       → PlainStep words orders bs (place self old) (place s new) x result
   plain_by s new result promise seen links ports o x bs orders is tell known whole mail =
       let b = begins words self old starts count office inboxes o x is known in

@@ -6,7 +6,7 @@ use Rattle.std.proofs.lemmas.List.Elements.{All-contains_itself}
 use Rattle.mq_wire.specs.declared.NoMemory.{NoMemory}
 use Rattle.mq_talk.specs.declared.note.Note.{Note}
 use Rattle.mq_talk.specs.Offices.{IsSound, Seen as SeenBy}
-use Rattle.mq_talk.specs.Mails.{Boxes, PopGives}
+use Rattle.mq_talk.specs.Mails.{Boxes, PopGives, Inboxes}
 use Rattle.mq_talk.specs.declared.place.Place.{Place}
 use Rattle.mq_talk.specs.declared.place.Place.TheVariants as place
 use Rattle.mq_machine.specs.declared.setup.Setup.{Setup}
@@ -28,7 +28,7 @@ use Rattle.mq_actor.proofs.Cores.{AreApart}
 use Rattle.mq_actor.proofs.Calm.{idle_gives, refused_gives, taken_gives, accepted_gives}
 use Rattle.mq_actor.proofs.Coming.{Own, own_untried, own_upper, own_lower, so_far, first_passed, lower_passed, all_passed, offers_waited}
 use Rattle.mq_actor.proofs.InRing.{all_at, at_all}
-use Rattle.mq_actor.proofs.Kept.{popped_same}
+use Rattle.mq_talk.proofs.Mails.{popped_same}
 use Rattle.mq_actor.proofs.Lefts.{numbers_set}
 use Rattle.mq_actor.proofs.Lists.{found_at}
 use Rattle.mq_actor.proofs.Others.{numbers_moved}
@@ -50,7 +50,7 @@ pub from_begun : {L : Type 0} (self m s : Ring L) (result : Result (Option Note)
 from_begun self m s result is gives = subst (λ (r : Ring _). AcceptGives true r s result) is gives
 
 -- a moment in which these are the connections, and the mail tells this
-abbrev pub among : {L Q : Type 0} → List (HeldBy L) → Option Boxes → Moment L Q → Moment L Q
+abbrev pub among : {L Q : Type 0} → List (HeldBy L) → Inboxes → Moment L Q → Moment L Q
 among hs mail m = record m { conns = hs; boxes = mail }
 
 -- a link that is accepted leaves the numbers as they are
@@ -90,7 +90,7 @@ module _ {L Q : Type 0} (words : Words L Q) (self : Ring L) (old : Moment L Q) (
   own_place : (o : Outside) (x : Worker) → IsWorker words.most old.table self x → Known (sight o old.seen old.boxes) x → self.id < count
   own_place o x is known = let lt = known.id in let e = is.id in let f = inboxes in omega (arith, lt, e, f)
 
-  fit : (o : Outside) (x : Worker) → Known (sight o old.seen old.boxes) x → (bs : Boxes) → old.boxes ≡ Some bs → length bs ≡ count
+  fit : (o : Outside) (x : Worker) → Known (sight o old.seen old.boxes) x → (bs : Boxes) → old.boxes.told ≡ Some bs → length bs ≡ count
   fit o x known bs e = known.boxes bs e ∙ sym inboxes
 
   pump_is : (o : Outside) (x : Worker) → IsWorker words.most old.table self x → Known (sight o old.seen old.boxes) x → self.setup.pump ≡ old.seen.config.workers
@@ -144,7 +144,7 @@ module _ {L Q : Type 0} (words : Words L Q) (self : Ring L) (old : Moment L Q) (
   abbrev pub Seen : Ring L → Moment L Q → Type 0
   Seen s new = (o : Outside) (x : Worker) → IsWorker words.most old.table self x → Known (sight o old.seen old.boxes) x → (n : Outside) × SeesRing words new.table new.binds s n
 
-  pub known_any : (o n : Outside) (seen : SeenBy) (bs : Option Boxes) (x : Worker) → Known (sight o seen bs) x → Known (sight n seen bs) x
+  pub known_any : (o n : Outside) (seen : SeenBy) (bs : Inboxes) (x : Worker) → Known (sight o seen bs) x → Known (sight n seen bs) x
   known_any o n seen bs x known = record { id = known.id; pump = known.pump; tunnels = known.tunnels; last = known.last; places = known.places; boxes = known.boxes }
 
   apart : (x : Worker) → IsWorker words.most old.table self x → AreApart x.conns
@@ -190,7 +190,7 @@ module _ {L Q : Type 0} (words : Words L Q) (self : Ring L) (old : Moment L Q) (
       sighted words mid.table mid.binds s ended (subst N (sym offered) (subst A (sym conns) (numbers_then mid tried x passed is))) (subst T (sym conns) (tunnels_then mid tried o x passed is known))
 
   -- a packet came through the inbox
-  pub taken_seen : (amount : ℕ) (before : Option Boxes) (id : ℕ) (m s : Ring L) (mid : Moment L Q) (tried : Tried) (said : Note) (after : Option Boxes) → Passed words old mid tried
+  pub taken_seen : (amount : ℕ) (before : Inboxes) (id : ℕ) (m s : Ring L) (mid : Moment L Q) (tried : Tried) (said : Note) (after : Inboxes) → Passed words old mid tried
       → mid.conns ≡ m.conns.items → m.offered.items ≡ self.offered.items → m.ended ≡ None → Takes amount before id m s said after → Seen s mid
   taken_seen amount before id m s mid tried said after passed conns offered ended takes o x is known = by_place takes.parcel.to takes.comes where
     T : List (HeldBy L) → Type 0
@@ -256,7 +256,7 @@ module _ {L Q : Type 0} (words : Words L Q) (self : Ring L) (old : Moment L Q) (
 
   -- ---- the inbox there
 
-  pub pop_did : (one s : Ring L) (said : Note) (boxes_after : Option Boxes) (id : ℕ) → id ≡ self.id → AcceptGives true (begun self) one (Ok None)
+  pub pop_did : (one s : Ring L) (said : Note) (boxes_after : Inboxes) (id : ℕ) → id ≡ self.id → AcceptGives true (begun self) one (Ok None)
       → InboxGives count old.boxes id true one s (Some said) boxes_after → Promise s (record old { boxes = boxes_after }) (Ok (Some said))
   pop_did one s said after id mine first gives o n sees later orders x is known =
       let G : Ring L → Type 0 = λ z. InboxGives count old.boxes id true z s (Some said) after in
@@ -267,7 +267,7 @@ module _ {L Q : Type 0} (words : Words L Q) (self : Ring L) (old : Moment L Q) (
       taken_gives words (begun self) (begun self) s old old count Untried (InUpper self.next_seat 0) ⊥ so starts is.ports is.rooms o n sees later inboxes x (worker_begun x is)
       known orders said after office (covers_inbox self.next_seat gave.0) (subst I mine gave.1)
 
-  pub pop_did_sights : (one s : Ring L) (said : Note) (boxes_after : Option Boxes) (id : ℕ) → id ≡ self.id → AcceptGives true (begun self) one (Ok None)
+  pub pop_did_sights : (one s : Ring L) (said : Note) (boxes_after : Inboxes) (id : ℕ) → id ≡ self.id → AcceptGives true (begun self) one (Ok None)
       → InboxGives count old.boxes id true one s (Some said) boxes_after → Seen s old
   pop_did_sights one s said after id mine first gives =
       let G : Ring L → Type 0 = λ z. InboxGives count old.boxes id true z s (Some said) after in
@@ -276,7 +276,7 @@ module _ {L Q : Type 0} (words : Words L Q) (self : Ring L) (old : Moment L Q) (
 
   -- ---- behind both, in the upper part
 
-  module _ (one two : Ring L) (boxes_one : Option Boxes) (id : ℕ) (mine : id ≡ self.id) (first : AcceptGives true (begun self) one (Ok None))
+  module _ (one two : Ring L) (boxes_one : Inboxes) (id : ℕ) (mine : id ≡ self.id) (first : AcceptGives true (begun self) one (Ok None))
       (popped : InboxGives count old.boxes id true one two None boxes_one) where
     two_is : two ≡ begun self
     two_is = popped.0 ∙ first.0
@@ -297,7 +297,7 @@ module _ {L Q : Type 0} (words : Words L Q) (self : Ring L) (old : Moment L Q) (
 
     pub inboxes_one : (k : ℕ) → k ≡ count → (o : Outside) (x : Worker) → Known (sight o old.seen old.boxes) x → HasInboxes old.seen k boxes_one
     inboxes_one k same o x known =
-        record { count_is = same ∙ inboxes; size = λ bs is. fit o x known bs (sym same_one ∙ is) ∙ sym same }
+        record { count_is = same ∙ inboxes; size = λ bs is. fit o x known bs (ap (λ (m : Inboxes). m.told) (sym same_one) ∙ is) ∙ sym same }
 
     -- a connection there acted, or was refused memory
     pub upper_stopped : (s : Ring L) (new : Moment L Q) (result : Result (Option Note) NoMemory) → Stopped words true two s (among two.conns.items boxes_one old) new result → HaveOwnPorts s.conns.items → HasRooms s.rooms
@@ -305,7 +305,7 @@ module _ {L Q : Type 0} (words : Words L Q) (self : Ring L) (old : Moment L Q) (
     upper_stopped s new result stopped ports rooms fit_now o n sees later orders x is known =
         let S : Ring L → Type 0 = λ z. Stopped words true z s (among z.conns.items boxes_one old) new result in
         let O : List (HeldBy L) → Type 0 = λ hs. Stopped words true (begun self) s (among hs boxes_one old) new result in
-        let B : Option Boxes → Type 0 = λ bs. Stopped words true (begun self) s (among old.conns bs old) new result in
+        let B : Inboxes → Type 0 = λ bs. Stopped words true (begun self) s (among old.conns bs old) new result in
         let st = subst B same_one (subst O (sym starts) (subst S two_is stopped)) in
         let own = own_upper old.boxes count self.id (own_place o x is known) (fit o x known) self.next_seat boxes_one pops in
         let so = so_far words (begun self) old count starts (begun self) st.mid (Upper self.next_seat st.place) (InUpper self.next_seat 0) (InUpper self.next_seat 1)
@@ -321,7 +321,7 @@ module _ {L Q : Type 0} (words : Words L Q) (self : Ring L) (old : Moment L Q) (
       seen o x is known =
           let S : Ring L → Type 0 = λ z. Stopped words true z s (among z.conns.items boxes_one old) new result in
           let O : List (HeldBy L) → Type 0 = λ hs. Stopped words true (begun self) s (among hs boxes_one old) new result in
-          let B : Option Boxes → Type 0 = λ bs. Stopped words true (begun self) s (among old.conns bs old) new result in
+          let B : Inboxes → Type 0 = λ bs. Stopped words true (begun self) s (among old.conns bs old) new result in
           let st = subst B same_one (subst O (sym starts) (subst S two_is stopped)) in
           let own = own_upper old.boxes count self.id (own_place o x is known) (fit o x known) self.next_seat boxes_one pops in
           let so = so_far words (begun self) old count starts (begun self) st.mid (Upper self.next_seat st.place) (InUpper self.next_seat 0) (InUpper self.next_seat 1)
@@ -339,7 +339,7 @@ module _ {L Q : Type 0} (words : Words L Q) (self : Ring L) (old : Moment L Q) (
       passed =
           let P : Ring L → Type 0 = λ z. Passed words (among z.conns.items boxes_one old) mid (λ i number. InPart true z.next_seat number) in
           let O : List (HeldBy L) → Type 0 = λ hs. Passed words (among hs boxes_one old) mid (AllUpper self.next_seat) in
-          let B : Option Boxes → Type 0 = λ bs. Passed words (among old.conns bs old) mid (AllUpper self.next_seat) in
+          let B : Inboxes → Type 0 = λ bs. Passed words (among old.conns bs old) mid (AllUpper self.next_seat) in
           subst B same_one (subst O (sym starts) (subst P two_is upper.0))
 
       three_is : three ≡ record (begun self) { conns = three.conns; rooms = three.rooms }
@@ -395,7 +395,7 @@ module _ {L Q : Type 0} (words : Words L Q) (self : Ring L) (old : Moment L Q) (
             so_far words (begun self) old count starts three mid (AllUpper self.next_seat) ⊤ (InUpper self.next_seat 1) passed three_is (λ any. offers_wait)
             (own_upper old.boxes count self.id (own_place o x is known) (fit o x known) self.next_seat boxes_one pops)
 
-        pub pop_did_later : (s : Ring L) (said : Note) (boxes_after : Option Boxes) → InboxGives count mid.boxes id false four s (Some said) boxes_after
+        pub pop_did_later : (s : Ring L) (said : Note) (boxes_after : Inboxes) → InboxGives count mid.boxes id false four s (Some said) boxes_after
             → Promise s (record mid { boxes = boxes_after }) (Ok (Some said))
         pop_did_later s said after gives o n sees later orders x is known =
             let G : Ring L → Type 0 = λ z. InboxGives count mid.boxes id false z s (Some said) after in
@@ -405,7 +405,7 @@ module _ {L Q : Type 0} (words : Words L Q) (self : Ring L) (old : Moment L Q) (
             taken_gives words (begun self) three s old mid count (AllUpper self.next_seat) ⊤ (InUpper self.next_seat 1) (so_four o x is known) at_mid own_ports has_rooms o n
             sees later inboxes x (worker_begun x is) known orders said after office (covers_inbox_later self.next_seat down) (subst I mine gave.1)
 
-        pub pop_did_later_sights : (s : Ring L) (said : Note) (boxes_after : Option Boxes) → InboxGives count mid.boxes id false four s (Some said) boxes_after → Seen s mid
+        pub pop_did_later_sights : (s : Ring L) (said : Note) (boxes_after : Inboxes) → InboxGives count mid.boxes id false four s (Some said) boxes_after → Seen s mid
         pop_did_later_sights s said after gives =
             let G : Ring L → Type 0 = λ z. InboxGives count mid.boxes id false z s (Some said) after in
             let takes = (subst G second.0 gives).1 in
@@ -414,7 +414,7 @@ module _ {L Q : Type 0} (words : Words L Q) (self : Ring L) (old : Moment L Q) (
 
         -- ---- behind both there
 
-        module _ (five : Ring L) (boxes_two : Option Boxes) (popped_later : InboxGives count mid.boxes id false four five None boxes_two) where
+        module _ (five : Ring L) (boxes_two : Inboxes) (popped_later : InboxGives count mid.boxes id false four five None boxes_two) where
           five_is : five ≡ three
           five_is = popped_later.0 ∙ second.0
 
@@ -434,7 +434,7 @@ module _ {L Q : Type 0} (words : Words L Q) (self : Ring L) (old : Moment L Q) (
               ap (λ (z : Ring L). z.setup.pump) (five_is ∙ three_is) ∙ pump_is o x is known ∙ ap (λ (z : SeenBy). z.config.workers) (sym passed.seen)
 
           pub inboxes_two : (k l : ℕ) → l ≡ k → HasInboxes mid.seen k mid.boxes → HasInboxes mid.seen l boxes_two
-          inboxes_two k l same has = record { count_is = same ∙ has.count_is; size = λ bs is. has.size bs (sym same_two ∙ is) ∙ sym same }
+          inboxes_two k l same has = record { count_is = same ∙ has.count_is; size = λ bs is. has.size bs (ap (λ (m : Inboxes). m.told) (sym same_two) ∙ is) ∙ sym same }
 
           own_five : (o : Outside) (x : Worker) → IsWorker words.most old.table self x → Known (sight o old.seen old.boxes) x → Own old.boxes count self.id ⊤
           own_five o x is known =
@@ -445,7 +445,7 @@ module _ {L Q : Type 0} (words : Words L Q) (self : Ring L) (old : Moment L Q) (
           lower_stopped s new result stopped ports rooms fit_now o n sees later orders x is known =
               let S : Ring L → Type 0 = λ z. Stopped words false z s (among z.conns.items boxes_two mid) new result in
               let O : List (HeldBy L) → Type 0 = λ hs. Stopped words false three s (among hs boxes_two mid) new result in
-              let B : Option Boxes → Type 0 = λ bs. Stopped words false three s (among mid.conns bs mid) new result in
+              let B : Inboxes → Type 0 = λ bs. Stopped words false three s (among mid.conns bs mid) new result in
               let st = subst B same_two (subst O (sym at_mid) (subst S five_is stopped)) in
               let T : ℕ → Type 0 = λ k. Passed words mid st.mid (λ i number. (i < st.place) × InPart false k number) in
               let lower = lower_passed words (begun self) old count starts mid st.mid st.place passed (subst T next_is st.passed) in
@@ -462,7 +462,7 @@ module _ {L Q : Type 0} (words : Words L Q) (self : Ring L) (old : Moment L Q) (
           lower_seen s new result stopped o x is known =
               let S : Ring L → Type 0 = λ z. Stopped words false z s (among z.conns.items boxes_two mid) new result in
               let O : List (HeldBy L) → Type 0 = λ hs. Stopped words false three s (among hs boxes_two mid) new result in
-              let B : Option Boxes → Type 0 = λ bs. Stopped words false three s (among mid.conns bs mid) new result in
+              let B : Inboxes → Type 0 = λ bs. Stopped words false three s (among mid.conns bs mid) new result in
               let st = subst B same_two (subst O (sym at_mid) (subst S five_is stopped)) in
               let T : ℕ → Type 0 = λ k. Passed words mid st.mid (λ i number. (i < st.place) × InPart false k number) in
               let lower = lower_passed words (begun self) old count starts mid st.mid st.place passed (subst T next_is st.passed) in
@@ -482,7 +482,7 @@ module _ {L Q : Type 0} (words : Words L Q) (self : Ring L) (old : Moment L Q) (
               let P : Ring L → Type 0 = λ z. Passed words (among z.conns.items boxes_two mid) new (λ i number. InPart false z.next_seat number) in
               let O : List (HeldBy L) → Type 0 = λ hs. Passed words (among hs boxes_two mid) new (λ i number. InPart false three.next_seat number) in
               let T : ℕ → Type 0 = λ k. Passed words mid new (λ i number. InPart false k number) in
-              let B : Option Boxes → Type 0 = λ bs. Passed words (among mid.conns bs mid) new (λ i number. InPart false three.next_seat number) in
+              let B : Inboxes → Type 0 = λ bs. Passed words (among mid.conns bs mid) new (λ i number. InPart false three.next_seat number) in
               let lower = subst B same_two (subst O (sym at_mid) (subst P five_is gives.0)) in
               let all = all_passed words (begun self) old count starts mid new passed (subst T next_is lower) in
               let ring : s ≡ record (begun self) { conns = s.conns; rooms = s.rooms } =
@@ -504,7 +504,7 @@ module _ {L Q : Type 0} (words : Words L Q) (self : Ring L) (old : Moment L Q) (
               let P : Ring L → Type 0 = λ z. Passed words (among z.conns.items boxes_two mid) new (λ i number. InPart false z.next_seat number) in
               let O : List (HeldBy L) → Type 0 = λ hs. Passed words (among hs boxes_two mid) new (λ i number. InPart false three.next_seat number) in
               let T : ℕ → Type 0 = λ k. Passed words mid new (λ i number. InPart false k number) in
-              let B : Option Boxes → Type 0 = λ bs. Passed words (among mid.conns bs mid) new (λ i number. InPart false three.next_seat number) in
+              let B : Inboxes → Type 0 = λ bs. Passed words (among mid.conns bs mid) new (λ i number. InPart false three.next_seat number) in
               let lower = subst B same_two (subst O (sym at_mid) (subst P five_is gives.0)) in
               let all = all_passed words (begun self) old count starts mid new passed (subst T next_is lower) in
               let ring : s ≡ record (begun self) { conns = s.conns; rooms = s.rooms } =

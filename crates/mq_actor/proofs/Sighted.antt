@@ -9,7 +9,7 @@ use Rattle.slab.specs.Slab.{Slab, get}
 use Rattle.mq_outside.specs.Counts.{LinkCounts, no_link_counts, no_port_counts}
 use Rattle.mq_talk.specs.declared.goal.Goal.{Goal}
 use Rattle.mq_talk.specs.declared.note.End.{End}
-use Rattle.mq_talk.specs.Mails.{Boxes}
+use Rattle.mq_talk.specs.Mails.{Inboxes}
 use Rattle.mq_talk.specs.Offices.{Seen}
 use Rattle.mq_machine.specs.State.{Tunnel, Link, Port, Held, Worker}
 use Rattle.mq_machine.specs.Acting.{Outside, IsOpen, Known, Binder}
@@ -290,7 +290,7 @@ one_place seats apart a b x y at_x at_y same = by_case (apart_at seats apart a b
   by_case (inr ne) = absurd (ne.0 (sym same))
 
 -- a worker's connections have tunnels of their own
-pub own_tunnels : {L Q : Type 0} (most : Q → ℕ) (table : Slab Q) (hs : List (HeldBy L)) (x : Worker) (o : Outside) (seen : Seen) (boxes : Option Boxes)
+pub own_tunnels : {L Q : Type 0} (most : Q → ℕ) (table : Slab Q) (hs : List (HeldBy L)) (x : Worker) (o : Outside) (seen : Seen) (boxes : Inboxes)
     → AreHeld most table hs x.conns → AreApart x.conns → Known (sight o seen boxes) x → HaveOwnTunnels hs
 own_tunnels {L} most table hs x o seen boxes are apart known = λ i j a b g h u v at_g at_h at_u at_v same.
     by_places i j a b g h u v at_g at_h at_u at_v same (held_at most table hs x.conns i g are at_g) (held_at most table hs x.conns j h are at_h) where

@@ -1,7 +1,7 @@
 -- What went before the seat that acts: each seat that was tried was in vain.
 use Rattle.std.proofs.Common.{◌≡◌, ◌⊎◌, ℕ, ◌+◌, ◌≤◌, List, [], length, slice_get, Option, Some}
 use Rattle.mq_talk.specs.declared.place.Parcel.{Parcel}
-use Rattle.mq_talk.specs.Mails.{Boxes, IsTold}
+use Rattle.mq_talk.specs.Mails.{Boxes, IsTold, Inboxes}
 use Rattle.mq_machine.specs.State.{Held, Worker}
 use Rattle.mq_machine.specs.Turn.{Seat, Offers, Inbox, Of, most_live}
 use Rattle.mq_machine.specs.Acting.{Outside}
@@ -22,9 +22,9 @@ pub record Vain (o n : Outside) (x : Worker) (box : List Parcel) (k : ℕ) (seat
 -- ---- of the ring
 
 -- of inboxes with which what is told fits, this is in the own one
-pub record MailKept (mail : Option Boxes) (count id : ℕ) (box : List Parcel) : Type 0 where
+pub record MailKept (mail : Inboxes) (count id : ℕ) (box : List Parcel) : Type 0 where
   pub boxes : Boxes
-  pub told : IsTold mail boxes
+  pub told : IsTold mail.told boxes
   pub size : length boxes ≡ count
   pub at : slice_get boxes id ≡ Some box
 

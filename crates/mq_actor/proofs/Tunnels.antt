@@ -50,7 +50,7 @@ HasPlaces workers c = ArePlaced workers c.due
 known_with : (old new : Sight) (s t : Worker) → Known old s → t.id ≡ s.id → t.setup ≡ s.setup → new.seen.config ≡ old.seen.config
     → AreOpen (shapes_at (cores_of t.conns)) new.seen.entries s.id → All (IsSeen (length new.seen.entries)) (cores_of t.conns)
     → All (HasPlaces old.seen.config.workers) (cores_of t.conns)
-    → ((boxes : List (List Parcel)) → new.boxes ≡ Some boxes → length boxes ≡ new.seen.config.workers + 1) → Known new t
+    → ((boxes : List (List Parcel)) → new.boxes.told ≡ Some boxes → length boxes ≡ new.seen.config.workers + 1) → Known new t
 known_with old new s t known id setup config are last places boxes =
     let workers : new.seen.config.workers ≡ old.seen.config.workers = ap (λ c. c.workers) config in
     let own : s.id < old.seen.config.workers = known.id in
@@ -132,7 +132,7 @@ pub known_goes : (old new : Sight) (s t : Worker) (number : ℕ) (h : Held) (bec
     → h.conn.actor ≡ s.id
     → Sees old.seen sh.book → new.seen.entries ≡ after.book → new.seen.config ≡ old.seen.config
     → Goes h.conn sh (tunnels_or became) after
-    → ((boxes : List (List Parcel)) → new.boxes ≡ Some boxes → length boxes ≡ new.seen.config.workers + 1)
+    → ((boxes : List (List Parcel)) → new.boxes.told ≡ Some boxes → length boxes ≡ new.seen.config.workers + 1)
     → Known new t
 known_goes old new s t number h became sh after known actor apart is next actor_is sees wrote config goes boxes =
     known_with old new s t known is.id is.setup config open_now seen_now placed_now boxes where
@@ -176,7 +176,7 @@ known_goes old new s t number h became sh after known actor apart is next actor_
 
 -- Behind a step that changed no connection the office knows the worker's tunnels.
 pub known_same : (old new : Sight) (s t : Worker) → Known old s → t.id ≡ s.id → t.setup ≡ s.setup → cores_of t.conns ≡ cores_of s.conns
-    → new.seen ≡ old.seen → ((boxes : List (List Parcel)) → new.boxes ≡ Some boxes → length boxes ≡ new.seen.config.workers + 1) → Known new t
+    → new.seen ≡ old.seen → ((boxes : List (List Parcel)) → new.boxes.told ≡ Some boxes → length boxes ≡ new.seen.config.workers + 1) → Known new t
 known_same old new s t known id setup cores seen boxes =
     let A : List Conn → Type 0 = λ cs. AreOpen (shapes_at cs) old.seen.entries s.id in
     let B : Seen → Type 0 = λ x. AreOpen (shapes_at (cores_of t.conns)) x.entries s.id in
@@ -205,7 +205,7 @@ accepted_shapes (c ∷ cs) number actor conn =
 -- Behind a step that accepted a connection the office knows the worker's tunnels.
 pub known_accepted : (old new : Sight) (s t : Worker) (number : ℕ) → Known old s → t.id ≡ s.id → t.setup ≡ s.setup
     → cores_of t.conns ≡ cores_of s.conns ++ new_conn number s.id ∷ []
-    → new.seen ≡ old.seen → ((boxes : List (List Parcel)) → new.boxes ≡ Some boxes → length boxes ≡ new.seen.config.workers + 1) → Known new t
+    → new.seen ≡ old.seen → ((boxes : List (List Parcel)) → new.boxes.told ≡ Some boxes → length boxes ≡ new.seen.config.workers + 1) → Known new t
 known_accepted old new s t number known id setup cores seen boxes =
     let cs : List Conn = cores_of s.conns in
     let new_cs : List Conn = cs ++ new_conn number s.id ∷ [] in

@@ -3,7 +3,7 @@ use Rattle.std.specs.Prelude.{◌≡◌, Option, IsSome, Result}
 use Rattle.slab.specs.Slab.{Slab}
 use Rattle.mq_wire.specs.declared.NoMemory.{NoMemory}
 use Rattle.mq_talk.specs.declared.note.Note.{Note}
-use Rattle.mq_talk.specs.Mails.{Boxes}
+use Rattle.mq_talk.specs.Mails.{Boxes, Inboxes}
 use Rattle.mq_talk.specs.Offices.{Seen}
 use Rattle.mq_machine.specs.State.{Orders, Worker}
 use Rattle.mq_machine.specs.Acting.{Outside, Binder, Known, Writes, PlainGives}
@@ -23,7 +23,7 @@ pub record Place (L Q : Type 0) : Type 0 where
   pub table : Slab Q
   pub binds : Binder
   pub seen : Seen
-  pub boxes : Option Boxes
+  pub boxes : Inboxes
 
 -- The step was the worker's turn, or it had none, or was refused memory at it: then the ring stands for the worker behind it,
 -- whose links and ports tell what that has.

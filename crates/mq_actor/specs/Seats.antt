@@ -7,7 +7,7 @@ use Rattle.mq_talk.specs.declared.place.Cause.TheVariants as cause
 use Rattle.mq_talk.specs.declared.place.Parcel.{Parcel}
 use Rattle.mq_talk.specs.declared.place.Place.{Place}
 use Rattle.mq_talk.specs.declared.place.Place.TheVariants as place
-use Rattle.mq_talk.specs.Mails.{Boxes, PopGives}
+use Rattle.mq_talk.specs.Mails.{PopGives, Inboxes}
 use Rattle.mq_machine.specs.State.{Conn, new_conn, tunnel_of}
 use Rattle.mq_machine.specs.Turn.{most_live, source_of}
 use Rattle.mq_conn.specs.declared.conn.Conn.{Conn as Core}
@@ -120,15 +120,15 @@ ComesTo (place.Tunnel tunnel actor) parcel hs gs said =
     (NoneHas hs tunnel × Misses parcel hs gs said) ⊎ Comes tunnel parcel hs gs said
 
 -- The parcel at the front of the inbox was taken, and came to its tunnel.
-pub record Takes {L : Type 0} (count : ℕ) (old : Option Boxes) (id : ℕ) (r s : Ring L) (said : Note)
-    (new : Option Boxes) : Type 0 where
+pub record Takes {L : Type 0} (count : ℕ) (old : Inboxes) (id : ℕ) (r s : Ring L) (said : Note)
+    (new : Inboxes) : Type 0 where
   pub parcel : Parcel
   pub pops : PopGives count old id (Some parcel) new
   pub comes : ComesTo parcel.to parcel r.conns.items s.conns.items said
   pub rest : s ≡ record r { conns = s.conns; next_seat = 2 }
 
 -- what its turn gives, where its seat is in this part of the ring
-abbrev pub InboxGives : {L : Type 0} → ℕ → Option Boxes → ℕ → Bool → Ring L → Ring L → Option Note → Option Boxes
+abbrev pub InboxGives : {L : Type 0} → ℕ → Inboxes → ℕ → Bool → Ring L → Ring L → Option Note → Inboxes
     → Type 0
 InboxGives count old id upper r s None new =
     (s ≡ r) × (is_in_part upper r.next_seat 1 ≡ true → PopGives count old id None new)

@@ -3,7 +3,7 @@ use Rattle.std.specs.Prelude.{◌≡◌, ⊤, ℕ, List, All, Option, MatchOptio
 use Rattle.slab.specs.Slab.{Slab}
 use Rattle.mq_outside.specs.Counts.{LinkCounts, PortCounts}
 use Rattle.mq_outside.specs.Ports.{PortHolds}
-use Rattle.mq_talk.specs.Mails.{Boxes}
+use Rattle.mq_talk.specs.Mails.{Inboxes}
 use Rattle.mq_talk.specs.Offices.{Seen}
 use Rattle.mq_machine.specs.State.{Link}
 use Rattle.mq_machine.specs.Acting.{Outside, Binder}
@@ -27,7 +27,7 @@ pub record Moment (L Q : Type 0) : Type 0 where
   pub table : Slab Q
   pub binds : Binder
   pub seen : Seen
-  pub boxes : Option Boxes
+  pub boxes : Inboxes
 
 -- the outside tells what a connection's link and ports tell
 pub record SeesConn {L Q : Type 0} (words : Words L Q) (table : Slab Q) (h : HeldBy L) (o : Outside) : Type 0 where

@@ -99,7 +99,7 @@ impl<L: WriteReady, P: Ports> Actor<L, P> {
             → (t : machine.Worker) × IsWorker P.P.most self.new.table.table self.new.ring t × Known (sight o (O.seen office.new) (M.boxes mail.new)) t × Writes (O.seen office.old) (O.seen office.new) self.old.ring.id }
         ensures plain { AlwaysTells L.holds → AlwaysTells P.P.holds → (o : Outside) (w : machine.Worker) (boxes : Boxes) (orders : Orders)
             → IsWorker P.P.most self.old.table.table self.old.ring w → TellsRing (record { most = P.P.most; link = L.holds; link_counts = L.counts; port = P.P.holds; port_counts = P.P.counts }) self.old.table.table self.old.ring w
-            → Known (sight o (O.seen office.old) (M.boxes mail.old)) w → (O.seen office.old).is_whole ≡ true → M.boxes mail.old ≡ Some boxes
+            → Known (sight o (O.seen office.old) (M.boxes mail.old)) w → (O.seen office.old).is_whole ≡ true → (M.boxes mail.old).told ≡ Some boxes
             → PlainStep (record { most = P.P.most; link = L.holds; link_counts = L.counts; port = P.P.holds; port_counts = P.P.counts }) orders boxes
             (record { ring = self.old.ring; table = self.old.table.table; binds = binder P.holds P.faults self.old.table.ports; seen = O.seen office.old; boxes = M.boxes mail.old })
             (record { ring = self.new.ring; table = self.new.table.table; binds = binder P.holds P.faults self.new.table.ports; seen = O.seen office.new; boxes = M.boxes mail.new }) w result }

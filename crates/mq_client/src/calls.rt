@@ -6,7 +6,8 @@
 //! with status 200.
 use crate::{Client, ClientEvent};
 use mq_wire::Bytes;
-use std::alloc::Global;
+use std::alloc::{AllocError, Global};
+use std::fmt::Write;
 use std::process::Abort;
 use std::test::Fail;
 
@@ -23,21 +24,33 @@ pub fn client(alloc: Global, h2: bool) -> Result<Client, Fail> {
     Ok(Client::new(alloc, h2, Bytes::from_vec(path), Bytes::from_vec(host))?)
 }
 
-fn add_word(alloc: Global, out: &mut Vec<u8>, word: &str) -> Result<(), Fail> {
-    if let Some((byte, count)) = word.split_once('*') {
-        let byte = hex::decode(alloc, byte)?;
-        for _ in 0..count.parse::<u32>()? {
-            out.extend_from_slice(byte.as_slice())?;
-        }
-        return Ok(());
-    }
-    let text = match word {
-        "S" => SETTINGS,
-        "A" => ANSWER,
-        _ => word,
-    };
+/// What was seen is what is wanted, at this place.
+pub fn is(rt: &impl Abort, seen: &str, want: &str, place: &str) {
+    assert_eq!(rt; seen, want, "{place}");
+}
+
+fn add_hex(alloc: Global, out: &mut Vec<u8>, text: &str) -> Result<(), Fail> {
     out.extend_from_slice(hex::decode(alloc, text)?.as_slice())?;
     Ok(())
+}
+
+/// Adds a byte so many times.
+fn add_many(alloc: Global, out: &mut Vec<u8>, byte: &str, count: u32) -> Result<(), Fail> {
+    for _ in 0..count {
+        add_hex(alloc, out, byte)?;
+    }
+    Ok(())
+}
+
+fn add_word(alloc: Global, out: &mut Vec<u8>, word: &str) -> Result<(), Fail> {
+    match word.as_bytes() {
+        [b'S', ..] => add_hex(alloc, out, SETTINGS),
+        [b'A', ..] => add_hex(alloc, out, ANSWER),
+        _ => match word.split_once('*') {
+            Some((byte, count)) => add_many(alloc, out, byte, count.parse::<u32>()?),
+            None => add_hex(alloc, out, word),
+        },
+    }
 }
 
 /// The bytes of words.
@@ -49,41 +62,34 @@ pub fn bytes(alloc: Global, words: &str) -> Result<Vec<u8>, Fail> {
     Ok(out)
 }
 
-/// The text of an event, with a short payload in hex, and of a long one how many bytes it has.
-fn event_text(alloc: Global, event: &ClientEvent) -> Result<String, Fail> {
-    Ok(match event {
-        ClientEvent::Opened => format!(in alloc; "opened")?,
-        ClientEvent::Refused { status } => format!(in alloc; "refused {status}")?,
-        ClientEvent::Datagram { payload } => {
-            let payload = payload.as_slice();
-            if payload.len() > 16 {
-                format!(in alloc; "payload #{}", payload.len())?
-            } else {
-                format!(in alloc; "payload {}", hex::encode(alloc, payload)?)?
-            }
-        }
-        ClientEvent::Closed => format!(in alloc; "closed")?,
-        ClientEvent::BadPeer { code } => format!(in alloc; "bad peer {code}")?,
-    })
+/// Adds a short payload in hex, and of a long one how many bytes it has.
+fn add_payload(alloc: Global, text: &mut String, payload: &[u8]) -> Result<(), AllocError> {
+    if payload.len() > 16 {
+        return write!(text, "#{}", payload.len());
+    }
+    text.push_str(hex::encode(alloc, payload)?.as_str())
 }
 
-/// The events of a piece.
-pub fn fed(alloc: Global, client: &mut Client, piece: &[u8]) -> Result<String, Fail> {
-    let mut text = String::new(alloc);
-    for event in client.feed(alloc, piece)?.as_slice() {
+fn add_event(alloc: Global, text: &mut String, event: &ClientEvent) -> Result<(), AllocError> {
+    match event {
+        ClientEvent::Opened => text.push_str("opened"),
+        ClientEvent::Refused { status } => write!(text, "refused {status}"),
+        ClientEvent::Datagram { payload } => {
+            text.push_str("payload ")?;
+            add_payload(alloc, text, payload.as_slice())
+        }
+        ClientEvent::Closed => text.push_str("closed"),
+        ClientEvent::BadPeer { code } => write!(text, "bad peer {code}"),
+    }
+}
+
+fn add_events(alloc: Global, text: &mut String, events: &[ClientEvent]) -> Result<(), AllocError> {
+    for event in events {
         if !text.is_empty() {
             text.push_str("; ")?;
         }
-        text.push_str(event_text(alloc, event)?.as_str())?;
+        add_event(alloc, text, event)?;
     }
-    Ok(text)
-}
-
-fn add_events(text: &mut String, events: &str) -> Result<(), Fail> {
-    if !text.is_empty() && !events.is_empty() {
-        text.push_str("; ")?;
-    }
-    text.push_str(events)?;
     Ok(())
 }
 
@@ -91,10 +97,15 @@ fn add_events(text: &mut String, events: &str) -> Result<(), Fail> {
 pub fn fed_all(alloc: Global, client: &mut Client, pieces: &[&[u8]]) -> Result<String, Fail> {
     let mut text = String::new(alloc);
     for piece in pieces {
-        let events = fed(alloc, client, piece)?;
-        add_events(&mut text, events.as_str())?;
+        let events = client.feed(alloc, piece)?;
+        add_events(alloc, &mut text, events.as_slice())?;
     }
     Ok(text)
+}
+
+/// The events of a piece.
+pub fn fed(alloc: Global, client: &mut Client, piece: &[u8]) -> Result<String, Fail> {
+    fed_all(alloc, client, &[piece])
 }
 
 /// All that is owed is written.
@@ -166,6 +177,10 @@ fn replaced(alloc: Global, client: &mut Client, other: Client) -> String {
     String::new(alloc)
 }
 
+fn shown(alloc: Global, number: usize) -> Result<String, Fail> {
+    Ok(format!(in alloc; "{number}")?)
+}
+
 /// Does a call, and says what it gives.
 fn done(alloc: Global, current: &mut Client, call: Call, words: &str) -> Result<String, Fail> {
     match call {
@@ -175,8 +190,8 @@ fn done(alloc: Global, current: &mut Client, call: Call, words: &str) -> Result<
         Call::Feed => fed(alloc, current, bytes(alloc, words)?.as_slice()),
         Call::Send => sent(alloc, current, bytes(alloc, words)?.as_slice()),
         Call::Owed => taken(alloc, current),
-        Call::Length => Ok(format!(in alloc; "{}", current.owed().len())?),
-        Call::Waiting => Ok(format!(in alloc; "{}", u8::from(current.waiting()))?),
+        Call::Length => shown(alloc, current.owed().len()),
+        Call::Waiting => shown(alloc, usize::from(current.waiting())),
     }
 }
 
@@ -184,7 +199,7 @@ fn done(alloc: Global, current: &mut Client, call: Call, words: &str) -> Result<
 fn wanted(alloc: Global, call: Call, want: &str) -> Result<String, Fail> {
     match call {
         Call::Owed => Ok(hex::encode(alloc, bytes(alloc, want)?.as_slice())?),
-        _ => Ok(format!(in alloc; "{want}")?),
+        _ => Ok(String::from_str(alloc, want)?),
     }
 }
 
@@ -199,17 +214,26 @@ fn check_call(
     let call = call_of(word.as_bytes());
     let seen = done(alloc, current, call, words)?;
     let want = wanted(alloc, call, want.strip_prefix(' ').unwrap_or(""))?;
-    assert_eq!(rt; seen.as_str(), want.as_str(), "{text}");
+    is(rt, seen.as_str(), want.as_str(), text);
+    Ok(())
+}
+
+fn check_lines(
+    rt: &impl Abort,
+    alloc: Global,
+    current: &mut Client,
+    lines: &str,
+) -> Result<(), Fail> {
+    for line in lines.lines() {
+        if let Some((text, want)) = line.split_once(" =>") {
+            check_call(rt, alloc, current, text, want)?;
+        }
+    }
     Ok(())
 }
 
 /// Each line's call gives what the line says. A call is known by its first letter.
 pub fn check(rt: &impl Abort, alloc: Global, lines: &str) -> Result<(), Fail> {
     let mut current = client(alloc, true)?;
-    for line in lines.lines() {
-        if let Some((text, want)) = line.split_once(" =>") {
-            check_call(rt, alloc, &mut current, text, want)?;
-        }
-    }
-    Ok(())
+    check_lines(rt, alloc, &mut current, lines)
 }

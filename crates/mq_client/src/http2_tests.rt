@@ -1,6 +1,6 @@
 //! Rows of calls on a client over HTTP/2, with what they give.
 use crate::Client;
-use crate::calls::{bytes, check, client, fed, fed_all, opened, write_all};
+use crate::calls::{bytes, check, client, fed, fed_all, is, opened, write_all};
 use crate::sessions::SESSIONS;
 use std::alloc::Global;
 use std::process::Abort;
@@ -239,14 +239,29 @@ owed => 000004080000000000 00004000 000004080000000001 00004000";
 
 /// What a client tells of these pieces, and owes then.
 fn told_and_owed(alloc: Global, client: &mut Client, pieces: &[&[u8]]) -> Result<String, Fail> {
-    let told = fed_all(alloc, client, pieces)?;
-    let owed = hex::encode(alloc, client.owed())?;
-    Ok(format!(in alloc; "{told} {owed}")?)
+    let mut text = fed_all(alloc, client, pieces)?;
+    text.push_str(" ")?;
+    text.push_str(hex::encode(alloc, client.owed())?.as_str())?;
+    Ok(text)
 }
 
 fn told(alloc: Global, pieces: &[&[u8]]) -> Result<String, Fail> {
     let mut client = client(alloc, true)?;
     told_and_owed(alloc, &mut client, pieces)
+}
+
+/// These bytes, cut here, bring this, and what is owed then.
+fn cut_brings(
+    rt: &impl Abort,
+    alloc: Global,
+    bytes: &[u8],
+    at: usize,
+    want: &str,
+) -> Result<(), Fail> {
+    let (front, rest) = bytes.split_at(at.min(bytes.len()));
+    let text = told(alloc, &[front, rest])?;
+    assert_eq!(rt; text.as_str(), want, "cut at {at}");
+    Ok(())
 }
 
 #[test]
@@ -258,22 +273,17 @@ fn each_cutting_gives_the_same(rt: HostRuntime) -> Result<(), Fail> {
     let bytes = bytes(alloc, words)?;
     let all = bytes.as_slice();
     let whole = told(alloc, &[all])?;
-    assert!(rt;
-        whole
-            .as_str()
-            .starts_with("opened; payload 6162; closed 505249")
-    );
+    assert!(rt; whole.starts_with("opened; payload 6162; closed 505249"));
     for at in 0..all.len() {
-        let (front, rest) = all.split_at(at);
-        let lines = told(alloc, &[front, rest])?;
-        assert_eq!(rt; lines.as_str(), whole.as_str(), "cut at {at}");
+        cut_brings(&rt, alloc, all, at, whole.as_str())?;
     }
     Ok(())
 }
 
 /// A payload goes each way: the proxy's in this frame.
 fn exchange(rt: &impl Abort, alloc: Global, client: &mut Client, frame: &[u8]) -> Result<(), Fail> {
-    assert_eq!(rt; fed(alloc, client, frame)?.as_str(), "payload #44");
+    let events = fed(alloc, client, frame)?;
+    is(rt, events.as_str(), "payload #44", "");
     client.send(b"abcdefghijklmnopqrstuvwxyz012345")?;
     assert!(rt; !client.waiting());
     write_all(client);

@@ -1,6 +1,6 @@
 //! What answers bring to a client, and what it owes.
 use crate::Client;
-use crate::calls::{client, fed, fed_all};
+use crate::calls::{client, fed, fed_all, is};
 use std::alloc::Global;
 use std::process::Abort;
 use std::test::Fail;
@@ -18,6 +18,27 @@ fn told(alloc: Global, pieces: &[&[u8]]) -> Result<String, Fail> {
 const REQUEST: &[u8] =
     b"GET /.well-known/masque/udp/192.0.2.6/443/ HTTP/1.1\r\nHost: 127.0.0.1:8080\r\nConnection: Upgrade\r\nUpgrade: connect-udp\r\nCapsule-Protocol: ?1\r\n\r\n";
 
+/// These pieces bring this to a new client.
+fn brings(rt: &impl Abort, alloc: Global, pieces: &[&[u8]], want: &str) -> Result<(), Fail> {
+    let text = told(alloc, pieces)?;
+    is(rt, text.as_str(), want, "");
+    Ok(())
+}
+
+/// These bytes, cut here, and then an `o` bring this.
+fn cut_brings(
+    rt: &impl Abort,
+    alloc: Global,
+    bytes: &[u8],
+    at: usize,
+    want: &str,
+) -> Result<(), Fail> {
+    let (front, rest) = bytes.split_at(at.min(bytes.len()));
+    let text = told(alloc, &[front, rest, b"o"])?;
+    assert_eq!(rt; text.as_str(), want, "cut at {at}");
+    Ok(())
+}
+
 /// What is owed is this, and so much of it is written.
 fn write_some(rt: &impl Abort, client: &mut Client, owed: &[u8], count: u32) {
     assert_eq!(rt; client.owed(), owed);
@@ -27,12 +48,13 @@ fn write_some(rt: &impl Abort, client: &mut Client, owed: &[u8], count: u32) {
 fn ask_and_send(rt: &impl Abort, alloc: Global, client: &mut Client) -> Result<(), Fail> {
     let (_, rest) = REQUEST.split_at(100);
     write_some(rt, client, REQUEST, 100);
-    assert_eq!(rt; client.owed(), rest);
-    assert_eq!(rt; fed(alloc, client, OPENED)?.as_str(), "opened");
+    write_some(rt, client, rest, 0);
+    let events = fed(alloc, client, OPENED)?;
+    is(rt, events.as_str(), "opened", "");
     client.send(b"hi")?;
     client.wrote(40);
     write_some(rt, client, b"\r\n\x00\x03\x00hi", 2);
-    assert_eq!(rt; client.owed(), b"\x00\x03\x00hi".as_slice());
+    write_some(rt, client, b"\x00\x03\x00hi", 0);
     Ok(())
 }
 
@@ -42,9 +64,15 @@ fn owes_the_request_and_then_a_capsule(rt: HostRuntime) -> Result<(), Fail> {
     ask_and_send(&rt, rt.alloc(), &mut client)
 }
 
+/// What these pieces bring begins with this.
+fn begins(rt: &impl Abort, alloc: Global, pieces: &[&[u8]], want: &str) -> Result<(), Fail> {
+    let text = told(alloc, pieces)?;
+    assert!(rt; text.starts_with(want));
+    Ok(())
+}
+
 #[test]
 fn answers_bring_their_events(rt: HostRuntime) -> Result<(), Fail> {
-    let alloc = rt.alloc();
     let cases: [(&[u8], &str); 9] = [
         (
             b"HTTP/1.1 403 Forbidden\r\nConnection: close\r\nContent-Length: 0\r\n\r\n",
@@ -66,10 +94,8 @@ fn answers_bring_their_events(rt: HostRuntime) -> Result<(), Fail> {
         (b"HTTP/1.1 101\r\n\r\n\x00\x01\x40", "opened; bad peer 1"),
     ];
     for (bytes, want) in cases {
-        let lines = told(alloc, &[bytes, b"\x00\x03\x00ok"])?;
-        let first = told(alloc, &[bytes])?;
-        assert_eq!(rt; first.as_str(), want);
-        assert!(rt; lines.as_str().starts_with(want));
+        brings(&rt, rt.alloc(), &[bytes], want)?;
+        begins(&rt, rt.alloc(), &[bytes, b"\x00\x03\x00ok"], want)?;
     }
     Ok(())
 }
@@ -81,13 +107,7 @@ fn each_cutting_brings_the_same(rt: HostRuntime) -> Result<(), Fail> {
     bytes.extend_from_slice(b"\x00\x03\x00ok\x00\x03\x00k")?;
     let all = bytes.as_slice();
     for at in 0..all.len() {
-        let (front, rest) = all.split_at(at);
-        let lines = told(alloc, &[front, rest, b"o"])?;
-        assert_eq!(rt;
-            lines.as_str(),
-            "opened; payload 6f6b; payload 6b6f",
-            "cut at {at}"
-        );
+        cut_brings(&rt, alloc, all, at, "opened; payload 6f6b; payload 6b6f")?;
     }
     Ok(())
 }
@@ -112,22 +132,35 @@ fn head_of_bytes(alloc: Global, count: usize) -> Result<Vec<u8>, Fail> {
     Ok(head)
 }
 
+/// A head of 64 fields is read, and one of 65 is bad.
+fn have_few_fields(rt: &impl Abort, alloc: Global) -> Result<(), Fail> {
+    let few = head_of_fields(alloc, 64)?;
+    brings(rt, alloc, &[few.as_slice()], "opened")?;
+    let many = head_of_fields(alloc, 65)?;
+    brings(rt, alloc, &[many.as_slice()], "bad peer 1")
+}
+
+/// A head of 8192 bytes is read.
+fn may_be_long(rt: &impl Abort, alloc: Global) -> Result<(), Fail> {
+    let long = head_of_bytes(alloc, 8192 - 41)?;
+    assert!(rt; long.len() == 8192);
+    brings(rt, alloc, &[long.as_slice()], "opened")
+}
+
+/// A longer one is bad as soon as byte 8192 is there.
+fn are_no_longer(rt: &impl Abort, alloc: Global) -> Result<(), Fail> {
+    let longer = head_of_bytes(alloc, 8192 - 40)?;
+    brings(rt, alloc, &[longer.as_slice()], "bad peer 1")?;
+    let (begun, _) = longer.as_slice().split_at(longer.len().min(8191));
+    brings(rt, alloc, &[begun], "")?;
+    brings(rt, alloc, &[begun, b"b"], "bad peer 1")
+}
+
 #[test]
 fn heads_have_limits(rt: HostRuntime) -> Result<(), Fail> {
-    let alloc = rt.alloc();
-    let few = head_of_fields(alloc, 64)?;
-    let many = head_of_fields(alloc, 65)?;
-    let long = head_of_bytes(alloc, 8192 - 41)?;
-    let longer = head_of_bytes(alloc, 8192 - 40)?;
-    assert_eq!(rt; told(alloc, &[few.as_slice()])?.as_str(), "opened");
-    assert_eq!(rt; told(alloc, &[many.as_slice()])?.as_str(), "bad peer 1");
-    assert_eq!(rt; long.as_slice().len(), 8192);
-    assert_eq!(rt; told(alloc, &[long.as_slice()])?.as_str(), "opened");
-    assert_eq!(rt; told(alloc, &[longer.as_slice()])?.as_str(), "bad peer 1");
-    let (begun, _) = longer.as_slice().split_at(longer.len().min(8191));
-    assert_eq!(rt; told(alloc, &[begun])?.as_str(), "");
-    assert_eq!(rt; told(alloc, &[begun, b"b"])?.as_str(), "bad peer 1");
-    Ok(())
+    have_few_fields(&rt, rt.alloc())?;
+    may_be_long(&rt, rt.alloc())?;
+    are_no_longer(&rt, rt.alloc())
 }
 
 /// The bytes of an opened tunnel with one DATAGRAM capsule, whose value is this front and so many bytes.
@@ -142,18 +175,18 @@ fn tunnel_with(alloc: Global, front: &[u8], count: usize) -> Result<Vec<u8>, Fai
 
 #[test]
 fn payloads_have_a_limit(rt: HostRuntime) -> Result<(), Fail> {
-    let alloc = rt.alloc();
-    let longest = tunnel_with(alloc, b"\x00\x80\x00\xff\xf8\x00", 65_527)?;
-    let longer = tunnel_with(alloc, b"\x00\x80\x00\xff\xf9\x00", 65_528)?;
-    let other = tunnel_with(alloc, b"\x00\x80\x00\xff\xf9\x01", 65_528)?;
-    assert_eq!(rt;
-        told(alloc, &[longest.as_slice()])?.as_str(),
-        "opened; payload #65527"
-    );
-    assert_eq!(rt;
-        told(alloc, &[longer.as_slice()])?.as_str(),
-        "opened; bad peer 1"
-    );
-    assert_eq!(rt; told(alloc, &[other.as_slice()])?.as_str(), "opened");
+    let rows: [(&[u8], usize, &str); 3] = [
+        (
+            b"\x00\x80\x00\xff\xf8\x00",
+            65_527,
+            "opened; payload #65527",
+        ),
+        (b"\x00\x80\x00\xff\xf9\x00", 65_528, "opened; bad peer 1"),
+        (b"\x00\x80\x00\xff\xf9\x01", 65_528, "opened"),
+    ];
+    for (front, count, want) in rows {
+        let bytes = tunnel_with(rt.alloc(), front, count)?;
+        brings(&rt, rt.alloc(), &[bytes.as_slice()], want)?;
+    }
     Ok(())
 }

@@ -39,7 +39,7 @@ use Rattle.mq_addr.specs.declared.kind.Kind.TheVariants as kind
 use Rattle.mq_talk.specs.declared.note.From.TheVariants as source
 use Rattle.mq_conn.proofs.Ready.{ready_first, ready_idle, ready_same}
 use Rattle.mq_conn.specs.Conns.{IsConn, Stands, IsRead, Leaves, Refuses, Past, state, behind, act_of, tunnel_is, tunnels_of}
-use Rattle.mq_conn.specs.Frames.{ComesFrom, ComesInAt, Delivers, GoesOnAt, QueuesAt, comes_in, delivered, IsFirst, IsNext, IsPlaceOf, HasNone, PutFirst, PutsFirst, Takes, TookFirst, on_side, took_note, took_waiting}
+use Rattle.mq_conn.specs.Frames.{ComesInAt, Delivers, GoesOnAt, QueuesAt, comes_in, delivered, IsFirst, IsNext, IsPlaceOf, HasNone, PutFirst, PutsFirst, Takes, TookFirst, on_side, took_note, took_waiting}
 use Rattle.mq_conn.specs.declared.queue.Queued.{Queued}
 use Rattle.mq_conn.specs.Queues.{a_packet, size_of, behind as behind_part}
 use Rattle.mq_conn.proofs.Places.{found, missing, waits_at, set_at, bytes_in, one_within, side, side_is, first_at, none_at, either_side, other_side}
@@ -142,6 +142,12 @@ pub delivers_port : (c d : Conn) (id place port n : ℕ) (t : Tunnel) (packet : 
 delivers_port c d id place port n t packet said at queues s stands =
     let P : Option machine.Tunnel → Type 0 = λ o. (said ≡ (delivered s o (source.Port port) n packet).0) × IsConn d (delivered s o (source.Port port) n packet).1 in
     subst P (sym (found_at c id place t at s stands)) (queues t at s stands)
+
+-- it came through an inbox
+abbrev pub ComesFrom : From → Type 0
+ComesFrom (source.Tunnel origin) = Unit {0}
+ComesFrom source.Net = Unit {0}
+ComesFrom (source.Port port) = ⊥
 
 -- a packet of an inbox
 pub comes_from : (from : From) → ((origin : ℕ) × (from ≡ source.Tunnel origin)) ⊎ (from ≡ source.Net) → ComesFrom from

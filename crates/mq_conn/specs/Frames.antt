@@ -54,12 +54,6 @@ abbrev pub QueuesAt : Conn → Conn → ℕ → ℕ → From → ℕ → List �
 QueuesAt old new place id from n packet said = (t : Tunnel) → IsPlaceOf old.tunnels.items id place t → (s : machine.Conn) → IsConn old s
     → (said ≡ (settled_note (queued s (tunnel_is t) from n packet)).0) × IsConn new (settled_note (queued s (tunnel_is t) from n packet)).1
 
--- it came through an inbox
-abbrev pub ComesFrom : From → Type 0
-ComesFrom (source.Tunnel origin) = Unit {0}
-ComesFrom source.Net = Unit {0}
-ComesFrom (source.Port port) = ⊥
-
 -- one that came through an inbox
 abbrev pub ComesInAt : Conn → Conn → ℕ → ℕ → From → ℕ → List ℕ → Note → Type 0
 ComesInAt old new place id from n packet said = (t : Tunnel) → IsPlaceOf old.tunnels.items id place t → (s : machine.Conn) → IsConn old s

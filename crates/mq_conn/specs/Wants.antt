@@ -4,10 +4,9 @@ use Rattle.mq_iptun.specs.Acts.{MayAsk}
 use Rattle.mq_talk.specs.declared.book.Call.TheVariants as call
 use Rattle.mq_talk.specs.declared.goal.Goal.TheVariants as goal
 use Rattle.mq_talk.specs.declared.place.Parcel.{Parcel}
-use Rattle.mq_talk.specs.declared.place.Place.{Place}
-use Rattle.mq_talk.specs.declared.place.Place.TheVariants as place
 use Rattle.mq_talk.specs.declared.place.Pushed.{Pushed}
 use Rattle.mq_talk.specs.declared.place.Pushed.TheVariants as pushed
+use Rattle.mq_talk.specs.Mails.{inbox_in}
 use Rattle.mq_wire.specs.declared.NoMemory.{NoMemory}
 use Rattle.mq_machine.specs.State.{Conn as State}
 use Rattle.mq_machine.specs.Want as machine
@@ -17,14 +16,9 @@ use Rattle.mq_conn.specs.Conns.{IsConn}
 use Rattle.mq_conn.specs.declared.want.Want.{Want}
 use Rattle.mq_conn.specs.declared.want.Want.TheVariants as want
 
--- a tunnel's parcel goes to the inbox of its actor, and one for the network to the pump's
-abbrev pub GoesTo : ℕ → ℕ → Place → Type 0
-GoesTo pump to (place.Tunnel tunnel actor) = to ≡ actor
-GoesTo pump to place.Net = to ≡ pump
-
 -- the inbox to which a push is to go, of a connection with this pump
 abbrev pub PushesTo : ℕ → Want → machine.Want → Type 0
-PushesTo pump (want.Push to) (machine.Push parcel) = GoesTo pump to parcel.to
+PushesTo pump (want.Push to) (machine.Push parcel) = to ≡ inbox_in pump parcel.to
 PushesTo pump w m = Unit {0}
 
 -- what the book is asked keeps to its limits

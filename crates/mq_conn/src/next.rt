@@ -12,7 +12,7 @@ ghost use Rattle.mq_machine.specs.declared.act.Due.{Due};
 ghost use Rattle.mq_machine.specs.declared.act.Due.TheVariants.{Do};
 ghost use Rattle.mq_conn.specs.Conns.{IsConn, find_on, tunnel_is};
 ghost use Rattle.mq_conn.specs.Frames.{Gives};
-ghost use Rattle.mq_conn.specs.Wants.{GoesTo, WantIs, Wants, WantsOf};
+ghost use Rattle.mq_conn.specs.Wants.{WantIs, Wants, WantsOf};
 ghost use Rattle.mq_talk.specs.declared.note.Why.{Why};
 
 use crate::conn::{Conn, First, Tunnel, gives_up};
@@ -162,16 +162,6 @@ impl Conn {
         }
     }
 
-    /// The inbox to which a packet for this place goes.
-    fn inbox_of(&self, to: Place) -> u32
-        ensures { GoesTo self.now.pump result to }
-    {
-        match to {
-            Place::Tunnel { actor, .. } => actor,
-            Place::Net => self.pump,
-        }
-    }
-
     /// The push of a packet of a stream's live tunnel.
     fn want_push(&self, stream: u32, to: Place) -> Want
         ensures { (n : ℕ) (packet : List ℕ) → WantIs self.now.pump result (tunnel_want (find_on self.now stream) (asks.Push n to packet)) }
@@ -179,7 +169,7 @@ impl Conn {
         match self.on(stream) {
             None => Want::Nothing,
             Some(_) => Want::Push {
-                to: self.inbox_of(to),
+                to: to.inbox(self.pump),
             },
         }
     }

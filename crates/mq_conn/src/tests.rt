@@ -18,7 +18,9 @@ use mq_policy::Policy;
 use mq_talk::{Call, From, Judged, Note, Place, Pushed, Reply, Verdict};
 use mq_target::Template;
 use mq_wire::{Bytes, Seq};
-use std::alloc::Global;
+use std::alloc::{AllocError, Global};
+use std::fmt::Write;
+use std::process::Abort;
 use std::test::Fail;
 
 /// A request for a tunnel to 192.0.2.6, port 443.
@@ -69,83 +71,76 @@ pub fn filled(alloc: Global, value: u8, count: usize) -> Result<Bytes, Fail> {
     Ok(Bytes::from_vec(Vec::from_elem(alloc, value, count)?))
 }
 
-/// Bytes in hex, or how many they are where that is long.
-fn shown(alloc: Global, bytes: &[u8]) -> Result<String, Fail> {
+/// What was seen is what is wanted.
+pub fn is(rt: &impl Abort, seen: &str, want: &str) {
+    assert_eq!(rt; seen, want);
+}
+
+/// Adds a word, and numbers behind it.
+fn add_row(text: &mut String, word: &str, numbers: &[u32]) -> Result<(), AllocError> {
+    text.push_str(word)?;
+    for number in numbers {
+        write!(text, " {number}")?;
+    }
+    Ok(())
+}
+
+/// Adds bytes in hex, or how many they are where that is long.
+fn add_bytes(alloc: Global, text: &mut String, bytes: &[u8]) -> Result<(), AllocError> {
     if bytes.len() > 200 {
-        return Ok(format!(in alloc; "#{}", bytes.len())?);
+        return write!(text, " #{}", bytes.len());
     }
-    Ok(hex::encode(alloc, bytes)?)
+    text.push_str(" ")?;
+    text.push_str(hex::encode(alloc, bytes)?.as_str())
 }
 
-fn numbered(alloc: Global, word: &str, number: u32) -> Result<String, Fail> {
-    Ok(format!(in alloc; "{word}{number}")?)
-}
-
-fn to_text(alloc: Global, to: Place) -> Result<String, Fail> {
-    match to {
-        Place::Tunnel { tunnel, actor: _ } => numbered(alloc, "", tunnel),
-        Place::Net => Ok(String::from_str(alloc, "net")?),
-    }
-}
-
-fn from_text(alloc: Global, from: From) -> Result<String, Fail> {
+fn add_from(text: &mut String, from: From) -> Result<(), AllocError> {
     match from {
-        From::Tunnel(tunnel) => numbered(alloc, "", tunnel),
-        From::Net => Ok(String::from_str(alloc, "net")?),
-        From::Port(tunnel) => numbered(alloc, "port", tunnel),
+        From::Tunnel(tunnel) => add_row(text, "", &[tunnel]),
+        From::Net => text.push_str(" net"),
+        From::Port(tunnel) => write!(text, " port{tunnel}"),
     }
 }
 
-/// The line of a note, where a connection gives such a one.
-pub fn line(alloc: Global, note: &Note) -> Result<String, Fail> {
-    Ok(match note {
-        Note::Ported { conn, stream } => format!(in alloc; "ported {conn} {stream}\n")?,
-        Note::Opened {
-            tunnel,
-            conn,
-            stream,
-            kind: Kind::Udp,
-        } => format!(in alloc; "opened {tunnel} {conn} {stream} udp\n")?,
-        Note::Opened {
-            tunnel,
-            conn,
-            stream,
-            kind: Kind::Ip,
-        } => format!(in alloc; "opened {tunnel} {conn} {stream} ip\n")?,
-        Note::Assigned { tunnel, at, list } => {
-            format!(in alloc; "assigned {tunnel} at {at} #{}\n", list.as_slice().len())?
-        }
-        Note::Advertised { tunnel, at, yes } => {
-            format!(in alloc; "advertised {tunnel} at {at} {yes}\n")?
-        }
+/// Adds what happens to a packet: where it comes from, and its number.
+fn add_packet(text: &mut String, word: &str, from: From, n: u64) -> Result<(), AllocError> {
+    text.push_str(word)?;
+    add_from(text, from)?;
+    write!(text, " {n}")
+}
+
+fn add_place(text: &mut String, to: Place) -> Result<(), AllocError> {
+    match to {
+        Place::Tunnel { tunnel, actor: _ } => add_row(text, " to", &[tunnel]),
+        Place::Net => text.push_str(" to net"),
+    }
+}
+
+/// Adds what the book answers a tunnel, at this place.
+fn add_answer(text: &mut String, word: &str, tunnel: u32, at: u32) -> Result<(), AllocError> {
+    add_row(text, word, &[tunnel])?;
+    add_row(text, " at", &[at])
+}
+
+/// Adds what happens to a packet of a tunnel or of the network, if the note is of one.
+fn add_packet_note(alloc: Global, text: &mut String, note: &Note) -> Result<(), AllocError> {
+    match note {
         Note::Passed { from, n, at, to } => {
-            let from = from_text(alloc, *from)?;
-            let to = to_text(alloc, *to)?;
-            format!(in alloc; "passed {from} {n} at {at} to {to}\n")?
+            add_packet(text, "passed", *from, *n)?;
+            add_row(text, " at", &[*at])?;
+            add_place(text, *to)
         }
         Note::PushedNote { from, n, to } => {
-            let from = from_text(alloc, *from)?;
-            let to = to_text(alloc, *to)?;
-            format!(in alloc; "pushed {from} {n} to {to}\n")?
+            add_packet(text, "pushed", *from, *n)?;
+            add_place(text, *to)
         }
-        Note::Control { tunnel, capsule } => {
-            let capsule = shown(alloc, capsule.as_slice())?;
-            format!(in alloc; "control {tunnel} {capsule}\n")?
-        }
-        Note::Refused {
-            conn,
-            stream,
-            status,
-            rule,
-        } => format!(in alloc; "refused {conn} {stream} {status} {rule}\n")?,
         Note::Sent { from, n, packet } => {
-            let from = from_text(alloc, *from)?;
-            let packet = shown(alloc, packet.as_slice())?;
-            format!(in alloc; "sent {from} {n} {packet}\n")?
+            add_packet(text, "sent", *from, *n)?;
+            add_bytes(alloc, text, packet.as_slice())
         }
         Note::Queued { from, n, to } => {
-            let from = from_text(alloc, *from)?;
-            format!(in alloc; "queued {from} {n} to {to}\n")?
+            add_packet(text, "queued", *from, *n)?;
+            add_row(text, " to", &[*to])
         }
         Note::Delivered {
             from,
@@ -153,19 +148,76 @@ pub fn line(alloc: Global, note: &Note) -> Result<String, Fail> {
             to,
             packet,
         } => {
-            let from = from_text(alloc, *from)?;
-            let packet = shown(alloc, packet.as_slice())?;
-            format!(in alloc; "delivered {from} {n} to {to} {packet}\n")?
+            add_packet(text, "delivered", *from, *n)?;
+            add_row(text, " to", &[*to])?;
+            add_bytes(alloc, text, packet.as_slice())
         }
         Note::Dropped { from, n, cause } => {
-            let from = from_text(alloc, *from)?;
-            format!(in alloc; "dropped {from} {n} {cause:?}\n")?
+            add_packet(text, "dropped", *from, *n)?;
+            write!(text, " {cause:?}")
         }
+        _ => text.push_str("another"),
+    }
+}
+
+/// Adds what a connection does, where it gives such a note.
+fn add_note(alloc: Global, text: &mut String, note: &Note) -> Result<(), AllocError> {
+    match note {
+        Note::Ported { conn, stream } => add_row(text, "ported", &[*conn, *stream]),
+        Note::Opened {
+            tunnel,
+            conn,
+            stream,
+            kind,
+        } => {
+            add_row(text, "opened", &[*tunnel, *conn, *stream])?;
+            text.push_str(match kind {
+                Kind::Udp => " udp",
+                Kind::Ip => " ip",
+            })
+        }
+        Note::Assigned { tunnel, at, list } => {
+            add_answer(text, "assigned", *tunnel, *at)?;
+            write!(text, " #{}", list.as_slice().len())
+        }
+        Note::Advertised { tunnel, at, yes } => {
+            add_answer(text, "advertised", *tunnel, *at)?;
+            text.push_str(if *yes { " true" } else { " false" })
+        }
+        Note::Control { tunnel, capsule } => {
+            add_row(text, "control", &[*tunnel])?;
+            add_bytes(alloc, text, capsule.as_slice())
+        }
+        Note::Refused {
+            conn,
+            stream,
+            status,
+            rule,
+        } => add_row(
+            text,
+            "refused",
+            &[*conn, *stream, u32::from(*status), *rule],
+        ),
         Note::Closed { tunnel, why, left } => {
-            format!(in alloc; "closed {tunnel} {why:?} left {left}\n")?
+            add_row(text, "closed", &[*tunnel])?;
+            write!(text, " {why:?} left {left}")
         }
-        _ => format!(in alloc; "another\n")?,
-    })
+        _ => add_packet_note(alloc, text, note),
+    }
+}
+
+/// Adds the line of a note.
+pub fn add_line(alloc: Global, text: &mut String, note: &Note) -> Result<(), AllocError> {
+    add_note(alloc, text, note)?;
+    text.push_str("\n")
+}
+
+/// The line of a note is this.
+pub fn is_line(rt: &impl Abort, alloc: Global, note: &Note, want: &str) -> Result<(), Fail> {
+    let mut text = String::new(alloc);
+    add_line(alloc, &mut text, note)?;
+    is(rt, text.as_str(), want);
+    Ok(())
 }
 
 /// The book opens a tunnel under number 0.
@@ -233,7 +285,7 @@ pub fn acts(
     for _ in 0..200 {
         match note_of(alloc, conn, outside)? {
             None => return Ok(()),
-            Some(note) => text.push_str(line(alloc, &note)?.as_str())?,
+            Some(note) => add_line(alloc, text, &note)?,
         }
     }
     Err(Fail::from("it acts on and on"))
@@ -244,8 +296,9 @@ pub fn writes(alloc: Global, conn: &mut Conn, text: &mut String) -> Result<(), F
     if conn.owed().is_empty() {
         return Ok(());
     }
-    let shown = shown(alloc, conn.owed())?;
-    text.push_str(format!(in alloc; "wrote {shown}\n")?.as_str())?;
+    text.push_str("wrote")?;
+    add_bytes(alloc, text, conn.owed())?;
+    text.push_str("\n")?;
     let Ok(count) = u32::try_from(conn.owed().len()) else {
         return Err(Fail::from("too much is owed"));
     };
@@ -256,7 +309,7 @@ pub fn writes(alloc: Global, conn: &mut Conn, text: &mut String) -> Result<(), F
 /// Why it is over, where it is.
 pub fn over(alloc: Global, conn: &Conn, text: &mut String) -> Result<(), Fail> {
     if let Want::Ended(why) = conn.next()? {
-        text.push_str(format!(in alloc; "ended {why:?}\n")?.as_str())?;
+        write!(text, "ended {why:?}\n")?;
     }
     Ok(())
 }
@@ -272,7 +325,7 @@ pub fn settles(
     for _ in 0..100 {
         if conn.can_frame() {
             let note = conn.frame()?;
-            text.push_str(line(alloc, &note)?.as_str())?;
+            add_line(alloc, text, &note)?;
         }
     }
     writes(alloc, conn, text)?;
@@ -294,17 +347,36 @@ pub fn reads(
     settles(alloc, conn, outside, text)
 }
 
-/// What a new connection does with these pieces, and then with the end of its link, if that ends.
-pub fn told(alloc: Global, outside: Outside, pieces: &[&[u8]], ends: bool) -> Result<String, Fail> {
-    let mut conn = Conn::new(alloc, 0, 0)?;
-    let mut text = String::new(alloc);
+/// Pieces are read, and then the end of the link, if that ends.
+fn reads_all(
+    alloc: Global,
+    conn: &mut Conn,
+    outside: Outside,
+    pieces: &[&[u8]],
+    ends: bool,
+    text: &mut String,
+) -> Result<(), Fail> {
     for piece in pieces {
-        reads(alloc, &mut conn, outside, piece, &mut text)?;
+        reads(alloc, conn, outside, piece, text)?;
     }
     if ends && conn.can_read() {
         conn.finish();
-        settles(alloc, &mut conn, outside, &mut text)?;
+        settles(alloc, conn, outside, text)?;
     }
+    Ok(())
+}
+
+/// What a new connection does with these pieces, and then with the end of its link, if that ends.
+pub fn told(alloc: Global, outside: Outside, pieces: &[&[u8]], ends: bool) -> Result<String, Fail> {
+    let mut text = String::new(alloc);
+    reads_all(
+        alloc,
+        &mut Conn::new(alloc, 0, 0)?,
+        outside,
+        pieces,
+        ends,
+        &mut text,
+    )?;
     Ok(text)
 }
 

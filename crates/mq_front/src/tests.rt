@@ -8,7 +8,9 @@ use mq_machine::{Act, Due, Setup, StreamAct};
 use mq_policy::{Policy, Rule};
 use mq_talk::{End, Goal};
 use mq_target::Template;
-use std::alloc::Global;
+use std::alloc::{AllocError, Global};
+use std::fmt::{Debug, Write};
+use std::process::Abort;
 use std::test::Fail;
 
 /// No tunnel is live.
@@ -54,55 +56,94 @@ fn setup(alloc: Global) -> Result<Setup, Fail> {
     })
 }
 
-/// The line of what is asked of a tunnel.
-fn stream_line(alloc: Global, stream: u32, act: &StreamAct) -> Result<String, Fail> {
-    Ok(match act {
-        StreamAct::Payload { n, payload } => {
-            let payload = hex::encode(alloc, payload.as_slice())?;
-            format!(in alloc; "{stream} payload {n} {payload}\n")?
-        }
-        StreamAct::Packet { n, packet, .. } => {
-            let packet = hex::encode(alloc, packet.as_slice())?;
-            format!(in alloc; "{stream} packet {n} {packet}\n")?
-        }
-        StreamAct::Assign { asked } => {
-            format!(in alloc; "{stream} assign {:?}\n", asked.as_slice())?
-        }
-        StreamAct::Advertise { ranges } => {
-            format!(in alloc; "{stream} advertise {:?}\n", ranges.as_slice())?
-        }
-        StreamAct::Drop { n, cause } => format!(in alloc; "{stream} drop {n} {cause:?}\n")?,
-        StreamAct::Close { why } => format!(in alloc; "{stream} close {why:?}\n")?,
-        _ => format!(in alloc; "{stream} another\n")?,
-    })
+/// What was seen is what is wanted.
+fn is(rt: &impl Abort, seen: &str, want: &str) {
+    assert_eq!(rt; seen, want);
 }
 
-fn act_line(alloc: Global, act: &Act) -> Result<String, Fail> {
+/// Adds the line of a stream, with a word and numbers.
+fn add_row(text: &mut String, stream: u32, word: &str, numbers: &[u32]) -> Result<(), AllocError> {
+    write!(text, "{stream} {word}")?;
+    for number in numbers {
+        write!(text, " {number}")?;
+    }
+    text.push_str("\n")
+}
+
+/// Adds the line of a stream, with a word and a value.
+fn add_value<T: Debug>(
+    text: &mut String,
+    stream: u32,
+    word: &str,
+    value: &T,
+) -> Result<(), AllocError> {
+    write!(text, "{stream} {word} {value:?}\n")
+}
+
+/// Adds the line of a stream, with a word, the number of a payload, and its bytes.
+fn add_bytes(
+    alloc: Global,
+    text: &mut String,
+    stream: u32,
+    word: &str,
+    n: u64,
+    bytes: &[u8],
+) -> Result<(), AllocError> {
+    write!(text, "{stream} {word} {n} ")?;
+    text.push_str(hex::encode(alloc, bytes)?.as_str())?;
+    text.push_str("\n")
+}
+
+/// Adds the line of what is asked of a tunnel.
+fn add_of_stream(
+    alloc: Global,
+    text: &mut String,
+    stream: u32,
+    act: &StreamAct,
+) -> Result<(), AllocError> {
+    match act {
+        StreamAct::Payload { n, payload } => {
+            add_bytes(alloc, text, stream, "payload", *n, payload.as_slice())
+        }
+        StreamAct::Packet { n, packet, .. } => {
+            add_bytes(alloc, text, stream, "packet", *n, packet.as_slice())
+        }
+        StreamAct::Assign { asked } => add_value(text, stream, "assign", &asked.as_slice()),
+        StreamAct::Advertise { ranges } => add_value(text, stream, "advertise", &ranges.as_slice()),
+        StreamAct::Drop { n, cause } => write!(text, "{stream} drop {n} {cause:?}\n"),
+        StreamAct::Close { why } => add_value(text, stream, "close", why),
+        _ => add_row(text, stream, "another", &[]),
+    }
+}
+
+/// Adds the line of what is asked.
+fn add_act(alloc: Global, text: &mut String, act: &Act) -> Result<(), AllocError> {
     match act {
         Act::Bind {
             stream,
             goal: Goal::Udp { port, .. },
-        } => Ok(format!(in alloc; "{stream} bind {port}\n")?),
+        } => add_row(text, *stream, "bind", &[u32::from(*port)]),
         Act::Open {
             stream,
             goal: Goal::Ip { area, protocol },
-        } => Ok(format!(in alloc; "{stream} open {area:?} {protocol:?}\n")?),
+        } => write!(text, "{stream} open {area:?} {protocol:?}\n"),
         Act::Refuse {
             stream,
             status,
             rule,
-        } => Ok(format!(in alloc; "{stream} refuse {status} {rule}\n")?),
-        Act::Reset { stream, code } => Ok(format!(in alloc; "{stream} reset {code}\n")?),
-        Act::OfStream { stream, act } => stream_line(alloc, *stream, act),
-        _ => Ok(format!(in alloc; "another\n")?),
+        } => add_row(text, *stream, "refuse", &[u32::from(*status), *rule]),
+        Act::Reset { stream, code } => add_row(text, *stream, "reset", &[*code]),
+        Act::OfStream { stream, act } => add_of_stream(alloc, text, *stream, act),
+        _ => text.push_str("another\n"),
     }
 }
 
-fn due_line(alloc: Global, due: &Due) -> Result<String, Fail> {
+/// Adds the line of what is due.
+fn add_due(alloc: Global, text: &mut String, due: &Due) -> Result<(), AllocError> {
     match due {
-        Due::Do(act) => act_line(alloc, act),
-        Due::Spend { stream, size } => Ok(format!(in alloc; "{stream} spend {size}\n")?),
-        Due::Fault { code } => Ok(format!(in alloc; "fault {code}\n")?),
+        Due::Do(act) => add_act(alloc, text, act),
+        Due::Spend { stream, size } => add_row(text, *stream, "spend", &[*size]),
+        Due::Fault { code } => write!(text, "fault {code}\n"),
     }
 }
 
@@ -128,17 +169,35 @@ fn lines(alloc: Global, dues: &mut Dues) -> Result<String, Fail> {
     let mut text = String::new(alloc);
     for _ in 0..100 {
         if let Some(due) = dues.pop() {
-            text.push_str(due_line(alloc, &due)?.as_str())?;
+            add_due(alloc, &mut text, &due)?;
         }
     }
     Ok(text)
 }
 
+/// What a piece asks for at a front, by this setup.
+fn asked_by(alloc: Global, front: &mut Front, setup: &Setup, piece: &[u8]) -> Result<String, Fail> {
+    let mut dues = Dues::new(alloc);
+    front.read(alloc, setup, &NoTunnel, piece, &mut dues)?;
+    lines(alloc, &mut dues)
+}
+
 /// What a piece asks for at a front.
 fn asked_of(alloc: Global, front: &mut Front, piece: &[u8]) -> Result<String, Fail> {
     let setup = setup(alloc)?;
+    asked_by(alloc, front, &setup, piece)
+}
+
+/// What a piece asks for, by this setup.
+fn told_by<T: Tunnels>(
+    alloc: Global,
+    front: &mut Http2,
+    setup: &Setup,
+    tunnels: &T,
+    piece: &[u8],
+) -> Result<String, Fail> {
     let mut dues = Dues::new(alloc);
-    front.read(alloc, &setup, &NoTunnel, piece, &mut dues)?;
+    front.read(alloc, setup, tunnels, piece, &mut dues)?;
     lines(alloc, &mut dues)
 }
 
@@ -150,9 +209,7 @@ fn told<T: Tunnels>(
     piece: &[u8],
 ) -> Result<String, Fail> {
     let setup = setup(alloc)?;
-    let mut dues = Dues::new(alloc);
-    front.read(alloc, &setup, tunnels, piece, &mut dues)?;
-    lines(alloc, &mut dues)
+    told_by(alloc, front, &setup, tunnels, piece)
 }
 
 /// What a piece, given in hex, asks for.
@@ -179,13 +236,18 @@ fn request(alloc: Global, stream: u32, ends: bool) -> Result<String, Fail> {
     Ok(format!(in alloc; "00003601{flags}0000000{stream}{BLOCK}")?)
 }
 
-/// A connection that has read the client's SETTINGS and a request on stream 1.
-fn asked(alloc: Global) -> Result<Http2, Fail> {
+/// A connection that has read this.
+fn after(alloc: Global, hexed: &str) -> Result<Http2, Fail> {
     let mut front = Http2::new(alloc)?;
-    read(alloc, &mut front, &NoTunnel, SETTINGS)?;
-    let piece = request(alloc, 1, false)?;
-    read(alloc, &mut front, &NoTunnel, piece.as_str())?;
+    read(alloc, &mut front, &NoTunnel, hexed)?;
     Ok(front)
+}
+
+/// One that has read the client's SETTINGS and a request on stream 1.
+fn asked(alloc: Global) -> Result<Http2, Fail> {
+    let first = request(alloc, 1, false)?;
+    let hexed = format!(in alloc; "{SETTINGS} {first}")?;
+    after(alloc, hexed.as_str())
 }
 
 /// Those of streams 1 and 3.
@@ -195,29 +257,56 @@ fn two_requests(alloc: Global) -> Result<String, Fail> {
     Ok(format!(in alloc; "{first}{second}")?)
 }
 
+/// This, given in hex, asks for that.
+fn reads(
+    rt: &impl Abort,
+    alloc: Global,
+    front: &mut Http2,
+    hexed: &str,
+    want: &str,
+) -> Result<(), Fail> {
+    let text = read(alloc, front, &NoTunnel, hexed)?;
+    is(rt, text.as_str(), want);
+    Ok(())
+}
+
+/// Two requests come, and capsules of both.
+fn read_of_two(rt: &impl Abort, alloc: Global, front: &mut Http2) -> Result<(), Fail> {
+    reads(rt, alloc, front, SETTINGS, "")?;
+    let both = two_requests(alloc)?;
+    reads(rt, alloc, front, both.as_str(), "1 bind 443\n3 bind 443\n")?;
+    reads(
+        rt,
+        alloc,
+        front,
+        "00000200000000000100030000030000000000030003000000030000000000010061620000020000000000036364",
+        "1 spend 2\n3 spend 3\n1 payload 0 6162\n1 spend 3\n3 payload 0 6364\n3 spend 2\n",
+    )
+}
+
 #[test]
 fn capsules_of_two_streams_stay_apart(rt: HostRuntime) -> Result<(), Fail> {
-    let alloc = rt.alloc();
-    let mut front = Http2::new(alloc)?;
-    let settings = read(alloc, &mut front, &NoTunnel, SETTINGS)?;
-    assert!(rt; settings.is_empty());
-    let both = two_requests(alloc)?;
-    let text = read(alloc, &mut front, &NoTunnel, both.as_str())?;
-    assert_eq!(rt; text.as_str(), "1 bind 443\n3 bind 443\n");
-    let text = read(
-        alloc,
-        &mut front,
-        &NoTunnel,
-        "00000200000000000100030000030000000000030003000000030000000000010061620000020000000000036364",
-    )?;
-    let want = "1 spend 2\n3 spend 3\n1 payload 0 6162\n1 spend 3\n3 payload 0 6364\n3 spend 2\n";
-    assert_eq!(rt; text.as_str(), want);
-    Ok(())
+    let mut front = Http2::new(rt.alloc())?;
+    read_of_two(&rt, rt.alloc(), &mut front)
+}
+
+/// The tunnel of the request on stream 1.
+const TUNNEL: OneTunnel = OneTunnel {
+    stream: 1,
+    goal: Goal::Udp {
+        addr: Addr::V4(0),
+        port: 443,
+    },
+};
+
+/// What this asks for behind a request on stream 1, whose tunnel is live.
+fn asked_behind(alloc: Global, hexed: &str) -> Result<String, Fail> {
+    let mut front = asked(alloc)?;
+    read(alloc, &mut front, &TUNNEL, hexed)
 }
 
 #[test]
 fn what_ends_a_stream(rt: HostRuntime) -> Result<(), Fail> {
-    let alloc = rt.alloc();
     let rows = [
         // the data stream ends, between capsules and inside one
         (
@@ -239,27 +328,29 @@ fn what_ends_a_stream(rt: HostRuntime) -> Result<(), Fail> {
         ("000001000000000009aa", "fault 1\n"),
     ];
     for (hexed, want) in rows {
-        let mut front = asked(alloc)?;
-        let tunnels = OneTunnel {
-            stream: 1,
-            goal: Goal::Udp {
-                addr: Addr::V4(0),
-                port: 443,
-            },
-        };
-        let text = read(alloc, &mut front, &tunnels, hexed)?;
-        assert_eq!(rt; text.as_str(), want);
+        let text = asked_behind(rt.alloc(), hexed)?;
+        is(&rt, text.as_str(), want);
     }
+    Ok(())
+}
+
+/// What this asks for behind the client's SETTINGS.
+fn asked_at_first(alloc: Global, hexed: &str) -> Result<String, Fail> {
+    let mut front = after(alloc, SETTINGS)?;
+    read(alloc, &mut front, &NoTunnel, hexed)
+}
+
+#[test]
+fn a_request_that_ends_its_side_at_once(rt: HostRuntime) -> Result<(), Fail> {
+    let ended = request(rt.alloc(), 1, true)?;
+    let text = asked_at_first(rt.alloc(), ended.as_str())?;
+    is(&rt, text.as_str(), "1 bind 443\n1 close End\n");
     Ok(())
 }
 
 #[test]
 fn requests_by_their_meaning(rt: HostRuntime) -> Result<(), Fail> {
-    let alloc = rt.alloc();
-    let ended = request(alloc, 1, true)?;
     let rows = [
-        // one that ends its side at once
-        (ended.as_str(), "1 bind 443\n1 close End\n"),
         // GET
         (
             "000011010500000001828684418cf1e3c2e5f23a6ba0ab90f4ff",
@@ -274,10 +365,8 @@ fn requests_by_their_meaning(rt: HostRuntime) -> Result<(), Fail> {
         ("00000101040000000182", "1 reset 1\n"),
     ];
     for (hexed, want) in rows {
-        let mut front = Http2::new(alloc)?;
-        read(alloc, &mut front, &NoTunnel, SETTINGS)?;
-        let text = read(alloc, &mut front, &NoTunnel, hexed)?;
-        assert_eq!(rt; text.as_str(), want);
+        let text = asked_at_first(rt.alloc(), hexed)?;
+        is(&rt, text.as_str(), want);
     }
     Ok(())
 }
@@ -289,9 +378,17 @@ fn told_of_two(
     before: &[u8],
     after: &[u8],
 ) -> Result<String, Fail> {
-    let first = told(alloc, front, &NoTunnel, before)?;
+    let mut text = told(alloc, front, &NoTunnel, before)?;
     let second = told(alloc, front, &NoTunnel, after)?;
-    Ok(format!(in alloc; "{first}{second}")?)
+    text.push_str(second.as_str())?;
+    Ok(text)
+}
+
+/// What they ask for at first, where they are cut here.
+fn told_of_cut(alloc: Global, bytes: &[u8], cut: usize) -> Result<String, Fail> {
+    let (before, after) = bytes.split_at(cut.min(bytes.len()));
+    let mut front = Http2::new(alloc)?;
+    told_of_two(alloc, &mut front, before, after)
 }
 
 /// The same is asked for by every cutting into two pieces, and the marks of DATA stand once each.
@@ -301,12 +398,13 @@ fn every_cut_asks_for_the_same(rt: HostRuntime) -> Result<(), Fail> {
     let first = request(alloc, 1, false)?;
     let hexed = format!(in alloc; "{SETTINGS}{first}000007000000000001000300aabb2901")?;
     let whole = bytes(alloc, hexed.as_str())?;
-    let want = "1 bind 443\n1 payload 0 aabb\n1 spend 7\n";
     for cut in 0..=whole.len() {
-        let (before, after) = whole.as_slice().split_at(cut);
-        let mut front = Http2::new(alloc)?;
-        let text = told_of_two(alloc, &mut front, before, after)?;
-        assert_eq!(rt; text.as_str(), want);
+        let text = told_of_cut(alloc, whole.as_slice(), cut)?;
+        is(
+            &rt,
+            text.as_str(),
+            "1 bind 443\n1 payload 0 aabb\n1 spend 7\n",
+        );
     }
     Ok(())
 }
@@ -316,22 +414,27 @@ fn every_cut_asks_for_the_same(rt: HostRuntime) -> Result<(), Fail> {
 const IP_CAPSULES: &str =
     "001600450000150000000040118e9ac0000201c6336409aa020701040000000020030a040a0000000a0000ff11";
 
-#[test]
-fn items_of_ip_packets_become_acts_in_order(rt: HostRuntime) -> Result<(), Fail> {
-    let alloc = rt.alloc();
+/// What the data stream of a tunnel for IP packets asks for by these bytes.
+fn asked_by_data(alloc: Global, piece: &[u8]) -> Result<String, Fail> {
     let goal = Goal::Ip {
         area: None,
         protocol: None,
     };
-    let mut stream = DataStream::new(1, goal);
-    let piece = bytes(alloc, IP_CAPSULES)?;
     let mut dues = Dues::new(alloc);
-    stream.take(alloc, 1500, piece.as_slice(), false, &mut dues)?;
-    let text = lines(alloc, &mut dues)?;
-    let packet = "1 packet 0 450000150000000040118e9ac0000201c6336409aa";
-    let request = "1 assign [Asked { id: 1, block: Prefix { addr: V4(0), length: 32 } }]";
-    let routes = "1 advertise [Range { first: V4(167772160), last: V4(167772415), protocol: 17 }]";
-    assert_eq!(rt; text, format!(in alloc; "{packet}\n{request}\n{routes}\n")?);
+    DataStream::new(1, goal).take(alloc, 1500, piece, false, &mut dues)?;
+    lines(alloc, &mut dues)
+}
+
+#[test]
+fn items_of_ip_packets_become_acts_in_order(rt: HostRuntime) -> Result<(), Fail> {
+    let piece = bytes(rt.alloc(), IP_CAPSULES)?;
+    let text = asked_by_data(rt.alloc(), piece.as_slice())?;
+    let want = "\
+1 packet 0 450000150000000040118e9ac0000201c6336409aa
+1 assign [Asked { id: 1, block: Prefix { addr: V4(0), length: 32 } }]
+1 advertise [Range { first: V4(167772160), last: V4(167772415), protocol: 17 }]
+";
+    is(&rt, text.as_str(), want);
     Ok(())
 }
 
@@ -341,29 +444,50 @@ const PREFACE: &[u8; 24] = b"PRI * HTTP/2.0\r\n\r\nSM\r\n\r\n";
 /// The SETTINGS that a server owes at first: no more than 100 streams, no header list above 16,384 bytes, and extended CONNECT.
 const OWED: &str = "000012040000000000000300000064000600004000000800000001";
 
+/// The preface comes in these two pieces, and then the SETTINGS are owed.
+fn preface_comes(rt: &impl Abort, alloc: Global, before: &[u8], after: &[u8]) -> Result<(), Fail> {
+    let want = bytes(alloc, OWED)?;
+    let mut front = Front::new();
+    let first = asked_of(alloc, &mut front, before)?;
+    assert!(rt; first.is_empty());
+    if !after.is_empty() {
+        assert!(rt; front.owed().is_empty());
+    }
+    let second = asked_of(alloc, &mut front, after)?;
+    assert!(rt; second.is_empty());
+    assert!(rt; front.owed() == want.as_slice());
+    assert!(rt; front.finish() == Finish::Ends(End::Done));
+    Ok(())
+}
+
 #[test]
 fn preface_comes_in_any_two_pieces(rt: HostRuntime) -> Result<(), Fail> {
-    let alloc = rt.alloc();
-    let want = bytes(alloc, OWED)?;
     for cut in 0..=PREFACE.len() {
         let (before, after) = PREFACE.split_at(cut);
-        let mut front = Front::new();
-        let first = asked_of(alloc, &mut front, before)?;
-        assert!(rt; first.is_empty());
-        if cut < PREFACE.len() {
-            assert_eq!(rt; front.owed().len(), 0);
-        }
-        let second = asked_of(alloc, &mut front, after)?;
-        assert!(rt; second.is_empty());
-        assert_eq!(rt; front.owed(), want.as_slice());
-        assert_eq!(rt; front.finish(), Finish::Ends(End::Done));
+        preface_comes(&rt, rt.alloc(), before, after)?;
     }
+    Ok(())
+}
+
+/// A head that comes in these two pieces is refused like this.
+fn is_refused(
+    rt: &impl Abort,
+    alloc: Global,
+    before: &[u8],
+    after: &[u8],
+    want: &str,
+) -> Result<(), Fail> {
+    let mut front = Front::new();
+    let first = asked_of(alloc, &mut front, before)?;
+    assert!(rt; first.is_empty());
+    let second = asked_of(alloc, &mut front, after)?;
+    is(rt, second.as_str(), want);
+    assert!(rt; front.refusal_end() == Some(End::Refused));
     Ok(())
 }
 
 #[test]
 fn other_requests_of_http1_are_refused(rt: HostRuntime) -> Result<(), Fail> {
-    let alloc = rt.alloc();
     let rows = [
         // the preface up to its version
         ("PRI * HTTP/1.1\r\n\r\n", "0 refuse 400 0\n"),
@@ -372,12 +496,7 @@ fn other_requests_of_http1_are_refused(rt: HostRuntime) -> Result<(), Fail> {
     for (head, want) in rows {
         for cut in 0..head.len() {
             let (before, after) = head.as_bytes().split_at(cut);
-            let mut front = Front::new();
-            let first = asked_of(alloc, &mut front, before)?;
-            assert!(rt; first.is_empty());
-            let second = asked_of(alloc, &mut front, after)?;
-            assert_eq!(rt; second.as_str(), want);
-            assert_eq!(rt; front.refusal_end(), Some(End::Refused));
+            is_refused(&rt, rt.alloc(), before, after, want)?;
         }
     }
     Ok(())
@@ -406,19 +525,48 @@ fn guarded(alloc: Global) -> Result<Setup, Fail> {
     })
 }
 
-/// HEADERS of stream 1 with a request for IP packets.
-fn ip_request(alloc: Global, path: &str) -> Result<Vec<u8>, Fail> {
+/// The header block of a request for IP packets.
+fn ip_block(alloc: Global, path: &str) -> Result<Vec<u8>, Fail> {
     let mut block = bytes(alloc, "0207434f4e4e4543548704")?;
     block.push((path.len() % 127) as u8)?;
     block.extend_from_slice(path.as_bytes())?;
-    let rest = bytes(alloc, "01017000093a70726f746f636f6c0a636f6e6e6563742d6970")?;
-    block.extend_from_slice(rest.as_slice())?;
+    append(
+        alloc,
+        &mut block,
+        "01017000093a70726f746f636f6c0a636f6e6e6563742d6970",
+    )?;
+    Ok(block)
+}
+
+/// HEADERS of stream 1 with it.
+fn ip_request(alloc: Global, path: &str) -> Result<Vec<u8>, Fail> {
+    let block = ip_block(alloc, path)?;
     let mut frame = bytes(alloc, "0000")?;
     frame.push((block.len() % 256) as u8)?;
-    let head = bytes(alloc, "010400000001")?;
-    frame.extend_from_slice(head.as_slice())?;
+    append(alloc, &mut frame, "010400000001")?;
     frame.extend_from_slice(block.as_slice())?;
     Ok(frame)
+}
+
+/// What a request for IP packets asks for over HTTP/1.1.
+fn asked_by_http1(alloc: Global, setup: &Setup, path: &str) -> Result<String, Fail> {
+    let head = format!(in alloc;
+        "GET {path} HTTP/1.1\r\nHost: p\r\nConnection: Upgrade\r\nUpgrade: connect-ip\r\n\r\n"
+    )?;
+    asked_by(alloc, &mut Front::new(), setup, head.as_bytes())
+}
+
+/// What one asks for over HTTP/2.
+fn asked_by_http2(alloc: Global, setup: &Setup, path: &str) -> Result<String, Fail> {
+    let piece = ip_request(alloc, path)?;
+    let mut front = after(alloc, SETTINGS)?;
+    told_by(alloc, &mut front, setup, &NoTunnel, piece.as_slice())
+}
+
+/// What was seen is this line of this stream.
+fn is_row(rt: &impl Abort, seen: &str, stream: &str, want: &str) {
+    let line = seen.strip_suffix('\n').unwrap_or("");
+    is(rt, line.strip_prefix(stream).unwrap_or(""), want);
 }
 
 /// Requests for IP packets over both protocols, by their paths (RFC 9484, section 3).
@@ -448,18 +596,10 @@ fn requests_for_ip_packets(rt: HostRuntime) -> Result<(), Fail> {
         ("/u/192.0.2.6/443", "refuse 404 0"),
     ];
     for (path, want) in rows {
-        let mut dues = Dues::new(alloc);
-        let head = format!(in alloc;
-            "GET {path} HTTP/1.1\r\nHost: p\r\nConnection: Upgrade\r\nUpgrade: connect-ip\r\n\r\n"
-        )?;
-        Front::new().read(alloc, &setup, &NoTunnel, head.as_bytes(), &mut dues)?;
-        assert_eq!(rt; lines(alloc, &mut dues)?, format!(in alloc; "0 {want}\n")?);
-        let mut front = Http2::new(alloc)?;
-        let settings = bytes(alloc, SETTINGS)?;
-        front.read(alloc, &setup, &NoTunnel, settings.as_slice(), &mut dues)?;
-        let piece = ip_request(alloc, path)?;
-        front.read(alloc, &setup, &NoTunnel, piece.as_slice(), &mut dues)?;
-        assert_eq!(rt; lines(alloc, &mut dues)?, format!(in alloc; "1 {want}\n")?);
+        let text = asked_by_http1(alloc, &setup, path)?;
+        is_row(&rt, text.as_str(), "0 ", want);
+        let text = asked_by_http2(alloc, &setup, path)?;
+        is_row(&rt, text.as_str(), "1 ", want);
     }
     Ok(())
 }

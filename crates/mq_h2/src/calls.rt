@@ -5,7 +5,8 @@
 //! `G5` for HEADERS with END_STREAM and GET for `/`.
 use crate::{H2, StreamEvent};
 use mq_hpack::{Field, Text};
-use std::alloc::Global;
+use std::alloc::{AllocError, Global};
+use std::fmt::Write;
 use std::process::Abort;
 use std::test::Fail;
 
@@ -27,58 +28,115 @@ const FIELDS: &str =
 
 const GET: &str = "828684";
 
-/// Short contents in hex, and of long ones how many bytes they are.
-fn contents(alloc: Global, bytes: &[u8]) -> Result<String, Fail> {
+/// What was seen is what is wanted, at this place.
+pub fn is(rt: &impl Abort, seen: &str, want: &str, place: &str) {
+    assert_eq!(rt; seen, want, "{place}");
+}
+
+/// So many are what is wanted, at call `n`.
+pub fn is_count(rt: &impl Abort, seen: usize, want: usize, n: u32) {
+    assert_eq!(rt; seen, want, "call {n}");
+}
+
+/// Adds a letter, and numbers behind it.
+fn add_row(text: &mut String, letter: &str, numbers: &[u32]) -> Result<(), AllocError> {
+    text.push_str(letter)?;
+    for number in numbers {
+        write!(text, " {number}")?;
+    }
+    Ok(())
+}
+
+/// Adds short contents in hex, and of long ones how many bytes they are.
+fn add_contents(alloc: Global, text: &mut String, bytes: &[u8]) -> Result<(), AllocError> {
     if bytes.is_empty() {
-        return Ok(String::new(alloc));
+        return Ok(());
     }
     if bytes.len() > 64 {
-        return Ok(format!(in alloc; " #{}", bytes.len())?);
+        return write!(text, " #{}", bytes.len());
     }
-    Ok(format!(in alloc; " {}", hex::encode(alloc, bytes)?)?)
+    text.push_str(" ")?;
+    text.push_str(hex::encode(alloc, bytes)?.as_str())
 }
 
-fn fields_text(alloc: Global, fields: &[Field]) -> Result<String, Fail> {
-    let mut text = String::new(alloc);
+/// Adds bytes as text.
+fn add_lossy(alloc: Global, text: &mut String, bytes: &[u8]) -> Result<(), AllocError> {
+    text.push_str(String::from_utf8_lossy(alloc, bytes)?.as_str())
+}
+
+fn add_field(alloc: Global, text: &mut String, field: &Field) -> Result<(), AllocError> {
+    text.push_str(" ")?;
+    add_lossy(alloc, text, field.name.as_slice())?;
+    text.push_str("=")?;
+    add_lossy(alloc, text, field.value.as_slice())
+}
+
+fn add_fields(alloc: Global, text: &mut String, fields: &[Field]) -> Result<(), AllocError> {
     for field in fields {
-        let name = String::from_utf8_lossy(alloc, field.name.as_slice())?;
-        let value = String::from_utf8_lossy(alloc, field.value.as_slice())?;
-        text.push_str(format!(in alloc; " {name}={value}")?.as_str())?;
+        add_field(alloc, text, field)?;
     }
-    if text.as_str() == FIELDS {
-        return Ok(format!(in alloc; " B")?);
-    }
-    Ok(text)
+    Ok(())
 }
 
-/// The text of an event: its letter, its numbers, and what it holds.
-fn event_text(alloc: Global, event: &StreamEvent) -> Result<String, Fail> {
+/// Adds fields, or `B` for those of that block.
+fn add_fields_or_b(alloc: Global, text: &mut String, fields: &[Field]) -> Result<(), AllocError> {
+    let mut shown = String::new(alloc);
+    add_fields(alloc, &mut shown, fields)?;
+    let is_b = shown.as_str() == FIELDS;
+    text.push_str(if is_b { " B" } else { shown.as_str() })
+}
+
+/// Adds an event: its letter, its numbers, and what it holds.
+fn add_event(alloc: Global, text: &mut String, event: &StreamEvent) -> Result<(), AllocError> {
     match event {
         StreamEvent::Request {
             stream,
             fields,
             end,
         } => {
-            let fields = fields_text(alloc, fields.as_slice())?;
-            Ok(format!(in alloc; "Q {stream} {}{fields}", u8::from(*end))?)
+            add_row(text, "Q", &[*stream, u32::from(*end)])?;
+            add_fields_or_b(alloc, text, fields.as_slice())
         }
-        StreamEvent::Malformed { stream, code } => Ok(format!(in alloc; "M {stream} {code}")?),
+        StreamEvent::Malformed { stream, code } => add_row(text, "M", &[*stream, *code]),
         StreamEvent::Content {
             stream,
             bytes,
             length,
             end,
         } => {
-            let bytes = contents(alloc, bytes.as_slice())?;
-            Ok(format!(in alloc; "C {stream} {length} {}{bytes}", u8::from(*end))?)
+            add_row(text, "C", &[*stream, *length, u32::from(*end)])?;
+            add_contents(alloc, text, bytes.as_slice())
         }
-        StreamEvent::Reset { stream, code } => Ok(format!(in alloc; "R {stream} {code}")?),
-        StreamEvent::ConnectionError { code } => Ok(format!(in alloc; "E {code}")?),
+        StreamEvent::Reset { stream, code } => add_row(text, "R", &[*stream, *code]),
+        StreamEvent::ConnectionError { code } => add_row(text, "E", &[*code]),
     }
+}
+
+fn add_events(alloc: Global, text: &mut String, events: &[StreamEvent]) -> Result<(), AllocError> {
+    for event in events {
+        if !text.is_empty() {
+            text.push_str("; ")?;
+        }
+        add_event(alloc, text, event)?;
+    }
+    Ok(())
 }
 
 fn number(word: &str) -> Result<u32, Fail> {
     Ok(word.parse::<u32>()?)
+}
+
+fn add_hex(alloc: Global, out: &mut Vec<u8>, text: &str) -> Result<(), Fail> {
+    out.extend_from_slice(hex::decode(alloc, text)?.as_slice())?;
+    Ok(())
+}
+
+/// Adds the head of HEADERS on a stream, for a block of so many bytes.
+fn add_head(out: &mut Vec<u8>, stream: &str, flags: u8, length: usize) -> Result<(), Fail> {
+    let length = u8::try_from(length)?;
+    let [a, b, c, d] = number(stream)?.to_be_bytes();
+    out.extend_from_slice(&[0, 0, length, 1, flags, a, b, c, d])?;
+    Ok(())
 }
 
 fn add_headers(
@@ -88,39 +146,32 @@ fn add_headers(
     flags: u8,
     block: &str,
 ) -> Result<(), Fail> {
-    let block = hex::decode(alloc, block)?;
-    let length = u8::try_from(block.len())?;
-    out.extend_from_slice(&[0, 0, length, 1, flags])?;
-    out.extend_from_slice(&number(stream)?.to_be_bytes())?;
-    out.extend_from_slice(block.as_slice())?;
+    add_head(out, stream, flags, block.len() / 2)?;
+    add_hex(alloc, out, block)
+}
+
+/// Adds a byte so many times.
+fn add_many(alloc: Global, out: &mut Vec<u8>, byte: &str, count: u32) -> Result<(), Fail> {
+    for _ in 0..count {
+        add_hex(alloc, out, byte)?;
+    }
     Ok(())
 }
 
 fn add_word(alloc: Global, out: &mut Vec<u8>, word: &str) -> Result<(), Fail> {
-    if let Some((byte, count)) = word.split_once('*') {
-        let byte = hex::decode(alloc, byte)?;
-        for _ in 0..number(count)? {
-            out.extend_from_slice(byte.as_slice())?;
-        }
-        return Ok(());
+    let stream = word.get(1..).unwrap_or("");
+    match word.as_bytes() {
+        [b'H', ..] => add_headers(alloc, out, stream, 4, BLOCK),
+        [b'E', ..] => add_headers(alloc, out, stream, 5, BLOCK),
+        [b'G', ..] => add_headers(alloc, out, stream, 5, GET),
+        [b'P', ..] => add_hex(alloc, out, SETTINGS),
+        [b'S', ..] => add_hex(alloc, out, OWED_FIRST),
+        [b'B', ..] => add_hex(alloc, out, BLOCK),
+        _ => match word.split_once('*') {
+            Some((byte, count)) => add_many(alloc, out, byte, number(count)?),
+            None => add_hex(alloc, out, word),
+        },
     }
-    if let Some(stream) = word.strip_prefix('H') {
-        return add_headers(alloc, out, stream, 4, BLOCK);
-    }
-    if let Some(stream) = word.strip_prefix('E') {
-        return add_headers(alloc, out, stream, 5, BLOCK);
-    }
-    if let Some(stream) = word.strip_prefix('G') {
-        return add_headers(alloc, out, stream, 5, GET);
-    }
-    let text = match word {
-        "P" => SETTINGS,
-        "S" => OWED_FIRST,
-        "B" => BLOCK,
-        _ => word,
-    };
-    out.extend_from_slice(hex::decode(alloc, text)?.as_slice())?;
-    Ok(())
 }
 
 /// The bytes of words.
@@ -147,13 +198,9 @@ pub fn write_all(h2: &mut H2) {
 
 /// The events of a piece.
 pub fn fed(alloc: Global, h2: &mut H2, piece: &[u8]) -> Result<String, Fail> {
+    let events = h2.feed(alloc, piece)?;
     let mut text = String::new(alloc);
-    for event in h2.feed(alloc, piece)?.as_slice() {
-        if !text.is_empty() {
-            text.push_str("; ")?;
-        }
-        text.push_str(event_text(alloc, event)?.as_str())?;
-    }
+    add_events(alloc, &mut text, events.as_slice())?;
     Ok(text)
 }
 
@@ -302,7 +349,7 @@ fn done(alloc: Global, h2: &mut H2, call: Call, words: &str) -> Result<String, F
 fn wanted(alloc: Global, call: Call, want: &str) -> Result<String, Fail> {
     match call {
         Call::Owed => Ok(hex::encode(alloc, bytes(alloc, want)?.as_slice())?),
-        _ => Ok(format!(in alloc; "{want}")?),
+        _ => Ok(String::from_str(alloc, want)?),
     }
 }
 
@@ -317,17 +364,22 @@ fn check_call(
     let call = call_of(word)?;
     let seen = done(alloc, h2, call, words)?;
     let want = wanted(alloc, call, want.strip_prefix(' ').unwrap_or(""))?;
-    assert_eq!(rt; seen.as_str(), want.as_str(), "{text}");
+    is(rt, seen.as_str(), want.as_str(), text);
+    Ok(())
+}
+
+/// Each line's call on a connection gives what the line says.
+pub fn check_on(rt: &impl Abort, alloc: Global, h2: &mut H2, lines: &str) -> Result<(), Fail> {
+    for line in lines.lines() {
+        if let Some((text, want)) = line.split_once(" =>") {
+            check_call(rt, alloc, h2, text, want)?;
+        }
+    }
     Ok(())
 }
 
 /// Each line's call gives what the line says. `new` begins another connection, and `begin` one that was fed `P`.
 pub fn check(rt: &impl Abort, alloc: Global, lines: &str) -> Result<(), Fail> {
     let mut h2 = H2::new(alloc)?;
-    for line in lines.lines() {
-        if let Some((text, want)) = line.split_once(" =>") {
-            check_call(rt, alloc, &mut h2, text, want)?;
-        }
-    }
-    Ok(())
+    check_on(rt, alloc, &mut h2, lines)
 }

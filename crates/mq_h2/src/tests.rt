@@ -1,8 +1,9 @@
 //! Rows of calls on a connection, with what they give.
 use crate::H2;
-use crate::calls::{begun, bytes, check, fed, taken, write_all};
+use crate::calls::{begun, bytes, check, check_on, fed, is, taken};
 use crate::sessions::SESSIONS;
 use std::alloc::Global;
+use std::process::Abort;
 use std::test::Fail;
 
 #[test]
@@ -244,46 +245,82 @@ reset 1 1 =>
 owed => 00000403000000000100000001
 feed 0000020000000000016161 =>";
 
-#[test]
-fn a_hundred_streams_are_live_and_no_more(rt: HostRuntime) -> Result<(), Fail> {
-    let alloc = rt.alloc();
-    let mut h2 = begun(alloc)?;
+/// Requests come on a hundred streams.
+fn hundred_come(rt: &impl Abort, alloc: Global, h2: &mut H2) -> Result<(), Fail> {
     for n in 0..100u32 {
-        let piece = bytes(alloc, format!(in alloc; "H{}", 2 * n + 1)?.as_str())?;
-        let told = fed(alloc, &mut h2, piece.as_slice())?;
-        assert!(rt; told.as_str().ends_with(" 0 B"), "stream {n}");
+        let line = format!(in alloc; "feed H{} => Q {} 0 B", 2 * n + 1, 2 * n + 1)?;
+        check_on(rt, alloc, h2, line.as_str())?;
     }
-    let told = fed(alloc, &mut h2, bytes(alloc, "H201")?.as_slice())?;
-    assert_eq!(rt; told.as_str(), "M 201 7");
-    assert_eq!(rt;
-        taken(alloc, &mut h2)?.as_str(),
-        "0000040300000000c900000007"
-    );
-    h2.reset(1, 8);
-    let told = fed(alloc, &mut h2, bytes(alloc, "E203")?.as_slice())?;
-    assert_eq!(rt; told.as_str(), "Q 203 1 B");
     Ok(())
 }
+
+#[test]
+fn a_hundred_streams_are_live_and_no_more(rt: HostRuntime) -> Result<(), Fail> {
+    let mut h2 = begun(rt.alloc())?;
+    hundred_come(&rt, rt.alloc(), &mut h2)?;
+    check_on(&rt, rt.alloc(), &mut h2, PAST_A_HUNDRED)
+}
+
+const PAST_A_HUNDRED: &str = "\
+feed H201 => M 201 7
+owed => 0000040300000000c900000007
+reset 1 8 =>
+owed => 00000403000000000100000008
+feed E203 => Q 203 1 B";
 
 #[test]
 fn a_client_of_another_make_is_understood(rt: HostRuntime) -> Result<(), Fail> {
     check(&rt, rt.alloc(), SESSIONS)
 }
 
+/// Feeds a piece, and adds what it gives.
+fn add_fed(alloc: Global, h2: &mut H2, piece: &[u8], text: &mut String) -> Result<(), Fail> {
+    let later = fed(alloc, h2, piece)?;
+    if !text.is_empty() && !later.is_empty() {
+        text.push_str("; ")?;
+    }
+    text.push_str(later.as_str())?;
+    Ok(())
+}
+
+/// Feeds a session in a front and then in pieces of so many bytes, and adds what it gives and all that is owed then.
+fn add_cut(
+    alloc: Global,
+    h2: &mut H2,
+    session: &[u8],
+    front: usize,
+    size: usize,
+    text: &mut String,
+) -> Result<(), Fail> {
+    let (front, back) = session.split_at(front.min(session.len()));
+    add_fed(alloc, h2, front, text)?;
+    for piece in back.chunks(size.max(1)) {
+        add_fed(alloc, h2, piece, text)?;
+    }
+    text.push_str(taken(alloc, h2)?.as_str())?;
+    Ok(())
+}
+
 /// What a session gives that comes in a front and then in pieces of so many bytes, and all that is owed then.
 fn cut(alloc: Global, session: &[u8], front: usize, size: usize) -> Result<String, Fail> {
-    let mut h2 = H2::new(alloc)?;
-    let (front, back) = session.split_at(front.min(session.len()));
-    let mut text = fed(alloc, &mut h2, front)?;
-    for piece in back.chunks(size.max(1)) {
-        let later = fed(alloc, &mut h2, piece)?;
-        if !text.is_empty() && !later.is_empty() {
-            text.push_str("; ")?;
-        }
-        text.push_str(later.as_str())?;
-    }
-    text.push_str(taken(alloc, &mut h2)?.as_str())?;
+    let mut text = String::new(alloc);
+    add_cut(alloc, &mut H2::new(alloc)?, session, front, size, &mut text)?;
     Ok(text)
+}
+
+/// A session that is cut like this gives the same as in one piece.
+fn cut_is(
+    rt: &impl Abort,
+    alloc: Global,
+    session: &[u8],
+    front: usize,
+    size: usize,
+    whole: &str,
+) -> Result<(), Fail> {
+    let told = cut(alloc, session, front, size)?;
+    let place = format!(in alloc; "cut at {front}, and into pieces of {size}")?;
+    is(rt, told.as_str(), whole, place.as_str());
+    Ok(())
 }
 
 #[test]
@@ -293,10 +330,8 @@ fn each_cutting_gives_the_same(rt: HostRuntime) -> Result<(), Fail> {
     let session = session.as_slice();
     let whole = cut(alloc, session, 0, session.len())?;
     for at in 1..session.len() {
-        let told = cut(alloc, session, at, session.len())?;
-        assert_eq!(rt; told.as_str(), whole.as_str(), "cut at {at}");
-        let told = cut(alloc, session, 0, at)?;
-        assert_eq!(rt; told.as_str(), whole.as_str(), "pieces of {at}");
+        cut_is(&rt, alloc, session, at, session.len(), whole.as_str())?;
+        cut_is(&rt, alloc, session, 0, at, whole.as_str())?;
     }
     Ok(())
 }

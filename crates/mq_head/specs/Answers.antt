@@ -1,5 +1,5 @@
 -- The answers on HTTP/1.1 (RFC 9110, section 15; RFC 9298, section 3.3; RFC 9484, section 4.2).
-use Rattle.std.specs.Prelude.{ℕ, List, ◌++◌, codes, if◌then◌else◌, ◌==◌, ◌≡◌, ◌⊎◌}
+use Rattle.std.specs.Prelude.{ℕ, List, ◌++◌, codes, if◌then◌else◌, ◌==◌}
 use Rattle.mq_addr.specs.declared.kind.Kind.{Kind}
 use Rattle.mq_addr.specs.declared.kind.Kind.TheVariants.{Udp, Ip}
 
@@ -12,11 +12,6 @@ unfoldable pub success_text : Kind → List ℕ
 success_text kind =
     codes "HTTP/1.1 101 Switching Protocols\r\nConnection: Upgrade\r\nUpgrade: " ++ token_of kind
     ++ codes "\r\nCapsule-Protocol: ?1\r\n\r\n"
-
--- the statuses of refusals
-abbrev pub IsRefusal : ℕ → Type 0
-IsRefusal status =
-    (status ≡ 400) ⊎ (status ≡ 403) ⊎ (status ≡ 404) ⊎ (status ≡ 501) ⊎ (status ≡ 502) ⊎ (status ≡ 503)
 
 -- the number and the reason of a status line (RFC 9112, section 4)
 abbrev pub status_text : ℕ → List ℕ

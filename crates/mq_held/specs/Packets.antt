@@ -6,7 +6,7 @@ use Rattle.mq_talk.specs.declared.place.Judged.{Judged}
 use Rattle.mq_talk.specs.declared.place.Origin.TheVariants as origin
 use Rattle.mq_talk.specs.declared.place.Parcel.{Parcel}
 use Rattle.mq_talk.specs.declared.place.Pushed.{Pushed}
-use Rattle.mq_talk.specs.Mails.{Boxes, PushGives, inbox_in}
+use Rattle.mq_talk.specs.Mails.{PushGives, inbox_in, Inboxes}
 use Rattle.mq_talk.specs.Offices.{Seen, JudgeGives}
 use Rattle.mq_machine.specs.Done.{done}
 use Rattle.mq_machine.specs.State.{Conn}
@@ -22,7 +22,7 @@ pub record Judges (old new : Seen) (stands : Conn → Type 0) (s : Conn) (tunnel
   pub stands_for : stands t
 
 -- an inbox answered the push of this parcel, which goes to that of its place
-pub record Pushes (count : ℕ) (old new : Option Boxes) (workers : ℕ) (stands : Conn → Type 0) (s : Conn) (parcel : Parcel) (said : Note) : Type 0 where
+pub record Pushes (count : ℕ) (old new : Inboxes) (workers : ℕ) (stands : Conn → Type 0) (s : Conn) (parcel : Parcel) (said : Note) : Type 0 where
   pub pushed : Pushed
   pub gives : PushGives count old (inbox_in workers parcel.to) parcel pushed new
   pub t : Conn

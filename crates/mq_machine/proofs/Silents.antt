@@ -1,15 +1,16 @@
 -- A step that was refused memory leads to one state.
-use Rattle.std.proofs.Common.{◌≡◌, ℕ, Bool, true, false, List, [], ◌∷◌, Option, Some, refl, sym, ap, subst, ◌∙◌, slice_set, map}
-use Rattle.std.specs.Prelude.{find, cond}
+use Rattle.std.proofs.Common.{◌≡◌, ℕ, Bool, true, false, List, [], ◌∷◌, Option, Some, None, refl, sym, ap, subst, ◌∙◌, slice_set, map}
+use Rattle.std.specs.Prelude.{find, cond, if◌then◌else◌}
 use Rattle.mq_talk.specs.declared.note.End.{End}
 use Rattle.mq_talk.specs.declared.note.End.TheVariants as end
 use Rattle.mq_machine.specs.State.{Conn, Tunnel, Port, Held, Orders, Worker, Shared, State, owed, held_of}
-use Rattle.mq_machine.specs.Want.{Want, Send, Answer, want_of, want_by, ending_want, over_want}
+use Rattle.mq_machine.specs.Settle.{gives_up}
+use Rattle.mq_machine.specs.Want.{Want, Nothing, Send, Over, Answer, want_of, want_by, ending_want, over_want}
 use Rattle.mq_talk.specs.Mails.{box_at}
 use Rattle.mq_machine.specs.Laws.{SaysOne}
 use Rattle.mq_machine.specs.Shared.{Answers, PortsAnswer, Ordered}
 use Rattle.mq_machine.specs.Steps.{starved}
-use Rattle.mq_machine.specs.Silent.{Reached, Leaves, Heard, takes_memory, tunnels_after, ConnStarves, SeatStarves, WorkerStarves, WorkerSilent, SilentTurn}
+use Rattle.mq_machine.specs.Silent.{Reached, Leaves, Heard, takes_memory, tunnels_after, ConnStarves, SeatStarves, WorkerStarves, WorkerSilent, SilentTurn, may_starve}
 use Rattle.mq_machine.specs.Turn.{Try, Act, Frame, Write, Read, Receive, can_do, can_try, try_of, Seat, Offers, Inbox, Of, replace, Actor, WorkerOf, ThePump}
 use Rattle.mq_machine.proofs.Turns.{some_same, same_after, orders_agree, same_orders}
 
@@ -90,6 +91,25 @@ one_turn old one ThePump reached a b x y = x.2 ∙ sym y.2
 
 -- ---- once
 
+-- an ending connection wants nothing that takes memory
+pub starves_alive : (c : Conn) → may_starve (want_of c) ≡ true → c.ending ≡ None
+starves_alive c takes = by_end c.ending takes where
+  by_over : (why : End) (gives : Bool) → may_starve (if gives then Over why else Nothing) ≡ true → ⊥
+  by_over why true e = cc
+  by_over why false e = cc
+
+  by_owed : (why : End) (bytes : List ℕ) → may_starve (over_want why bytes) ≡ true → ⊥
+  by_owed why [] e = cc
+  by_owed why (b ∷ bytes) e = by_over why (gives_up why) e
+
+  by_tunnels : (why : End) (ts : List Tunnel) → may_starve (ending_want c why ts) ≡ true → ⊥
+  by_tunnels why [] e = by_owed why (owed c) e
+  by_tunnels why (t ∷ ts) e = cc
+
+  by_end : (end : Option End) → may_starve (want_by c end) ≡ true → end ≡ None
+  by_end None e = refl
+  by_end (Some why) e = absurd (by_tunnels why c.tunnels e)
+
 -- an ending connection for which memory was refused has a tunnel to close, or is over
 starved_can : (ports : List Port) (c : Conn) (e : Option End) → e ≡ Some end.NoMemory → can_do ports (want_by c e) ≡ true
 starved_can ports c e is = let P : Option End → Type 0 = λ e. can_do ports (want_by c e) ≡ true in subst P (sym is) (by_tunnels c.tunnels) where
@@ -111,5 +131,5 @@ once old new sh after number reached answer h x has ending =
     let is = ap (λ (k : Held). k.conn.ending) (sym held) ∙ ending in
     let can = starved_can x.held.ports x.held.conn x.held.conn.ending is in
     let act = some_same (sym x.tries ∙ first_found (can_try x.held) Act (Frame ∷ Write ∷ Read ∷ map (λ (p : Port). Receive p.tunnel) x.held.ports) can) in
-    let none = sym is ∙ x.alive act in
+    let none = sym is ∙ starves_alive x.held.conn (x.takes act) in
     absurd cc

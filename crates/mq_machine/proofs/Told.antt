@@ -10,7 +10,7 @@ use Rattle.mq_talk.specs.declared.place.Parcel.{Parcel}
 use Rattle.mq_outside.specs.Ports.{PortHolds}
 use Rattle.mq_machine.specs.State.{Conn, Link, new_link, Port, Offer, Held, Worker, Orders, Shared}
 use Rattle.mq_machine.specs.Acting.{Outside, Sight, PortsTold, ConnsTold, OffersTold, PortsTell, ConnsTell, OffersTell, TellsAll, HasTold, TellsSame, holds_of, holding, bare_port, bare_held, Refills, WasInbox, Meets, Leaves, shared_of, StepGives, PlainGives}
-use Rattle.mq_talk.specs.Mails.{IsTold}
+use Rattle.mq_talk.specs.Mails.{IsTold, Inboxes}
 use Rattle.mq_machine.specs.Silent.{WorkerStarves}
 use Rattle.mq_machine.specs.Turn.{WorkerTurn, turn_of}
 
@@ -89,11 +89,11 @@ no_more : (more entries : List Entry) → more ≡ [] → entries ++ more ≡ en
 no_more more entries h = ap (λ (m : List Entry). entries ++ m) h ∙ append-nil entries
 
 -- the book is what was seen, and what is shared is told
-shares : (orders : Orders) (old new : Sight) (boxes : List (List Parcel)) (sh after : Shared) → old.seen.is_whole ≡ true → old.boxes ≡ Some boxes
+shares : (orders : Orders) (old new : Sight) (boxes : List (List Parcel)) (sh after : Shared) → old.seen.is_whole ≡ true → old.boxes.told ≡ Some boxes
     → Meets orders old new sh after → sh ≡ shared_of old.seen boxes orders
 shares orders old new boxes sh after whole mail x =
     let book = x.book.goes_on ∙ no_more x.book.more old.seen.entries (x.book.whole whole) in
-    let boxes_are = told_same old.boxes sh.boxes boxes mail x.boxes in
+    let boxes_are = told_same old.boxes.told sh.boxes boxes mail x.boxes in
     ap (λ (c : Config). record sh { config = c }) x.config
     ∙ ap (λ (b : List Entry). record sh { config = old.seen.config; book = b }) book
     ∙ ap (λ (b : List (List Parcel)). record sh { config = old.seen.config; book = old.seen.entries; boxes = b }) boxes_are
@@ -137,7 +137,7 @@ still_tells o n s tells same = (conns_tell o n s.conns tells.0 same.links same.p
 -- ---- the step
 
 pub told : (orders : Orders) (old new : Sight) (boxes : List (List Parcel)) (s t : Worker) (result : Result (Option Note) NoMemory)
-    → TellsAll old.outside s → HasTold new.outside t → old.seen.is_whole ≡ true → old.boxes ≡ Some boxes
+    → TellsAll old.outside s → HasTold new.outside t → old.seen.is_whole ≡ true → old.boxes.told ≡ Some boxes
     → StepGives orders old new s result t → PlainGives orders old new boxes s result t
 told orders old new boxes s t (Ok (Some note)) tells has whole mail x =
     let now = same_worker old.outside s x.now tells x.refills in
@@ -149,7 +149,7 @@ told orders old new boxes s t (Ok (Some note)) tells has whole mail x =
       answer = x.answer;
       after = x.after;
       became = x.became;
-      was = box_was boxes old.boxes s.id x.box mail x.was;
+      was = box_was boxes old.boxes.told s.id x.box mail x.was;
       turn = subst R sh (subst Q now (record { seat = x.seat; turn = x.turn; next = x.next }));
       leaves = leaves orders old new x.sh x.after x.meets;
       binds = x.binds;
@@ -157,14 +157,14 @@ told orders old new boxes s t (Ok (Some note)) tells has whole mail x =
     }
 told orders old new boxes s t (Ok None) tells has whole mail x =
     let now = same_worker old.outside s x.now tells x.refills in
-    let same = told_same old.boxes x.boxes boxes mail x.told in
-    let T : List (List Parcel) → Type 0 = λ b. IsTold new.boxes b in
+    let told = ap (λ (m : Inboxes). m.told) x.boxes ∙ mail in
+    let T : Option (List (List Parcel)) → Type 0 = λ b. IsTold b boxes in
     record {
       box = x.box;
-      was = box_was boxes old.boxes s.id x.box mail x.was;
+      was = box_was boxes old.boxes.told s.id x.box mail x.was;
       none = sym (ap (λ (w : Worker). turn_of w x.box) now) ∙ x.none;
       seen = x.seen;
-      boxes_after = subst T same x.tells;
+      boxes_after = subst T (sym told) refl;
       binds = x.binds;
       same = same_worker new.outside s t (still_tells old.outside new.outside s tells x.outside) (record { same = x.same; told = has });
     }
@@ -178,7 +178,7 @@ told orders old new boxes s t (Err fault) tells has whole mail x =
       answer = x.answer;
       after = x.after;
       reached = x.reached;
-      was = box_was boxes old.boxes s.id x.box mail x.was;
+      was = box_was boxes old.boxes.told s.id x.box mail x.was;
       starves = subst R sh (subst Q now x.starves);
       leaves = leaves orders old new x.sh x.after x.meets;
       binds = x.binds;

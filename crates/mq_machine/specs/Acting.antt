@@ -8,7 +8,7 @@ use Rattle.mq_talk.specs.declared.goal.Goal.{Goal}
 use Rattle.mq_talk.specs.declared.note.Note.{Note}
 use Rattle.mq_talk.specs.declared.place.Parcel.{Parcel}
 use Rattle.mq_talk.specs.Book.{is_live}
-use Rattle.mq_talk.specs.Mails.{IsTold}
+use Rattle.mq_talk.specs.Mails.{IsTold, Inboxes, MailMoves}
 use Rattle.mq_talk.specs.Offices.{Seen, Sees, IsSame}
 use Rattle.mq_outside.specs.Counts.{last_count, risen, risen_by, LinkCounts, PortCounts}
 use Rattle.mq_outside.specs.Nets.{NetHolds, net_of}
@@ -50,8 +50,8 @@ pub record Outside : Type 0 where
 pub record Sight : Type 0 where
   pub outside : Outside
   pub seen : Seen
-  -- the inboxes, where the mail tells them
-  pub boxes : Option (List (List Parcel))
+  -- the inboxes, where the mail tells them, and what went by it
+  pub boxes : Inboxes
 
 -- the state has what is told of links and ports
 abbrev pub PortsTold : Outside → List Port → Type 0
@@ -114,15 +114,16 @@ with_prepared o answer w = w
 -- ---- what is shared
 
 -- What is shared before and after a step fits what an office had seen and what a mail told, and what was ordered. The office has
--- then seen the book that the step left.
-pub record Shares (old new : Seen) (mail mail_after : Option (List (List Parcel))) (orders : Orders) (sh after : Shared) : Type 0 where
+-- then seen the book that the step left, and what went by the mail is what the step did to the inboxes, told or not.
+pub record Shares (old new : Seen) (mail mail_after : Inboxes) (orders : Orders) (sh after : Shared) : Type 0 where
   pub config : sh.config ≡ old.config
   pub same : IsSame old new
   pub book : Sees old sh.book
   pub wrote : new.entries ≡ after.book
-  pub boxes : IsTold mail sh.boxes
+  pub boxes : IsTold mail.told sh.boxes
   pub count : length sh.boxes ≡ sh.config.workers + 1
-  pub boxes_after : IsTold mail_after after.boxes
+  pub boxes_after : IsTold mail_after.told after.boxes
+  pub moves : MailMoves mail mail_after sh.boxes after.boxes
   pub orders_are : sh.orders ≡ orders
 
 abbrev pub Meets : Orders → Sight → Sight → Shared → Shared → Type 0
@@ -228,7 +229,7 @@ pub record Known (sight : Sight) (w : Worker) : Type 0 where
   pub tunnels : (tunnel conn stream : ℕ) (goal : Goal) → HasTunnel w tunnel conn stream goal ↔ IsOpen sight.seen.entries w.id tunnel conn stream goal
   pub last : All (λ (h : Held). h.conn.next_tunnel ≤ length sight.seen.entries) w.conns
   pub places : All (λ (h : Held). ArePlaced sight.seen.config.workers h.conn.due) w.conns
-  pub boxes : (boxes : List (List Parcel)) → sight.boxes ≡ Some boxes → length boxes ≡ sight.seen.config.workers + 1
+  pub boxes : (boxes : List (List Parcel)) → sight.boxes.told ≡ Some boxes → length boxes ≡ sight.seen.config.workers + 1
 
 -- ---- what a step writes
 
@@ -257,7 +258,7 @@ pub record StepDone (orders : Orders) (old new : Sight) (s : Worker) (note : Not
   pub sh : Shared
   pub after : Shared
   pub refills : Refills old.outside s now
-  pub was : WasInbox old.boxes s.id box
+  pub was : WasInbox old.boxes.told s.id box
   pub meets : Meets orders old new sh after
   pub turn : turn_of now box ≡ Some seat
   pub waited : All (SeatWaited old.outside new.outside now box) (seats_before now box)
@@ -279,15 +280,13 @@ pub record StepQuiet (old new : Sight) (s : Worker) (t : Worker) : Type 0 where
   pub now : Worker
   pub box : List Parcel
   pub refills : Refills old.outside s now
-  pub was : WasInbox old.boxes s.id box
+  pub was : WasInbox old.boxes.told s.id box
   pub none : turn_of now box ≡ None
   pub waited : All (SeatWaited old.outside new.outside s box) (seats_of s)
   pub seen : new.seen ≡ old.seen
   pub outside : TellsSame old.outside new.outside s
   pub binds : new.outside.binds ≡ old.outside.binds
-  pub boxes : List (List Parcel)
-  pub told : IsTold old.boxes boxes
-  pub tells : IsTold new.boxes boxes
+  pub boxes : new.boxes ≡ old.boxes
   pub same : bare t ≡ bare s
 
 -- The step was refused memory when it had come so far.
@@ -299,7 +298,7 @@ pub record StepSilent (orders : Orders) (old new : Sight) (s : Worker) (t : Work
   pub after : Shared
   pub reached : Reached
   pub refills : Refills old.outside s now
-  pub was : WasInbox old.boxes s.id box
+  pub was : WasInbox old.boxes.told s.id box
   pub meets : Meets orders old new sh after
   pub binds : BindFits old.outside new.outside answer
   pub starves : WorkerStarves now box sh reached answer t after
@@ -326,7 +325,7 @@ shared_of seen boxes orders = record { config = seen.config; book = seen.entries
 pub record Leaves (old new : Sight) (after : Shared) : Type 0 where
   pub same : IsSame old.seen new.seen
   pub wrote : new.seen.entries ≡ after.book
-  pub boxes : IsTold new.boxes after.boxes
+  pub boxes : IsTold new.boxes.told after.boxes
 
 -- The step was the worker's turn.
 pub record PlainDone (orders : Orders) (old new : Sight) (boxes : List (List Parcel)) (s : Worker) (note : Note) (t : Worker) : Type 0 where
@@ -346,7 +345,7 @@ pub record PlainQuiet (old new : Sight) (boxes : List (List Parcel)) (s : Worker
   pub was : slice_get boxes s.id ≡ Some box
   pub none : turn_of s box ≡ None
   pub seen : new.seen ≡ old.seen
-  pub boxes_after : IsTold new.boxes boxes
+  pub boxes_after : IsTold new.boxes.told boxes
   pub binds : new.outside.binds ≡ old.outside.binds
   pub same : t ≡ s
 
@@ -373,8 +372,8 @@ pub record PumpSight : Type 0 where
   pub net : Option NetHolds
   pub counts : PortCounts
   pub seen : Seen
-  -- the inboxes, where the mail tells them
-  pub boxes : Option (List (List Parcel))
+  -- the inboxes, where the mail tells them, and what went by it
+  pub boxes : Inboxes
 
 -- the office and the mail alone
 abbrev pub shared_sight : Outside → PumpSight → Sight
@@ -390,7 +389,7 @@ pub record NetRefills (old : Option NetHolds) (s now : Pump) : Type 0 where
 
 -- there is an inbox for each worker, and one for the pump
 pub record PumpKnown (sight : PumpSight) : Type 0 where
-  pub boxes : (boxes : List (List Parcel)) → sight.boxes ≡ Some boxes → length boxes ≡ sight.seen.config.workers + 1
+  pub boxes : (boxes : List (List Parcel)) → sight.boxes.told ≡ Some boxes → length boxes ≡ sight.seen.config.workers + 1
 
 -- The step gave this note: of the pump with contents with which what the outside answered fits, it is the turn.
 pub record PumpGave (orders : Orders) (o : Outside) (old new : PumpSight) (s : Pump) (note : Note) (t : Pump) : Type 0 where
@@ -399,7 +398,7 @@ pub record PumpGave (orders : Orders) (o : Outside) (old new : PumpSight) (s : P
   pub sh : Shared
   pub after : Shared
   pub refills : NetRefills old.net s now
-  pub was : WasInbox old.boxes old.seen.config.workers box
+  pub was : WasInbox old.boxes.told old.seen.config.workers box
   pub meets : Meets orders (shared_sight o old) (shared_sight o new) sh after
   -- a network that tells nothing fails only where it failed in this step
   pub fails : now.net.holds.send_fails || now.net.holds.receive_fails ≡ true → old.net ≡ None → Rose old.counts.faults new.counts.faults
@@ -409,9 +408,7 @@ pub record PumpGave (orders : Orders) (o : Outside) (old new : PumpSight) (s : P
 pub record PumpLeaves (old new : PumpSight) : Type 0 where
   pub net : new.net ≡ old.net
   pub seen : new.seen ≡ old.seen
-  pub boxes : List (List Parcel)
-  pub told : IsTold old.boxes boxes
-  pub tells : IsTold new.boxes boxes
+  pub boxes : new.boxes ≡ old.boxes
 
 -- The pump gave no note: with contents with which what the outside answered fits, it has no turn. What it held for sending waited,
 -- or nothing came through its inbox; and nothing came from the network, or that failed.
@@ -419,7 +416,7 @@ pub record PumpQuiet (old new : PumpSight) (s t : Pump) : Type 0 where
   pub now : Pump
   pub box : List Parcel
   pub refills : NetRefills old.net s now
-  pub was : WasInbox old.boxes old.seen.config.workers box
+  pub was : WasInbox old.boxes.told old.seen.config.workers box
   pub none : pump_try now box ≡ None
   pub send : (parcel : Parcel) → s.to_send ≡ Some parcel → Rose old.counts.send_waits new.counts.send_waits
   pub receive : Rose old.counts.receive_waits new.counts.receive_waits ⊎ Rose old.counts.faults new.counts.faults
@@ -431,7 +428,7 @@ pub record PumpSilent (old new : PumpSight) (s t : Pump) : Type 0 where
   pub now : Pump
   pub box : List Parcel
   pub refills : NetRefills old.net s now
-  pub was : WasInbox old.boxes old.seen.config.workers box
+  pub was : WasInbox old.boxes.told old.seen.config.workers box
   pub some : is_some (pump_try now box) ≡ true
   pub leaves : PumpLeaves old new
   pub same : bare_pump t ≡ bare_pump s

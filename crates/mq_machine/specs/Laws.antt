@@ -94,7 +94,7 @@ IsSilentOrQuiet = (old new : State) (actor : Actor) (reached : Reached) → Sile
 -- prepared; where it gave none the worker had no turn; and else it was refused memory at that turn.
 abbrev pub IsToldStep : Type 0
 IsToldStep = (orders : Orders) (old new : Sight) (boxes : List (List Parcel)) (s t : Worker) (result : Result (Option Note) NoMemory)
-    → TellsAll old.outside s → HasTold new.outside t → old.seen.is_whole ≡ true → old.boxes ≡ Some boxes
+    → TellsAll old.outside s → HasTold new.outside t → old.seen.is_whole ≡ true → old.boxes.told ≡ Some boxes
     → StepGives orders old new s result t → PlainGives orders old new boxes s result t
 
 -- a connection is refused memory once at most: then it is ending for want of it

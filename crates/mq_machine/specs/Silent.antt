@@ -4,7 +4,7 @@ use Rattle.mq_talk.specs.declared.book.Call.TheVariants as call
 use Rattle.mq_talk.specs.declared.book.Reply.TheVariants as reply
 use Rattle.mq_talk.specs.declared.place.Parcel.{Parcel}
 use Rattle.mq_machine.specs.State.{held_of, Tunnel, Held, Worker, Shared, State}
-use Rattle.mq_machine.specs.Want.{Want, Bind, Ask, Answer, Said, Replied, want_of}
+use Rattle.mq_machine.specs.Want.{Want, Say, Bind, Ask, Answer, Said, Replied, want_of}
 use Rattle.mq_talk.specs.Mails.{box_at}
 use Rattle.mq_machine.specs.Shared.{Answers, Ordered}
 use Rattle.mq_machine.specs.Steps.{starved}
@@ -37,6 +37,12 @@ takes_memory (Ask (call.Assign tunnel asked)) = true
 takes_memory (Ask (call.Advertise tunnel ranges)) = true
 takes_memory want = false
 
+-- what may be refused it: that, and a note that needs nothing of the outside, whose text takes some. To judge, to push, to send, to
+-- close a tunnel and to end take none.
+abbrev pub may_starve : Want → Bool
+may_starve Say = true
+may_starve want = takes_memory want
+
 -- what it wanted was answered all the same
 pub record WasAnswered (old : Held) (sh : Shared) (try : Try) (answer : Answer) (tunnels : List Tunnel) (after : Shared) : Type 0 where
   pub tries : try ≡ Act
@@ -49,8 +55,7 @@ abbrev pub Heard : Bool → Held → Shared → Try → Answer → List Tunnel �
 Heard false old sh try answer tunnels after = (answer ≡ Said) × (tunnels ≡ old.conn.tunnels) × (after ≡ sh)
 Heard true old sh try answer tunnels after = WasAnswered old sh try answer tunnels after
 
--- The connection whose turn it was is ending with NoMemory. To close the tunnels of an ending connection, and to end it, takes
--- no memory.
+-- The connection whose turn it was is ending with NoMemory.
 pub record ConnStarves (old : Worker) (sh : Shared) (number : ℕ) (reached : Reached) (answer : Answer) (new : Worker) (after : Shared) : Type 0 where
   pub held : Held
   pub try : Try
@@ -58,7 +63,7 @@ pub record ConnStarves (old : Worker) (sh : Shared) (number : ℕ) (reached : Re
   pub tunnels : List Tunnel
   pub has : held_of old number ≡ Some held
   pub tries : try_of held ≡ Some try
-  pub alive : try ≡ Act → held.conn.ending ≡ None
+  pub takes : try ≡ Act → may_starve (want_of held.conn) ≡ true
   pub leaves : Leaves reached.took try held.link.pieces pieces
   pub heard : Heard reached.asked held sh try answer tunnels after
   pub new_is : new ≡ record old {

@@ -10,7 +10,7 @@ use Rattle.mq_mail.specs.declared.inbox_rule.Letter.{Letter}
 use Rattle.mq_mail.specs.declared.inbox_rule.Part.{Part}
 use Rattle.mq_mail.specs.InboxRule.{pusher, popper}
 use Rattle.mq_mail.specs.Keys.{InboxPass, id_of, first_pushed, pushed_of, count_of, AreWays, IsKey}
-use Rattle.mq_mail.specs.Made.{IsFirst, IsNewWay, AreFirsts, AreHalfway, AreWaysTo, AreRows, AreLast}
+use Rattle.mq_mail.specs.Made.{IsFirst, IsNewWay, AreFirsts, AreWaysTo, AreRows, AreLast}
 use Rattle.mq_mail.specs.PostParts.{inbox_id, HaveRoom}
 use Rattle.mq_mail.specs.Posts.{PostId, KeyOf, new_key, new_keys}
 
@@ -40,6 +40,13 @@ module _ {Q A : Type 0} where
   pub room_more : (capacity : ℕ) (qs : List (Slotted (Option Letter) (Doing Letter Part) Q A)) (q : Slotted (Option Letter) (Doing Letter Part) Q A) (qs' : List (Slotted (Option Letter) (Doing Letter Part) Q A))
       → HaveRoom capacity qs → qs' ≡ qs ++ q ∷ [] → ruled_capacity q ≡ capacity → HaveRoom capacity qs'
   room_more capacity qs q qs' h e r = let P : List (Slotted (Option Letter) (Doing Letter Part) Q A) → Type 0 = HaveRoom capacity in subst P (sym e) (has_room capacity qs q h r)
+
+-- the first i of them have made one more
+abbrev pub AreHalfway : ℕ → ℕ → List TableId → List InboxPass → Type 0
+AreHalfway made zero ids ps = AreFirsts made ids ps
+AreHalfway made (suc i) [] ps = ⊥
+AreHalfway made (suc i) (id ∷ ids) [] = ⊥
+AreHalfway made (suc i) (id ∷ ids) (p ∷ ps) = IsFirst (suc made) id p × AreHalfway made i ids ps
 
 pub half_length : (made i : ℕ) (ids : List TableId) (ps : List InboxPass) → AreHalfway made i ids ps → length ps ≡ length ids
 half_length made zero [] [] h = refl

@@ -7,4 +7,5 @@ pub mod Letters
 pub mod Made
 pub mod PostParts
 pub mod Posts
+pub mod Ruled
 pub mod Tallies

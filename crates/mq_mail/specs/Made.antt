@@ -23,13 +23,6 @@ AreFirsts made [] (p ∷ ps) = ⊥
 AreFirsts made (id ∷ ids) [] = ⊥
 AreFirsts made (id ∷ ids) (p ∷ ps) = IsFirst made id p × AreFirsts made ids ps
 
--- the first i of them have made one more
-abbrev pub AreHalfway : ℕ → ℕ → List TableId → List InboxPass → Type 0
-AreHalfway made zero ids ps = AreFirsts made ids ps
-AreHalfway made (suc i) [] ps = ⊥
-AreHalfway made (suc i) (id ∷ ids) [] = ⊥
-AreHalfway made (suc i) (id ∷ ids) (p ∷ ps) = IsFirst (suc made) id p × AreHalfway made i ids ps
-
 -- the ways to the first i inboxes
 abbrev pub AreWaysTo : ℕ → ℕ → List TableId → List InboxPass → Type 0
 AreWaysTo actor zero ids [] = Unit {0}

@@ -1,9 +1,10 @@
 //! An actor's way to the inboxes of a post that threads share.
-ghost use Rattle.std.specs.Prelude.{◌≡◌, ◌<◌, ℕ, length, None};
+ghost use Rattle.std.specs.Prelude.{◌≡◌, ◌<◌, ℕ, length};
 ghost use Rattle.mq_talk.specs.Mails.{IsParcel, PushGives, PopGives};
 ghost use Rattle.mq_mail.specs.Posts.{PushesBy, PopsBy};
+ghost use Rattle.mq_mail.specs.Ruled.{untold};
 
-use crate::key::MailKey;
+use crate::key::{MailKey, below_most};
 use crate::post::Post;
 use mq_talk::{Mail, Parcel, Pushed};
 use std::sync::Wait;
@@ -14,6 +15,10 @@ pub struct RuledMail<'a, R: Wait> {
     rt: &'a R,
     post: &'a Post,
     key: MailKey,
+    /// How many parcels came back, each from a full inbox.
+    back: u64,
+    /// The inbox from which the last of them came.
+    back_by: u32,
     ghost same: { key.post ≡ post.now.inboxes },
     ghost room: { post.now.capacity ≡ 256 },
     ghost own: { key.actor < length key.post },
@@ -31,6 +36,8 @@ impl Post {
             rt,
             post: self,
             key,
+            back: 0,
+            back_by: 0,
         }
     }
 }
@@ -45,27 +52,35 @@ impl<R: Wait> RuledMail<'_, R> {
 }
 
 impl<R: Wait> Mail for RuledMail<'_, R> {
-    ghost use Rattle.std.specs.Prelude.{length, None};
+    ghost use Rattle.std.specs.Prelude.{length};
+    ghost use Rattle.mq_mail.specs.Ruled.{untold};
 
     ghost actor = { λ m. m.key.actor };
 
     ghost count = { λ m. length m.key.post };
 
-    ghost boxes = { λ m. None };
+    ghost boxes = { λ m. untold m.key m.back m.back_by };
 
     fn push(&mut self, to: u32, parcel: Parcel) -> Pushed
         requires inbox { to < length self.old.key.post }
         requires packet { IsParcel parcel }
-        ensures gives { PushGives (length self.old.key.post) None to parcel result None }
+        ensures gives { PushGives (length self.old.key.post) (untold self.old.key self.old.back self.old.back_by) to parcel result
+            (untold self.new.key self.new.back self.new.back_by) }
         ensures actor { self.new.key.actor ≡ self.old.key.actor }
         ensures count { length self.new.key.post ≡ length self.old.key.post }
         ensures key { PushesBy 256 self.old.key to parcel result self.new.key }
     {
-        self.key.push(self.rt, self.post, to, parcel)
+        let pushed = self.key.push(self.rt, self.post, to, parcel);
+        if let Pushed::Full(_) = &pushed {
+            self.back = below_most(self.rt, self.back) + 1;
+            self.back_by = to;
+        }
+        pushed
     }
 
     fn pop(&mut self) -> Option<Parcel>
-        ensures gives { PopGives (length self.old.key.post) None self.old.key.actor result None }
+        ensures gives { PopGives (length self.old.key.post) (untold self.old.key self.old.back self.old.back_by) self.old.key.actor result
+            (untold self.new.key self.new.back self.new.back_by) }
         ensures actor { self.new.key.actor ≡ self.old.key.actor }
         ensures count { length self.new.key.post ≡ length self.old.key.post }
         ensures key { PopsBy self.old.key result self.new.key }

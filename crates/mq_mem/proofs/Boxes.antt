@@ -8,7 +8,7 @@ use Rattle.mq_talk.specs.declared.place.Parcel.{Parcel}
 use Rattle.mq_talk.specs.declared.place.Pushed.{Pushed}
 use Rattle.mq_talk.specs.declared.place.Pushed.TheVariants as pushed
 use Rattle.mq_talk.specs.Mails.{Boxes, PushDoes, PushGives, PopDoes, PopGives, box_at}
-use Rattle.mq_mem.specs.Mails.{Pushes, Pops, empty_boxes}
+use Rattle.mq_mem.specs.Mails.{Pushes, Pops, empty_boxes, shown}
 
 more_empty : (count : ℕ) → empty_boxes count ++ [] ∷ [] ≡ empty_boxes (suc count)
 more_empty zero = refl
@@ -43,7 +43,7 @@ push_does items to parcel (pushed.Full back) box after within is pushes =
     (rw here (le-ltb _ _ pushes.0), ap (λ (b : List Parcel). slice_set items to b) pushes.1 ∙ unchanged items to box is, pushes.2)
 
 pub push_gives : (items : Boxes) (to : ℕ) (parcel : Parcel) (answer : Pushed) (box after : List Parcel) → to < length items
-    → box ≡ get_or items to box → Pushes box parcel answer after → PushGives (length items) (Some items) to parcel answer (Some (slice_set items to after))
+    → box ≡ get_or items to box → Pushes box parcel answer after → PushGives (length items) (shown items) to parcel answer (shown (slice_set items to after))
 push_gives items to parcel answer box after within is pushes = record {
   before = items;
   after = slice_set items to after;
@@ -51,6 +51,7 @@ push_gives items to parcel answer box after within is pushes = record {
   was = refl;
   is = refl;
   tells = refl;
+  goes = refl;
   does = push_does items to parcel answer box after within is pushes;
 }
 
@@ -62,7 +63,7 @@ pop_does items of (Some parcel) box after within is pops =
     (after, found items of box within is ∙ ap (λ (b : List Parcel). Some b) pops.0, refl, pops.1)
 
 pub pop_gives : (items : Boxes) (of : ℕ) (answer : Option Parcel) (box after : List Parcel) → of < length items → box ≡ get_or items of box
-    → Pops box answer after → PopGives (length items) (Some items) of answer (Some (slice_set items of after))
+    → Pops box answer after → PopGives (length items) (shown items) of answer (shown (slice_set items of after))
 pop_gives items of answer box after within is pops = record {
   before = items;
   after = slice_set items of after;
@@ -70,5 +71,6 @@ pop_gives items of answer box after within is pops = record {
   was = refl;
   is = refl;
   tells = refl;
+  goes = refl;
   does = pop_does items of answer box after within is pops;
 }

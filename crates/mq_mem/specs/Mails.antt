@@ -3,7 +3,7 @@ use Rattle.std.specs.Prelude.{◌≡◌, ℕ, ◌<◌, ◌≤◌, ◌++◌, ◌�
 use Rattle.mq_talk.specs.declared.place.Parcel.{Parcel}
 use Rattle.mq_talk.specs.declared.place.Pushed.{Pushed}
 use Rattle.mq_talk.specs.declared.place.Pushed.TheVariants as pushed
-use Rattle.mq_talk.specs.Mails.{Boxes, IsParcel}
+use Rattle.mq_talk.specs.Mails.{Boxes, IsParcel, Inboxes}
 
 pub record Mail : Type 0 where
   pub boxes : Boxes
@@ -22,6 +22,10 @@ Pops box (Some parcel) after = (box ≡ parcel ∷ after) × IsParcel parcel
 abbrev pub is_waiting : List Parcel → Bool
 is_waiting [] = false
 is_waiting (parcel ∷ parcels) = true
+
+-- what such a mail tells: its inboxes, and so nothing of what its actor moved
+abbrev pub shown : Boxes → Inboxes
+shown boxes = record { told = Some boxes; went = None }
 
 abbrev pub empty_boxes : ℕ → Boxes
 empty_boxes zero = []

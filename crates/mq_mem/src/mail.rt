@@ -56,11 +56,14 @@ impl PlainMail {
 }
 
 impl Mail for PlainMail {
+    ghost use Rattle.std.specs.Prelude.{length};
+    ghost use Rattle.mq_mem.specs.Mails.{shown};
+
     ghost actor = { λ m. m.actor };
 
     ghost count = { λ m. length m.boxes };
 
-    ghost boxes = { λ m. Some m.boxes };
+    ghost boxes = { λ m. shown m.boxes };
 
     fn push(&mut self, to: u32, parcel: Parcel) -> Pushed {
         self.boxes[to as usize].push(parcel)

@@ -19,6 +19,7 @@ use Rattle.mq_actor.specs.Holds.{AreHeld, AreOffered, IsWorker}
 use Rattle.mq_actor.specs.Steps.{sight}
 use Rattle.mq_actor.specs.Told.{TellsRing}
 use Rattle.mq_plain.specs.Served.{words, Plain, IsOf, Serves}
+use Rattle.mq_mem.specs.Mails.{shown}
 
 no_conns : (table : Slab PortOf) (hs : List (HeldBy LinkOf)) → AreHeld words.most table hs [] → hs ≡ []
 no_conns table [] are = refl
@@ -51,7 +52,7 @@ module _ (a : Plain) (id : ℕ) (setup : Setup) (stands : IsWorker words.most a.
     none_had : (tunnel conn stream : ℕ) (goal : Goal) → HasTunnel (new_worker id setup) tunnel conn stream goal → ⊥
     none_had tunnel conn stream goal has = let none : None ≡ Some has.held = has.at in absurd cc
 
-    known : (o : Outside) → Known (sight o seen (Some boxes)) (new_worker id setup)
+    known : (o : Outside) → Known (sight o seen (shown boxes)) (new_worker id setup)
     known o = record {
       id = few;
       pump = pump;

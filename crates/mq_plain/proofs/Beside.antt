@@ -16,6 +16,7 @@ use Rattle.mq_machine.specs.Placing.{ArePlaced}
 use Rattle.mq_actor.specs.Steps.{sight}
 use Rattle.mq_actor.proofs.Books.{open_onward, open_backward, entry_or_last}
 use Rattle.mq_book.proofs.Onward.{any_closes}
+use Rattle.mq_mem.specs.Mails.{shown}
 
 -- a tunnel that one actor opened is closed by no entry of another
 call_beside : (book : History) (k j t : ℕ) (c : Call) (e : Entry) → slice_get book t ≡ Some e → e.actor ≡ j → j ≢ k
@@ -59,8 +60,8 @@ pub whole_book : (old new : Seen) (k : ℕ) → old.is_whole ≡ true → (w : W
 whole_book old new k whole w = w.sees.goes_on ∙ ap (λ (m : History). old.entries ++ m) (w.sees.whole whole) ∙ append-nil old.entries
 
 -- Another worker's tunnels are known as they were.
-pub known_beside : (o n : Outside) (old new : Seen) (boxes after : Boxes) (k : ℕ) (x : Worker) → Known (sight o old (Some boxes)) x → x.id ≢ k → old.is_whole ≡ true → Writes old new k
-    → new.config ≡ old.config → length after ≡ length boxes → Known (sight n new (Some after)) x
+pub known_beside : (o n : Outside) (old new : Seen) (boxes after : Boxes) (k : ℕ) (x : Worker) → Known (sight o old (shown boxes)) x → x.id ≢ k → old.is_whole ≡ true → Writes old new k
+    → new.config ≡ old.config → length after ≡ length boxes → Known (sight n new (shown after)) x
 known_beside o n old new boxes after k x known ne whole w config size =
     let book = whole_book old new k whole w in
     let wrote : new.entries ≡ old.entries ++ w.own = w.wrote ∙ ap (λ (h : History). h ++ w.own) book in

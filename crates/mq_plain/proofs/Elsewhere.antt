@@ -12,6 +12,7 @@ use Rattle.mq_plain.specs.Served.{words, Plain, Serves}
 use Rattle.mq_plain.proofs.Emptied.{PortsApart, ConnsApart}
 use Rattle.mq_plain.proofs.Serving.{nowhere}
 use Rattle.mq_plain.proofs.Turned.{apart_other}
+use Rattle.mq_mem.specs.Mails.{shown}
 
 module _ (t : ℕ) (change : Port → Port) where
   ports_still : (ports : List Port) → PortsApart t ports → at_port t change ports ≡ ports
@@ -31,4 +32,4 @@ module _ (t : ℕ) (change : Port → Port) where
       → (e : Entry) → slice_get seen.entries t ≡ Some e → e.actor ≢ number → with_held_ports t change w ≡ w
   still_elsewhere links seen boxes number a w x e at ne =
       ap (λ (hs : List Held). record w { conns = hs })
-      (conns_still w.conns (apart_other words.most a.table.table a.ring w x.stands nowhere seen (Some boxes) t e (x.known nowhere) at (λ same. ne (same ∙ x.stands.id ∙ x.id))))
+      (conns_still w.conns (apart_other words.most a.table.table a.ring w x.stands nowhere seen (shown boxes) t e (x.known nowhere) at (λ same. ne (same ∙ x.stands.id ∙ x.id))))

@@ -26,6 +26,7 @@ use Rattle.mq_play.specs.Events.{at_held, at_worker, with_ports, with_held_ports
 use Rattle.mq_plain.specs.Served.{words, Plain, IsOf, Serves}
 use Rattle.mq_plain.proofs.Linking.{stands_linked, lent_linked, unlent_linked, linked_same}
 use Rattle.mq_plain.proofs.Porting.{Keeps, found_seat, stands_changed, tells_changed, unlent_same}
+use Rattle.mq_mem.specs.Mails.{shown}
 
 -- nothing is told
 pub nowhere : Outside
@@ -33,10 +34,10 @@ nowhere = record { link = λ n. None; link_counts = λ n. no_link_counts; port =
 
 -- ---- what the office knows stays
 
-pub known_with : (o : Outside) (seen : Seen) (boxes : Boxes) (x y : Worker) → Known (sight o seen (Some boxes)) x → y.id ≡ x.id → y.setup ≡ x.setup → cores_of y.conns ≡ cores_of x.conns
-    → Known (sight o seen (Some boxes)) y
+pub known_with : (o : Outside) (seen : Seen) (boxes : Boxes) (x y : Worker) → Known (sight o seen (shown boxes)) x → y.id ≡ x.id → y.setup ≡ x.setup → cores_of y.conns ≡ cores_of x.conns
+    → Known (sight o seen (shown boxes)) y
 known_with o seen boxes x y known id setup cores =
-    known_same (sight o seen (Some boxes)) (sight o seen (Some boxes)) x y known id setup cores refl (λ bs is. known.boxes bs is)
+    known_same (sight o seen (shown boxes)) (sight o seen (shown boxes)) x y known id setup cores refl (λ bs is. known.boxes bs is)
 
 at_held_core : (number : ℕ) (change : Link → Link) (h : Held) → (at_held number change h).conn ≡ h.conn
 at_held_core number change h = by_case (h.conn.number == number) where
@@ -76,7 +77,7 @@ module _ (links : List Told) (seen : Seen) (boxes : Boxes) (number : ℕ) (a : P
   by_seat was now seat found at most tells_now =
       let after = with_value a.table.table seat.key now in
       let sized = worker_sized words.most a.table.table after (value_sized words.most a.table.table seat.key was now at most) a.ring w x.stands in
-      let own = own_tunnels words.most a.table.table a.ring.conns.items w nowhere seen (Some boxes) x.stands.conns (apart_of words.most a.table.table a.ring w x.stands) (x.known nowhere) in
+      let own = own_tunnels words.most a.table.table a.ring.conns.items w nowhere seen (shown boxes) x.stands.conns (apart_of words.most a.table.table a.ring w x.stands) (x.known nowhere) in
       record {
         stands = stands_changed words after change keeps tunnel a.ring w sized;
         tells = tells_changed words a.table.table after change keeps tunnel was now tells_now a.ring w seat x.stands own x.tells found at (Updates-with_value a.table.table seat.key now (rw at refl));

@@ -14,7 +14,7 @@ use Rattle.mq_machine.specs.Silent.{WorkerStarves}
 use Rattle.mq_machine.specs.Turn.{WorkerTurn}
 use Rattle.mq_machine.specs.Acting.{Outside, Binder, Binds, BindFits, Writes, Leaves, PlainGives, holding}
 use Rattle.mq_mem.specs.Links.{Link as LinkOf}
-use Rattle.mq_mem.specs.Mails.{Mail as MailOf}
+use Rattle.mq_mem.specs.Mails.{Mail as MailOf, shown}
 use Rattle.mq_mem.specs.Offices.{Office as OfficeOf, seen_of}
 use Rattle.mq_mem.specs.Ports.{Port as PortOf}
 use Rattle.mq_held.specs.declared.held.Held.{Held as HeldBy}
@@ -105,7 +105,7 @@ place_of a office mail = record {
   table = a.table.table;
   binds = bare_binds a.table.ports.bind_fails a.table.ports.faults;
   seen = seen_of office;
-  boxes = Some mail.boxes;
+  boxes = shown mail.boxes;
 }
 
 module _ (links : List Told) (number : ℕ) (old new : Common) (a b s : Plain) (result : Result (Option Note) NoMemory)
@@ -121,7 +121,7 @@ module _ (links : List Told) (number : ℕ) (old new : Common) (a b s : Plain) (
   serves_ready = record {
     stands = p.stands;
     tells = p.tells;
-    known = λ o. known_same (sight p.behind (seen_of new.office) (Some new.mail.boxes)) (sight o (seen_of new.office) (Some new.mail.boxes)) p.t p.t p.known refl refl refl refl (λ bs is. p.known.boxes bs is);
+    known = λ o. known_same (sight p.behind (seen_of new.office) (shown new.mail.boxes)) (sight o (seen_of new.office) (shown new.mail.boxes)) p.t p.t p.known refl refl refl refl (λ bs is. p.known.boxes bs is);
     id = id ∙ ap (λ (r : Ring LinkOf). r.id) ring ∙ x.id;
     own = left_all (IsOf links number) (conn_numbers b.ring) (offer_numbers b.ring) s.ring (subst (λ (r : Ring LinkOf). All (IsOf links number) (conn_numbers r ++ offer_numbers r)) (sym ring) x.own) left;
     ready = refl;
@@ -139,19 +139,19 @@ module _ (links : List Told) (number : ℕ) (old new : Common) (a b s : Plain) (
   ordered : (answer : Answer) → BindFits p.before p.behind answer → Ordered (shared_of old).orders answer (shared_of new).orders
   ordered answer fits = ordered_by old.bind_fails new.bind_fails p.before p.behind b.table.ports.faults s.table.ports.faults answer was_binds now_binds fits
 
-  leads : (after : Shared) → Leaves (sight p.before (seen_of old.office) (Some old.mail.boxes)) (sight p.behind (seen_of new.office) (Some new.mail.boxes)) after → Leads old after new
+  leads : (after : Shared) → Leaves (sight p.before (seen_of old.office) (shown old.mail.boxes)) (sight p.behind (seen_of new.office) (shown new.mail.boxes)) after → Leads old after new
   leads after l = record { config = l.same.config; book = l.wrote; boxes = sym l.boxes }
 
   abbrev shared_with : Seen → Boxes → Orders → Shared
   shared_with seen boxes orders = record { config = seen.config; book = seen.entries; boxes = boxes; orders = orders }
 
   gives : (r : Result (Option Note) NoMemory)
-      → PlainGives (shared_of old).orders (sight p.before (seen_of old.office) (Some old.mail.boxes)) (sight p.behind (seen_of new.office) (Some new.mail.boxes)) old.mail.boxes w r p.t
+      → PlainGives (shared_of old).orders (sight p.before (seen_of old.office) (shown old.mail.boxes)) (sight p.behind (seen_of new.office) (shown new.mail.boxes)) old.mail.boxes w r p.t
       → Gives old new w r emptied
   gives (Ok (Some note)) d =
       let is : emptied ≡ d.became =
       ap (λ (z : Worker). with_held_ports next (holding empty_port) z) d.is
-      ∙ turn_emptied words.most a.table.table a.ring w x.stands p.before p.behind (seen_of old.office) (Some old.mail.boxes) d.box (shared_of old) d.answer note d.became d.after (x.known p.before) refl d.turn in
+      ∙ turn_emptied words.most a.table.table a.ring w x.stands p.before p.behind (seen_of old.office) (shown old.mail.boxes) d.box (shared_of old) d.answer note d.became d.after (x.known p.before) refl d.turn in
       record {
         box = d.box;
         answer = d.answer;
@@ -170,14 +170,14 @@ module _ (links : List Told) (number : ℕ) (old new : Common) (a b s : Plain) (
         was = q.was;
         none = q.none;
         same = ap (λ (z : Worker). with_held_ports next (holding empty_port) z) q.same
-            ∙ still_emptied words.most a.table.table a.ring w x.stands p.before (seen_of old.office) (Some old.mail.boxes) (x.known p.before);
+            ∙ still_emptied words.most a.table.table a.ring w x.stands p.before (seen_of old.office) (shown old.mail.boxes) (x.known p.before);
         is = ap (λ (z : Seen). shared_with z new.mail.boxes new_orders) q.seen
             ∙ ap (λ (bs : Boxes). shared_with (seen_of old.office) bs new_orders) (sym boxes)
             ∙ ap (λ (o : Binder). shared_with (seen_of old.office) old.mail.boxes (orders_of (fails_of o.holds))) (sym now_binds ∙ q.binds ∙ was_binds);
       }
   gives (Err fault) q =
       let is : emptied ≡ p.t =
-      starved_emptied words.most a.table.table a.ring w x.stands p.before (seen_of old.office) (Some old.mail.boxes) q.box (shared_of old) q.reached q.answer p.t q.after (x.known p.before) q.starves in
+      starved_emptied words.most a.table.table a.ring w x.stands p.before (seen_of old.office) (shown old.mail.boxes) q.box (shared_of old) q.reached q.answer p.t q.after (x.known p.before) q.starves in
       record {
         box = q.box;
         answer = q.answer;

@@ -17,7 +17,7 @@ use Rattle.mq_talk.specs.declared.note.Note.{Note}
 use Rattle.mq_talk.specs.declared.note.End.{End}
 use Rattle.mq_talk.specs.declared.place.Parcel.{Parcel}
 use Rattle.mq_talk.specs.Answers.{IsAnswer}
-use Rattle.mq_talk.specs.Mails.{Boxes}
+use Rattle.mq_talk.specs.Mails.{Inboxes}
 use Rattle.mq_talk.specs.Offices.{Seen}
 use Rattle.mq_machine.specs.declared.setup.Setup.{Setup}
 use Rattle.mq_machine.specs.State.{Tunnel, Port, Held, Offer, Worker, Shared}
@@ -203,7 +203,7 @@ apart_all t (h ∷ hs) each = (each zero h refl, apart_all t hs (λ i g at. each
 
 module _ {L Q : Type 0} (most : Q → ℕ) (table : Slab Q) (r : Ring L) (w : Worker) (is : IsWorker most table r w) where
   -- a tunnel of a connection is one that its office knows as live
-  open_tunnel : (o : Outside) (seen : Seen) (boxes : Option Boxes) → Known (sight o seen boxes) w → (i : ℕ) (h : Held) → slice_get w.conns i ≡ Some h → (j : ℕ) (u : Tunnel) → slice_get h.conn.tunnels j ≡ Some u
+  open_tunnel : (o : Outside) (seen : Seen) (boxes : Inboxes) → Known (sight o seen boxes) w → (i : ℕ) (h : Held) → slice_get w.conns i ≡ Some h → (j : ℕ) (u : Tunnel) → slice_get h.conn.tunnels j ≡ Some u
       → IsOpen seen.entries w.id u.id h.conn.number u.stream u.goal
   open_tunnel o seen boxes known i h at j u at_u =
       let C : Tunnel → Type 0 = λ v. Contains h.conn.tunnels v in
@@ -226,13 +226,13 @@ module _ {L Q : Type 0} (most : Q → ℕ) (table : Slab Q) (r : Ring L) (w : Wo
         served_apart t h.conn.ending h.conn.tunnels h.ports (tunnels_apart t h.conn.tunnels (λ j u at_u. none i h at j u at_u)) found.2.served
 
   -- its ports are those of tunnels that its office has seen
-  pub apart_before : (o : Outside) (seen : Seen) (boxes : Option Boxes) → Known (sight o seen boxes) w → ConnsApart (length seen.entries) w.conns
+  pub apart_before : (o : Outside) (seen : Seen) (boxes : Inboxes) → Known (sight o seen boxes) w → ConnsApart (length seen.entries) w.conns
   apart_before o seen boxes known = conns_apart (length seen.entries) (λ i h at j u at_u e.
       let less = open_within seen.entries w.id u.id h.conn.number u.stream u.goal (open_tunnel o seen boxes known i h at j u at_u) in
       omega (arith, less, e))
 
   -- and that it opened
-  pub apart_other : (o : Outside) (seen : Seen) (boxes : Option Boxes) (t : ℕ) (e : Entry) → Known (sight o seen boxes) w → slice_get seen.entries t ≡ Some e → e.actor ≢ w.id → ConnsApart t w.conns
+  pub apart_other : (o : Outside) (seen : Seen) (boxes : Inboxes) (t : ℕ) (e : Entry) → Known (sight o seen boxes) w → slice_get seen.entries t ≡ Some e → e.actor ≢ w.id → ConnsApart t w.conns
   apart_other o seen boxes t e known at_e ne = conns_apart t (λ i h at j u at_u same.
       let live = open_tunnel o seen boxes known i h at j u at_u in
       let both : Some live.entry ≡ Some e = sym live.at ∙ ap (λ (n : ℕ). slice_get seen.entries n) same ∙ at_e in
@@ -241,7 +241,7 @@ module _ {L Q : Type 0} (most : Q → ℕ) (table : Slab Q) (r : Ring L) (w : Wo
 
   -- ---- behind it
 
-  pub turn_emptied : (o n : Outside) (seen : Seen) (boxes : Option Boxes) (box : List Parcel) (sh : Shared) (answer : Answer) (said : Note) (became : Worker) (after : Shared)
+  pub turn_emptied : (o n : Outside) (seen : Seen) (boxes : Inboxes) (box : List Parcel) (sh : Shared) (answer : Answer) (said : Note) (became : Worker) (after : Shared)
       → Known (sight o seen boxes) w → sh.book ≡ seen.entries → WorkerTurn w box sh answer said became after
       → with_held_ports (length seen.entries) (holding empty_port) (with_prepared n answer became) ≡ became
   turn_emptied o n seen boxes box sh answer said became after known book turn =
@@ -249,10 +249,10 @@ module _ {L Q : Type 0} (most : Q → ℕ) (table : Slab Q) (r : Ring L) (w : Wo
       prepared_emptied (length seen.entries) n answer became (subst T book (seat_opened w sh turn.seat answer said became after turn.next))
       (seat_fine (length seen.entries) w sh turn.seat answer said became after (apart_before o seen boxes known) turn.next)
 
-  pub still_emptied : (o : Outside) (seen : Seen) (boxes : Option Boxes) → Known (sight o seen boxes) w → with_held_ports (length seen.entries) (holding empty_port) w ≡ w
+  pub still_emptied : (o : Outside) (seen : Seen) (boxes : Inboxes) → Known (sight o seen boxes) w → with_held_ports (length seen.entries) (holding empty_port) w ≡ w
   still_emptied o seen boxes known = worker_clear (length seen.entries) w (conns_fine (length seen.entries) w.conns (apart_before o seen boxes known))
 
-  pub starved_emptied : (o : Outside) (seen : Seen) (boxes : Option Boxes) (box : List Parcel) (sh : Shared) (reached : Reached) (answer : Answer) (t : Worker) (after : Shared)
+  pub starved_emptied : (o : Outside) (seen : Seen) (boxes : Inboxes) (box : List Parcel) (sh : Shared) (reached : Reached) (answer : Answer) (t : Worker) (after : Shared)
       → Known (sight o seen boxes) w → WorkerStarves w box sh reached answer t after → with_held_ports (length seen.entries) (holding empty_port) t ≡ t
   starved_emptied o seen boxes box sh reached answer t after known starves = worker_clear k t (by_seat starves.seat starves.starves) where
     k : ℕ

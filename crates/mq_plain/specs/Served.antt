@@ -12,6 +12,7 @@ use Rattle.mq_actor.specs.Holds.{IsWorker}
 use Rattle.mq_actor.specs.Seen.{Words}
 use Rattle.mq_actor.specs.Steps.{sight}
 use Rattle.mq_actor.specs.Told.{TellsRing}
+use Rattle.mq_mem.specs.Mails.{shown}
 
 -- the words of its links and ports, which tell what they hold
 abbrev pub words : Words LinkOf PortOf
@@ -37,7 +38,7 @@ pub record IsOf (links : List Told) (worker number : ℕ) : Type 0 where
 pub record Serves (links : List Told) (seen : Seen) (boxes : Boxes) (number : ℕ) (a : Plain) (w : Worker) : Type 0 where
   pub stands : IsWorker words.most a.table.table a.ring w
   pub tells : TellsRing words a.table.table a.ring w
-  pub known : (o : Outside) → Known (sight o seen (Some boxes)) w
+  pub known : (o : Outside) → Known (sight o seen (shown boxes)) w
   pub id : a.ring.id ≡ number
   pub own : All (IsOf links number) (numbers_in a.ring)
   pub ready : a.table.ports.bind_fails ≡ false

@@ -75,8 +75,8 @@ pushed {N} p q parcel said old new has q_is workers x net seen orders o s is kno
         sh = sh;
         after = record sh { boxes = x.after };
         refills = refills old.net made s;
-        was = was_box old.boxes x.before old.seen.config.workers x.was there;
-        meets = meets_by orders o old new x.before x.after same (sees_new old.seen new.seen seen) x.was long x.is;
+        was = was_box old.boxes.told x.before old.seen.config.workers x.was there;
+        meets = meets_by orders o old new x.before x.after same (sees_new old.seen new.seen seen) x.was long x.is x.moves;
         fails = λ some none. never_fails old.net none some;
         turn = record {
           try = PushHeld;

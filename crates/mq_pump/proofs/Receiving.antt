@@ -24,7 +24,7 @@ use Rattle.mq_talk.specs.declared.place.Verdict.{Verdict}
 use Rattle.mq_talk.specs.declared.place.Verdict.TheVariants as verdict
 use Rattle.mq_talk.specs.declared.place.Origin.TheVariants as origin
 use Rattle.mq_talk.specs.Judging.{IsJudged}
-use Rattle.mq_talk.specs.Mails.{Boxes, IsTold, PopGives, box_at}
+use Rattle.mq_talk.specs.Mails.{Boxes, IsTold, PopGives, box_at, Inboxes}
 use Rattle.mq_talk.specs.Offices.{Seen, Sees, IsSame}
 use Rattle.mq_talk.specs.Packets.{flow_of}
 use Rattle.mq_machine.specs.State as machine
@@ -39,6 +39,7 @@ use Rattle.mq_pump.specs.Receives.{judged_note, judged_parcel, IsJudgedSo, IsDro
 use Rattle.mq_pump.proofs.Rises.{rose_risen}
 use Rattle.mq_pump.proofs.Shared.{was_box, boxes_or, length_or, told_or, is_told, untold, sharing, meets_by, known_by, same_office, sees_new}
 use Rattle.mq_pump.proofs.Turns.{with_holds, refills, NoneSent, held_waits, none_next, tries_last}
+use Rattle.mq_talk.proofs.Mails.{nothing_moved, popped_same}
 
 -- ---- nothing was sent
 
@@ -52,10 +53,11 @@ abbrev pub IdleBy : Option Parcel → ℕ → PumpSight → NetSeen → Boxes �
 IdleBy None workers old mid before = (mid.counts ≡ old.counts) × (box_at before workers ≡ [])
 IdleBy (Some parcel) workers old mid before = (mid.counts ≡ after_send old.counts put.NotNow) × TakesNone old.net
 
-pub record Idled (held : Option Parcel) (workers : ℕ) (old : PumpSight) (mid : NetSeen) (boxes : Option Boxes) : Type 0 where
+pub record Idled (held : Option Parcel) (workers : ℕ) (old : PumpSight) (mid : NetSeen) (boxes : Inboxes) : Type 0 where
   pub before : Boxes
-  pub was : IsTold old.boxes before
-  pub is : IsTold boxes before
+  pub was : IsTold old.boxes.told before
+  pub is : IsTold boxes.told before
+  pub stays : boxes ≡ old.boxes
   pub long : length before ≡ workers + 1
   pub same : mid.holds ≡ old.net
   pub by : IdleBy held workers old mid before
@@ -67,7 +69,7 @@ waited_same : (after : Option NetHolds) (packet : List ℕ) (told : Option NetHo
 waited_same after packet None sends = (sends, tt)
 waited_same after packet (Some holds) sends = (sends.2, (sends.0, sends.1))
 
-pub idled : (held : Option Parcel) (workers : ℕ) (old : PumpSight) (mid : NetSeen) (boxes : Option Boxes) (waits : Option Parcel) → PumpKnown old → old.seen.config.workers ≡ workers
+pub idled : (held : Option Parcel) (workers : ℕ) (old : PumpSight) (mid : NetSeen) (boxes : Inboxes) (waits : Option Parcel) → PumpKnown old → old.seen.config.workers ≡ workers
     → SendGives held (workers + 1) old.boxes workers boxes (seen_of old) mid None waits → Idled held workers old mid boxes × (waits ≡ held)
 idled None workers old mid boxes waits known same x = by_popped x.popped x.pops x.does where
   by_popped : (popped : Option Parcel) → PopGives (workers + 1) old.boxes workers popped boxes → OfNext (seen_of old) mid popped None waits → Idled None workers old mid boxes × (waits ≡ None)
@@ -75,7 +77,8 @@ idled None workers old mid boxes waits known same x = by_popped x.popped x.pops 
     record {
       before = pops.before;
       was = pops.was;
-      is = subst (λ (b : Boxes). IsTold boxes b) pops.does.1 pops.is;
+      is = subst (λ (b : Boxes). IsTold boxes.told b) pops.does.1 pops.is;
+      stays = popped_same old.boxes boxes (workers + 1) workers pops;
       long = pops.size;
       same = ap (λ (m : NetSeen). m.holds) does.0;
       by = (ap (λ (m : NetSeen). m.counts) does.0, pops.does.0);
@@ -93,13 +96,14 @@ idled (Some parcel) workers old mid boxes waits known same x = by_answer x.0.put
   by_answer put.NotNow sends counts says left =
       let both = waited_same mid.holds parcel.packet old.net sends in
       let count : ℕ = old.seen.config.workers + 1 in
-      let before = boxes_or old.boxes count in
-      let was : IsTold old.boxes before = told_or old.boxes _ in
-      let many : length before ≡ count = length_or old.boxes count known.boxes in (
+      let before = boxes_or old.boxes.told count in
+      let was : IsTold old.boxes.told before = told_or old.boxes.told _ in
+      let many : length before ≡ count = length_or old.boxes.told count known.boxes in (
         record {
           before = before;
           was = was;
-          is = subst (λ (b : Option Boxes). IsTold b before) (sym x.1) was;
+          is = subst (λ (b : Inboxes). IsTold b.told before) (sym x.1) was;
+          stays = x.1;
           long = omega (arith, many, same);
           same = both.0;
           by = (counts, both.1);
@@ -215,11 +219,11 @@ received_none p q n_after pushes old new mid none r workers idles gave takes ord
         now = now;
         box = box;
         refills = refills old.net made s;
-        was = subst (λ (w : ℕ). WasInbox old.boxes w box) (sym workers) (was_box old.boxes idle.before p.workers idle.was there);
+        was = subst (λ (w : ℕ). WasInbox old.boxes.told w box) (sym workers) (was_box old.boxes.told idle.before p.workers idle.was there);
         none = tries_last now box false (is.to_push ∙ none) (idle_sends s p.to_send p.workers old mid idle.before [] is.to_send idle.by) came.0;
         send = λ parcel has. idle_rose p.to_send p.workers old mid idle.before new.counts.send_waits idle.by (ap (λ (c : PortCounts). c.send_waits) gave.counts ∙ still_waits gave.got mid.counts) parcel (sym is.to_send ∙ has);
         receive = vain gave.got old.counts mid.counts new.counts gave.none counts.0 counts.1 gave.counts;
-        leaves = record { net = came.1; seen = takes.same; boxes = idle.before; told = idle.was; tells = idle.is };
+        leaves = record { net = came.1; seen = takes.same; boxes = idle.stays };
         same = refl;
       },
     )
@@ -253,9 +257,9 @@ received_refused p q n_after pushes old new mid refused none r workers idles wou
         now = now;
         box = box;
         refills = refills old.net made s;
-        was = subst (λ (w : ℕ). WasInbox old.boxes w box) (sym workers) (was_box old.boxes idle.before p.workers idle.was there);
+        was = subst (λ (w : ℕ). WasInbox old.boxes.told w box) (sym workers) (was_box old.boxes.told idle.before p.workers idle.was there);
         some = ap (λ (t : Option PumpTry). is_some t) tries;
-        leaves = record { net = still; seen = takes.same; boxes = idle.before; told = idle.was; tells = idle.is };
+        leaves = record { net = still; seen = takes.same; boxes = idle.stays };
         same = refl;
       },
     )
@@ -385,8 +389,8 @@ received_packet p q n_after pushes said old new mid none r workers idles takes o
         sh = sh;
         after = sh;
         refills = refills old.net made s;
-        was = subst (λ (w : ℕ). WasInbox old.boxes w box) (sym workers) (was_box old.boxes idle.before p.workers idle.was there);
-        meets = meets_by orders o old new idle.before idle.before sees.0 sees.1 idle.was long idle.is;
+        was = subst (λ (w : ℕ). WasInbox old.boxes.told w box) (sym workers) (was_box old.boxes.told idle.before p.workers idle.was there);
+        meets = meets_by orders o old new idle.before idle.before sees.0 sees.1 idle.was long idle.is (nothing_moved old.boxes new.boxes idle.before idle.stays);
         fails = λ fails none. absurd (works_on old.net p.to_send packet none fails);
         turn = record {
           try = Receives;

@@ -13,7 +13,7 @@ use Rattle.mq_talk.specs.declared.note.Note.{Note}
 use Rattle.mq_talk.specs.declared.note.Note.TheVariants.{Waits}
 use Rattle.mq_talk.specs.declared.place.Parcel.{Parcel}
 use Rattle.mq_talk.specs.declared.place.Place.TheVariants as place
-use Rattle.mq_talk.specs.Mails.{Boxes, IsTold, PopGives, box_at}
+use Rattle.mq_talk.specs.Mails.{Boxes, IsTold, PopGives, box_at, Inboxes}
 use Rattle.mq_machine.specs.State as machine
 use Rattle.mq_machine.specs.State.{Shared, Net}
 use Rattle.mq_machine.specs.Turn.{SendHeld, SendNext, source_of, net_sent, net_popped, with_sent, with_failure, last_of}
@@ -24,6 +24,7 @@ use Rattle.mq_pump.specs.Sends.{Tries, TriesNext, sent_note, waits_after}
 use Rattle.mq_pump.proofs.Rises.{rose_risen}
 use Rattle.mq_pump.proofs.Shared.{inbox_is, was_box, boxes_or, length_or, told_or, is_told, untold, sharing, meets_by, known_by, same_office, sees_new}
 use Rattle.mq_pump.proofs.Turns.{with_holds, refills, tries_held, tries_next}
+use Rattle.mq_talk.proofs.Mails.{nothing_moved, pop_moved}
 
 -- ---- one send
 
@@ -137,10 +138,10 @@ sent_held p q parcel said waits old new none has left can x boxes seen orders o 
     let now = with_holds s holds in
     let same = same_office old.seen new.seen seen in
     let count = old.seen.config.workers + 1 in
-    let before = boxes_or old.boxes count in
-    let was : IsTold old.boxes before = told_or old.boxes _ in
-    let is_now : IsTold new.boxes before = subst (λ (b : Option Boxes). IsTold b before) (sym boxes) was in
-    let long : length before ≡ count = length_or old.boxes count known.boxes in
+    let before = boxes_or old.boxes.told count in
+    let was : IsTold old.boxes.told before = told_or old.boxes.told _ in
+    let is_now : IsTold new.boxes.told before = subst (λ (b : Inboxes). IsTold b.told before) (sym boxes) was in
+    let long : length before ≡ count = length_or old.boxes.told count known.boxes in
     let there : old.seen.config.workers < length before = omega (arith, long) in
     let flags = sends_flags x.put old.net new.net parcel.packet x.sends in
     let sh = sharing old.seen new.seen.entries before orders in
@@ -155,8 +156,8 @@ sent_held p q parcel said waits old new none has left can x boxes seen orders o 
         sh = sh;
         after = sh;
         refills = refills old.net made s;
-        was = was_box old.boxes before old.seen.config.workers was there;
-        meets = meets_by orders o old new before before same (sees_new old.seen new.seen seen) was long is_now;
+        was = was_box old.boxes.told before old.seen.config.workers was there;
+        meets = meets_by orders o old new before before same (sees_new old.seen new.seen seen) was long is_now (nothing_moved old.boxes new.boxes before boxes);
         fails = sends_fails x.put old.net old.counts new.counts x.counts;
         turn = record {
           try = SendHeld;
@@ -215,8 +216,8 @@ sent_next p q parcel said waits old new none free left can workers pops x seen o
         sh = sh;
         after = record sh { boxes = after };
         refills = refills old.net made s;
-        was = was_box old.boxes before old.seen.config.workers pops.was there;
-        meets = meets_by orders o old new before after same (sees_new old.seen new.seen seen) pops.was long pops.is;
+        was = was_box old.boxes.told before old.seen.config.workers pops.was there;
+        meets = meets_by orders o old new before after same (sees_new old.seen new.seen seen) pops.was long pops.is (pop_moved (p.workers + 1) p.workers old.boxes new.boxes parcel pops);
         fails = sends_fails answer old.net old.counts new.counts x.tries.counts;
         turn = record {
           try = SendNext;

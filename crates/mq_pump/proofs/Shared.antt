@@ -7,7 +7,7 @@ use Rattle.mq_talk.specs.declared.book.Entry.{Entry}
 use Rattle.mq_talk.specs.declared.place.Parcel.{Parcel}
 use Rattle.mq_talk.specs.declared.place.Place.{Place}
 use Rattle.mq_talk.specs.declared.place.Place.TheVariants as place
-use Rattle.mq_talk.specs.Mails.{Boxes, IsTold, box_at, inbox_in}
+use Rattle.mq_talk.specs.Mails.{Boxes, IsTold, box_at, inbox_in, Inboxes, MailMoves}
 use Rattle.mq_talk.specs.Offices.{Seen, Sees, IsSame, IsOfOther}
 use Rattle.mq_machine.specs.State.{Shared, Orders}
 use Rattle.mq_machine.specs.Shared.{inbox_of}
@@ -74,9 +74,9 @@ sharing seen book boxes orders = record { config = seen.config; book = book; box
 
 -- a step after which the office has seen this
 pub meets_by : (orders : Orders) (o : Outside) (old new : PumpSight) (before after : Boxes) → IsSame old.seen new.seen → Sees old.seen new.seen.entries
-    → IsTold old.boxes before → length before ≡ old.seen.config.workers + 1 → IsTold new.boxes after
+    → IsTold old.boxes.told before → length before ≡ old.seen.config.workers + 1 → IsTold new.boxes.told after → MailMoves old.boxes new.boxes before after
     → Meets orders (shared_sight o old) (shared_sight o new) (sharing old.seen new.seen.entries before orders) (sharing old.seen new.seen.entries after orders)
-meets_by orders o old new before after same sees was long is = record {
+meets_by orders o old new before after same sees was long is moves = record {
   config = refl;
   same = same;
   book = sees;
@@ -84,13 +84,14 @@ meets_by orders o old new before after same sees was long is = record {
   boxes = was;
   count = long;
   boxes_after = is;
+  moves = moves;
   orders_are = refl;
 }
 
 -- and there are as many inboxes as before
-pub known_by : (old new : PumpSight) (after : Boxes) → IsSame old.seen new.seen → IsTold new.boxes after → length after ≡ old.seen.config.workers + 1 → PumpKnown new
+pub known_by : (old new : PumpSight) (after : Boxes) → IsSame old.seen new.seen → IsTold new.boxes.told after → length after ≡ old.seen.config.workers + 1 → PumpKnown new
 known_by old new after same is long = record {
-  boxes = as_many new.boxes after (new.seen.config.workers + 1) is (long ∙ ap (λ c. c.workers + 1) (sym same.config));
+  boxes = as_many new.boxes.told after (new.seen.config.workers + 1) is (long ∙ ap (λ c. c.workers + 1) (sym same.config));
 }
 
 pub same_office : (old new : Seen) → new ≡ old → IsSame old new

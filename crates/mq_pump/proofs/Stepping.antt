@@ -8,7 +8,7 @@ use Rattle.mq_outside.specs.Counts.{PortCounts}
 use Rattle.mq_outside.specs.Ports.{after_send}
 use Rattle.mq_talk.specs.declared.note.Note.{Note}
 use Rattle.mq_talk.specs.declared.place.Parcel.{Parcel}
-use Rattle.mq_talk.specs.Mails.{Boxes, PopGives}
+use Rattle.mq_talk.specs.Mails.{PopGives, Inboxes}
 use Rattle.mq_talk.specs.Offices.{Seen}
 use Rattle.mq_machine.specs.State as machine
 use Rattle.mq_machine.specs.State.{new_net}
@@ -41,7 +41,7 @@ put_rose put.Sent parcel waits old new left counts some = absurd cc
 put_rose put.NotNow parcel waits old new left counts some = rose_risen old.send_waits new.send_waits (ap (λ (c : PortCounts). c.send_waits) counts)
 put_rose put.Failed parcel waits old new left counts some = absurd cc
 
-pub send_rose : (held : Option Parcel) (count : ℕ) (boxes : Option Boxes) (actor : ℕ) (boxes_after : Option Boxes) (old new : NetSeen) (said : Option Note) (waits : Option Parcel)
+pub send_rose : (held : Option Parcel) (count : ℕ) (boxes : Inboxes) (actor : ℕ) (boxes_after : Inboxes) (old new : NetSeen) (said : Option Note) (waits : Option Parcel)
     → SendGives held count boxes actor boxes_after old new said waits → is_some waits ≡ true → Rose old.counts.send_waits new.counts.send_waits
 send_rose (Some parcel) count boxes actor boxes_after old new said waits x some = put_rose x.0.put parcel waits old.counts new.counts x.0.left x.0.counts some
 send_rose None count boxes actor boxes_after old new said waits x some = by_popped x.popped x.does where
@@ -71,7 +71,7 @@ received p q waits n_after pushes old new mid (Err refused) none r workers sends
     received_refused p q n_after pushes old new mid refused none r workers (λ known. (idled p.to_send p.workers old mid new.boxes waits known workers sends).0) x.0 x.1 x.2
 
 -- what waits then is what waited
-pub still_held : (held : Option Parcel) (count : ℕ) (boxes : Option Boxes) (actor : ℕ) (boxes_after : Option Boxes) (old new : NetSeen) (waits : Option Parcel)
+pub still_held : (held : Option Parcel) (count : ℕ) (boxes : Inboxes) (actor : ℕ) (boxes_after : Inboxes) (old new : NetSeen) (waits : Option Parcel)
     → SendGives held count boxes actor boxes_after old new None waits → waits ≡ held
 still_held (Some parcel) count boxes actor boxes_after old new waits x = by_answer x.0.put x.0.says x.0.left where
   by_answer : (answer : PortPut) → None ≡ sent_note parcel answer → waits ≡ waits_after parcel answer → waits ≡ Some parcel

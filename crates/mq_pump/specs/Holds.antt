@@ -3,7 +3,7 @@ use Rattle.std.specs.Prelude.{◌≡◌, ⊤, ℕ, ◌≤◌, length, Option, Ma
 use Rattle.mq_outside.specs.Counts.{PortCounts}
 use Rattle.mq_outside.specs.Nets.{NetHolds}
 use Rattle.mq_talk.specs.declared.place.Parcel.{Parcel}
-use Rattle.mq_talk.specs.Mails.{Boxes, HasInbox, IsParcel}
+use Rattle.mq_talk.specs.Mails.{HasInbox, IsParcel, Inboxes}
 use Rattle.mq_talk.specs.Offices.{Seen}
 use Rattle.mq_machine.specs.State as machine
 use Rattle.mq_machine.specs.Acting.{PumpSight}
@@ -28,5 +28,5 @@ pub record IsPump {N : Type 0} (p : Pump N) (s : machine.Pump) : Type 0 where
   pub can_send : MatchOption p.to_send ⊤ CanSend
 
 -- what a pump sees: its network, its office and its mail
-abbrev pub pump_sight : Option NetHolds → PortCounts → Seen → Option Boxes → PumpSight
+abbrev pub pump_sight : Option NetHolds → PortCounts → Seen → Inboxes → PumpSight
 pump_sight net counts seen boxes = record { net = net; counts = counts; seen = seen; boxes = boxes }

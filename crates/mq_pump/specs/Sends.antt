@@ -10,7 +10,7 @@ use Rattle.mq_talk.specs.declared.note.Note.{Note}
 use Rattle.mq_talk.specs.declared.note.Note.TheVariants.{Sent, Waits, Dropped}
 use Rattle.mq_talk.specs.declared.place.Cause.TheVariants as cause
 use Rattle.mq_talk.specs.declared.place.Parcel.{Parcel}
-use Rattle.mq_talk.specs.Mails.{Boxes, PopGives}
+use Rattle.mq_talk.specs.Mails.{PopGives, Inboxes}
 use Rattle.mq_machine.specs.Turn.{source_of}
 
 -- what a network holds, where it tells that, and what it counts
@@ -56,7 +56,7 @@ OfNext old new None said waits = (new ≡ old) × (said ≡ None) × (waits ≡ 
 OfNext old new (Some parcel) said waits = TriesNext old new parcel said waits
 
 -- the next parcel of the inbox, where there is one
-pub record SendsNext (count : ℕ) (boxes : Option Boxes) (actor : ℕ) (boxes_after : Option Boxes) (old new : NetSeen) (said : Option Note) (waits : Option Parcel) : Type 0 where
+pub record SendsNext (count : ℕ) (boxes : Inboxes) (actor : ℕ) (boxes_after : Inboxes) (old new : NetSeen) (said : Option Note) (waits : Option Parcel) : Type 0 where
   pub popped : Option Parcel
   pub pops : PopGives count boxes actor popped boxes_after
   pub does : OfNext old new popped said waits
@@ -64,6 +64,6 @@ pub record SendsNext (count : ℕ) (boxes : Option Boxes) (actor : ℕ) (boxes_a
 -- ---- what is to be sent
 
 -- the parcel that waits is sent; where none does, the next of the inbox
-abbrev pub SendGives : Option Parcel → ℕ → Option Boxes → ℕ → Option Boxes → NetSeen → NetSeen → Option Note → Option Parcel → Type 0
+abbrev pub SendGives : Option Parcel → ℕ → Inboxes → ℕ → Inboxes → NetSeen → NetSeen → Option Note → Option Parcel → Type 0
 SendGives None count boxes actor boxes_after old new said waits = SendsNext count boxes actor boxes_after old new said waits
 SendGives (Some parcel) count boxes actor boxes_after old new said waits = Tries old new parcel said waits × (boxes_after ≡ boxes)

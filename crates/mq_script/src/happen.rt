@@ -30,6 +30,7 @@ fn cut_name(rest: &[u8]) -> Option<(u32, &[u8])>
 }
 
 /// The worker of `conn W`.
+#[inline(never)]
 pub fn parse_conn(rest: &[u8]) -> Result<Line, LineFault>
     ensures { IsParsed (SaysBehind word.Conn rest.now) result }
 {
@@ -52,6 +53,7 @@ pub fn parse_bytes(alloc: Global, rest: &[u8]) -> Result<Line, LineFault>
 }
 
 /// The piece of `text C TEXT`.
+#[inline(never)]
 pub fn parse_said(alloc: Global, rest: &[u8]) -> Result<Line, LineFault>
     ensures { IsParsed (SaysPiece IsText rest.now) result }
 {
@@ -64,6 +66,7 @@ pub fn parse_said(alloc: Global, rest: &[u8]) -> Result<Line, LineFault>
 }
 
 /// The piece of `fill C HEX N HH`.
+#[inline(never)]
 pub fn parse_fill(alloc: Global, rest: &[u8]) -> Result<Line, LineFault>
     ensures { IsParsed (SaysPiece IsFilled rest.now) result }
 {
@@ -88,6 +91,7 @@ pub fn parse_dgram(alloc: Global, rest: &[u8]) -> Result<Line, LineFault>
 }
 
 /// The packets of `packet N HEX`.
+#[inline(never)]
 pub fn parse_packets(alloc: Global, rest: &[u8]) -> Result<Line, LineFault>
     ensures { IsParsed (SaysBehind word.Packet rest.now) result }
 {
@@ -103,6 +107,7 @@ pub fn parse_packets(alloc: Global, rest: &[u8]) -> Result<Line, LineFault>
 }
 
 /// The room of `room C N` and `room C all`.
+#[inline(never)]
 pub fn parse_link_room(rest: &[u8]) -> Result<Line, LineFault>
     ensures { IsParsed (SaysBehind word.Room rest.now) result }
 {
@@ -117,6 +122,7 @@ pub fn parse_link_room(rest: &[u8]) -> Result<Line, LineFault>
 }
 
 /// The link of `end C`.
+#[inline(never)]
 pub fn parse_end(rest: &[u8]) -> Result<Line, LineFault>
     ensures { IsParsed (SaysBehind word.End rest.now) result }
 {
@@ -127,6 +133,7 @@ pub fn parse_end(rest: &[u8]) -> Result<Line, LineFault>
 }
 
 /// The link of `failread C`.
+#[inline(never)]
 pub fn parse_fail_read(rest: &[u8]) -> Result<Line, LineFault>
     ensures { IsParsed (SaysBehind word.FailRead rest.now) result }
 {
@@ -137,6 +144,7 @@ pub fn parse_fail_read(rest: &[u8]) -> Result<Line, LineFault>
 }
 
 /// The link of `failwrite C`.
+#[inline(never)]
 pub fn parse_fail_write(rest: &[u8]) -> Result<Line, LineFault>
     ensures { IsParsed (SaysBehind word.FailWrite rest.now) result }
 {
@@ -147,6 +155,7 @@ pub fn parse_fail_write(rest: &[u8]) -> Result<Line, LineFault>
 }
 
 /// The tunnel of `failport T`.
+#[inline(never)]
 pub fn parse_fail_port(rest: &[u8]) -> Result<Line, LineFault>
     ensures { IsParsed (SaysBehind word.FailPort rest.now) result }
 {

@@ -30,12 +30,34 @@ pub fn append(out: &mut Vec<u8>, text: &[u8]) -> Result<(), NoMemory>
     Ok(())
 }
 
-/// Appends a number in decimal; an `Err` leaves a part of it.
-pub fn append_number(out: &mut Vec<u8>, number: u64) -> Result<(), NoMemory>
+/// Appends a byte; an `Err` leaves nothing of it.
+fn append_byte(out: &mut Vec<u8>, byte: u8) -> Result<(), NoMemory>
+    ensures { Appends out.old.items (byte ∷ []) out.new.items result }
+{
+    match out.push(byte) {
+        Ok(()) => Ok(()),
+        Err(_) => Err(NoMemory),
+    }
+}
+
+/// Appends a number of any length in decimal; an `Err` leaves a part of it.
+#[inline(never)]
+fn append_digits(out: &mut Vec<u8>, number: u64) -> Result<(), NoMemory>
     ensures { Appends out.old.items (decimal number) out.new.items result }
 {
     let mut buffer = Buffer::new();
     append(out, buffer.format(number).as_bytes())
+}
+
+/// Appends a number in decimal; an `Err` leaves a part of it. Most numbers have one digit, which needs no buffer.
+pub fn append_number(out: &mut Vec<u8>, number: u64) -> Result<(), NoMemory>
+    ensures { Appends out.old.items (decimal number) out.new.items result }
+{
+    if number < 10 {
+        append_byte(out, b'0' + number as u8)
+    } else {
+        append_digits(out, number)
+    }
 }
 
 /// Appends bytes in hex, in twice as many digits; an `Err` leaves a part of them.
@@ -55,7 +77,7 @@ fn append_bytes(out: &mut Vec<u8>, bytes: &[u8]) -> Result<(), NoMemory>
     ensures { Appends out.old.items (bytes_text bytes.now) out.new.items result }
 {
     if bytes.is_empty() {
-        append(out, b"-")
+        append_byte(out, b'-')
     } else {
         append_hex(out, bytes)
     }
@@ -66,7 +88,7 @@ pub fn append_bytes_line(out: &mut Vec<u8>, bytes: &[u8]) -> Result<(), NoMemory
     ensures { Appends out.old.items (bytes_line bytes.now) out.new.items result }
 {
     append_bytes(out, bytes)?;
-    append(out, b"\n")
+    append_byte(out, b'\n')
 }
 
 fn append_port(out: &mut Vec<u8>, tunnel: u32) -> Result<(), NoMemory>
@@ -92,7 +114,7 @@ fn append_given(out: &mut Vec<u8>, given: &Given) -> Result<(), NoMemory>
     ensures { Appends out.old.items (given_text given.now) out.new.items result }
 {
     append_number(out, given.id)?;
-    append(out, b"=")?;
+    append_byte(out, b'=')?;
     append(out, prefix_text(&given.block).as_slice())
 }
 
@@ -101,7 +123,7 @@ fn append_parts(out: &mut Vec<u8>, parts: &[Part<'_>]) -> Result<(), NoMemory>
     ensures { Appends out.old.items (behind_spaces (map part_text parts.now)) out.new.items result }
 {
     for part in parts {
-        append(out, b" ")?;
+        append_byte(out, b' ')?;
         append_part(out, *part)?;
     }
     Ok(())
@@ -112,7 +134,7 @@ fn append_list(out: &mut Vec<u8>, list: &[Given]) -> Result<(), NoMemory>
     ensures { Appends out.old.items (behind_spaces (map given_text list.now)) out.new.items result }
 {
     for given in list {
-        append(out, b" ")?;
+        append_byte(out, b' ')?;
         append_given(out, given)?;
     }
     Ok(())
@@ -129,7 +151,7 @@ fn append_line(
     append(out, word)?;
     append_parts(out, parts)?;
     append_list(out, list)?;
-    append(out, b"\n")
+    append_byte(out, b'\n')
 }
 
 /// Appends the line of a word, its parts and a list, or changes nothing.

@@ -43,6 +43,7 @@ fn parse_history(rest: &[u8]) -> Result<SettingLine, LineFault>
 }
 
 /// The setting whose word is this one.
+#[inline(never)]
 pub fn parse_setting(
     alloc: Global,
     word: SettingWord,

@@ -27,6 +27,7 @@ use Rattle.mq_step.proofs.Wanting.{Mailed, acted_is, shared_by}
 use Rattle.mq_step.proofs.Places.{found_all, found_id}
 use Rattle.mq_step.proofs.Cores.{open_alive, close_live, tell_live}
 use Rattle.mq_step.proofs.Doing.{idle_works}
+use Rattle.mq_talk.proofs.Mails.{nothing_moved}
 
 -- ---- the actor may ask what its connection wants to ask
 
@@ -113,7 +114,7 @@ close_done o n actor seen seen_after m orders s tunnel said t mine want closes s
       became = Some (closed_left o s tunnel t);
       calm = λ not_send. refl;
       can = ap (λ (w : Want). can_do h.ports w) want;
-      shares = record { config = refl; book = ok.sees; wrote = subst R closed ok.seen; same = ok.same; boxes = m.told; count = m.count; boxes_after = m.told; orders_are = refl };
+      shares = record { config = refl; book = ok.sees; wrote = subst R closed ok.seen; same = ok.same; boxes = m.told; count = m.count; boxes_after = m.told; moves = nothing_moved m.mail m.mail m.boxes refl; orders_are = refl };
       faults = none_fails o n idle s.ports idle_works;
       binds = same;
       next = record {

@@ -13,14 +13,14 @@ use Rattle.mq_talk.specs.declared.goal.Goal.TheVariants as goal
 use Rattle.mq_talk.specs.declared.note.Note.{Note}
 use Rattle.mq_talk.specs.declared.note.Note.TheVariants as note
 use Rattle.mq_talk.specs.declared.note.End.{End}
-use Rattle.mq_talk.specs.Mails.{Boxes}
+use Rattle.mq_talk.specs.Mails.{Inboxes}
 use Rattle.mq_talk.specs.Offices.{Seen}
 use Rattle.mq_machine.specs.State.{Conn, Tunnel, Held, Port, Orders, Shared}
 use Rattle.mq_machine.specs.Want.{Want, Nothing, Say, Bind, Ask, Over, Answer, Said, Bound, want_of}
 use Rattle.mq_machine.specs.Done.{done}
 use Rattle.mq_machine.specs.Steps.{starved}
 use Rattle.mq_machine.specs.Shared.{Answers, PortsAnswer}
-use Rattle.mq_machine.specs.Silent.{Heard, takes_memory, tunnels_after}
+use Rattle.mq_machine.specs.Silent.{Heard, takes_memory, tunnels_after, may_starve}
 use Rattle.mq_machine.specs.Turn.{Act, can_do}
 use Rattle.mq_machine.specs.Acting.{Outside, Binder, Binds, BindFits, PortsTold, WantWaited}
 use Rattle.mq_conn.specs.Conns.{IsConn}
@@ -41,6 +41,7 @@ use Rattle.mq_step.proofs.Standing.{stands, same_apart, bound_none}
 use Rattle.mq_step.proofs.Doing.{NeedsNoPort, idle_works, left, want_done, left_stands, left_told}
 use Rattle.mq_step.proofs.Refusing.{sunk, Sinks}
 use Rattle.mq_step.proofs.Opening.{Comes}
+use Rattle.mq_machine.proofs.Silents.{starves_alive}
 
 -- no seat has a key under which nothing stands
 keys_free : {Q : Type 0} (most : Q → ℕ) (table : Slab Q) (key : ℕ) (seats : List PortSeat) (ports : List Port) → get table key ≡ None → ArePorts most table seats ports
@@ -82,10 +83,12 @@ module _ {L Q : Type 0} (most : Q → ℕ) (holds : Q → Option PortHolds) (cou
 
   -- a connection that isn't ending, and wants what takes memory, was refused it
   pub sinks_alone : (x : Stays most holds counts binds binds_after table after h g o n s) (seen : Seen) (m : Mailed seen) (orders : Orders) (w : Want) (a : Answer) (asked : Bool) → want_of s.conn ≡ w
-      → ((ports : List Port) → can_do ports w ≡ true) → s.conn.ending ≡ None → g.bound ≡ None → IsConn g.conn (starved s.conn)
+      → ((ports : List Port) → can_do ports w ≡ true) → may_starve w ≡ true → g.bound ≡ None → IsConn g.conn (starved s.conn)
       → Heard asked (ported o idle s) (shared_by seen seen.entries m.boxes orders) Act a s.conn.tunnels (shared_by seen seen.entries m.boxes orders) → BindFits o n a
       → Sinks most after g o n seen seen m orders s
-  sinks_alone x seen m orders w a asked want can alive bound conn heard_is fits =
+  sinks_alone x seen m orders w a asked want can takes bound conn heard_is fits =
+      let takes_it : may_starve (want_of s.conn) ≡ true = ap (λ (v : Want). may_starve v) want ∙ takes in
+      let alive = starves_alive s.conn takes_it in
       let sh : Shared = shared_by seen seen.entries m.boxes orders in
       let u : Held = sunk o s s.conn.tunnels in
       let A : List PortSeat → Type 0 = λ xs. ArePorts most after xs (map (filled_port o idle) s.ports) in
@@ -99,7 +102,7 @@ module _ {L Q : Type 0} (most : Q → ℕ) (holds : Q → Option PortHolds) (cou
           asked = asked;
           tunnels = s.conn.tunnels;
           can = ap (λ (v : Want). can_do (ported o idle s).ports v) want ∙ can (ported o idle s).ports;
-          alive = alive;
+          takes = takes_it;
           shares = shares_same seen seen m orders refl;
           heard = heard_is;
           binds = fits;
@@ -118,12 +121,12 @@ module _ {L Q : Type 0} (most : Q → ℕ) (holds : Q → Option PortHolds) (cou
   pub bind_sinks : (x : Stays most holds counts binds binds_after table after h g o n s) (seen : Seen) (m : Mailed seen) (orders : Orders) (stream : ℕ) (goal : Goal)
       → want_of s.conn ≡ Bind stream goal → g.bound ≡ None → IsConn g.conn (starved s.conn) → MayBind binds binds_after → Sinks most after g o n seen seen m orders s
   bind_sinks x seen m orders stream goal want bound conn (inl same) =
-      sinks_alone x seen m orders (Bind stream goal) Said false want (λ ports. refl) (bind_alive h.conn s.conn stream goal x.held.conn want) bound conn (refl, refl, refl)
+      sinks_alone x seen m orders (Bind stream goal) Said false want (λ ports. refl) refl bound conn (refl, refl, refl)
       (held_back x same)
   bind_sinks x seen m orders stream goal want bound conn (inr (done, is)) =
       let sh : Shared = shared_by seen seen.entries m.boxes orders in
       let A : Want → Type 0 = λ w. Answers s.conn.actor sh w (Bound done) sh in
-      sinks_alone x seen m orders (Bind stream goal) (Bound done) true want (λ ports. refl) (bind_alive h.conn s.conn stream goal x.held.conn want) bound conn
+      sinks_alone x seen m orders (Bind stream goal) (Bound done) true want (λ ports. refl) refl bound conn
       (record {
         tries = refl;
         takes = ap (λ (w : Want). takes_memory w) want;
@@ -221,7 +224,7 @@ module _ {L Q : Type 0} (most : Q → ℕ) (holds : Q → Option PortHolds) (cou
 
   -- ---- nothing is wanted, or nothing is left
 
-  pub quiet : (x : Stays most holds counts binds binds_after table after h g o n s) (seen : Seen) (mail : Option Boxes) → want_of s.conn ≡ Nothing → binds_after ≡ binds → WantWaits o n seen seen mail mail s
+  pub quiet : (x : Stays most holds counts binds binds_after table after h g o n s) (seen : Seen) (mail : Inboxes) → want_of s.conn ≡ Nothing → binds_after ≡ binds → WantWaits o n seen seen mail mail s
   quiet x seen mail want same =
       let W : Want → Type 0 = λ w. WantWaited o n w in
       record {
@@ -270,7 +273,7 @@ module _ {L Q : Type 0} (most : Q → ℕ) (holds : Q → Option PortHolds) (cou
   bind_comes x seen m orders said stream number addr want room (inr gives) = binds_not x seen m orders said gives.1.0 stream (goal.Udp addr number) want gives.0.bound_is gives.0.binds_are gives.1.1 gives.1.2
 
 -- memory was refused, whoever said so
-pub err_gives : (o n : Outside) (seen seen_after : Seen) (mail mail_after : Option Boxes) (stands_for : Held → Type 0) (s : Held) (r : Result Stepped NoMemory) → IsErr r
+pub err_gives : (o n : Outside) (seen seen_after : Seen) (mail mail_after : Inboxes) (stands_for : Held → Type 0) (s : Held) (r : Result Stepped NoMemory) → IsErr r
     → ((orders : Orders) → (t : Held) × WantStarves o n seen seen_after mail mail_after orders s t × stands_for t × PortsTold n t.ports) → ActGives o n seen seen_after mail mail_after stands_for s r
 err_gives o n seen seen_after mail mail_after stands_for s (Ok stepped) is gives = absurd cc
 err_gives o n seen seen_after mail mail_after stands_for s (Err refused) is gives = gives

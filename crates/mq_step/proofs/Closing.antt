@@ -19,6 +19,7 @@ use Rattle.mq_step.specs.Closing.{Closed, Retires}
 use Rattle.mq_step.proofs.Wanting.{Mailed, shared_by}
 use Rattle.mq_step.proofs.Retiring.{retired_stands}
 use Rattle.mq_step.proofs.Asking.{Closes, closed_only}
+use Rattle.mq_talk.proofs.Mails.{nothing_moved}
 
 -- the answer that it heard
 pub closed_does : (actor : ℕ) (seen seen_after : Seen) (s : Held) (tunnel : ℕ) (said : Note) (t : Conn) → Closes actor seen seen_after s tunnel said t → done s.conn (Replied reply.Closed) ≡ Some (said, t)
@@ -45,7 +46,7 @@ closed_is most table after h g actor seen seen_after m orders s tunnel said t he
       conn = t;
       sh = sh;
       after = sh_after;
-      shares = record { config = refl; book = ok.sees; wrote = subst R closed ok.seen; same = ok.same; boxes = m.told; count = m.count; boxes_after = m.told; orders_are = refl };
+      shares = record { config = refl; book = ok.sees; wrote = subst R closed ok.seen; same = ok.same; boxes = m.told; count = m.count; boxes_after = m.told; moves = nothing_moved m.mail m.mail m.boxes refl; orders_are = refl };
       answers = subst A (sym want) (subst B (sym mine) (record { said = reply.Closed; is = tt; reply_is = refl; after_is = refl }));
       does = does;
       stands_for = λ link o f. retired_stands most table after h g s tunnel said t link o f held want number retires bound does new;

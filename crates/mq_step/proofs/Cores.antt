@@ -38,6 +38,7 @@ use Rattle.mq_held.specs.Answers.{IsFor}
 use Rattle.mq_held.proofs.Streams.{fronted}
 use Rattle.mq_step.specs.Holds.{port_number}
 use Rattle.mq_step.proofs.Keeping.{NoOpens, nothing_due, no_opens_nil, no_opens_cons}
+use Rattle.mq_machine.specs.Silent.{may_starve}
 
 -- ---- openings
 
@@ -336,18 +337,19 @@ tell_alive s (call.Close on) tunnel of w = absurd of
 tell_alive s (call.Assign on list) tunnel of w = (fronted s (Ask (call.Assign on list)) w tt).alive
 tell_alive s (call.Advertise on list) tunnel of w = (fronted s (Ask (call.Advertise on list)) w tt).alive
 
-pub hands_alive : (s : Conn) (w : Want) → want_of s ≡ w → HandsOver w → s.ending ≡ None
-hands_alive s Nothing w hands = absurd hands
-hands_alive s Say w hands = absurd hands
-hands_alive s (Bind id goal) w hands = absurd hands
-hands_alive s (Ask (call.Open conn id actor goal)) w hands = absurd hands
-hands_alive s (Ask (call.Close on)) w hands = absurd hands
-hands_alive s (Ask (call.Assign on list)) w hands = tell_alive s (call.Assign on list) on refl w
-hands_alive s (Ask (call.Advertise on list)) w hands = tell_alive s (call.Advertise on list) on refl w
-hands_alive s (Judge tunnel n flow) w hands = absurd hands
-hands_alive s (Push parcel) w hands = absurd hands
-hands_alive s (Send tunnel n payload) w hands = absurd hands
-hands_alive s (Over why) w hands = absurd hands
+-- a list that is handed over takes memory
+pub hands_starve : (w : Want) → HandsOver w → may_starve w ≡ true
+hands_starve Nothing hands = absurd hands
+hands_starve Say hands = absurd hands
+hands_starve (Bind id goal) hands = absurd hands
+hands_starve (Ask (call.Open conn id actor goal)) hands = absurd hands
+hands_starve (Ask (call.Close on)) hands = absurd hands
+hands_starve (Ask (call.Assign on list)) hands = refl
+hands_starve (Ask (call.Advertise on list)) hands = refl
+hands_starve (Judge tunnel n flow) hands = absurd hands
+hands_starve (Push parcel) hands = absurd hands
+hands_starve (Send tunnel n payload) hands = absurd hands
+hands_starve (Over why) hands = absurd hands
 
 -- what it pushes is due first
 push_placed : (t : Tunnel) (a : StreamAct) (workers : ℕ) (parcel : Parcel) → IsStreamPlaced workers a → stream_want t a ≡ Push parcel → HasInbox workers parcel.to

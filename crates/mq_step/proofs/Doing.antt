@@ -5,7 +5,7 @@ use Rattle.mq_outside.specs.Counts.{PortCounts}
 use Rattle.mq_outside.specs.Ports.{PortHolds}
 use Rattle.mq_talk.specs.declared.note.Note.{Note}
 use Rattle.mq_talk.specs.declared.note.End.{End}
-use Rattle.mq_talk.specs.Mails.{Boxes}
+use Rattle.mq_talk.specs.Mails.{Inboxes}
 use Rattle.mq_talk.specs.Offices.{Seen}
 use Rattle.mq_machine.specs.State.{Conn, Tunnel, Held, Port, Orders, Shared}
 use Rattle.mq_machine.specs.Want.{Want, Answer, want_of}
@@ -40,7 +40,7 @@ idle_works = record { sends = λ tunnel. refl; receives = λ tunnel. refl }
 abbrev pub left : Outside → Held → Conn → Held
 left o s t = record (ported o idle s) { conn = t }
 
-pub want_done : (o n : Outside) (seen seen_after : Seen) (mail mail_after : Option Boxes) (orders : Orders) (s : Held) (w : Want) (a : Answer) (said : Note) (t : Conn) (sh sh_after : Shared)
+pub want_done : (o n : Outside) (seen seen_after : Seen) (mail mail_after : Inboxes) (orders : Orders) (s : Held) (w : Want) (a : Answer) (said : Note) (t : Conn) (sh sh_after : Shared)
     → want_of s.conn ≡ w → NeedsNoPort n w a → done s.conn a ≡ Some (said, t) → Answers s.conn.actor sh w a sh_after → Shares seen seen_after mail mail_after orders sh sh_after → BindFits o n a
     → WantDone o n seen seen_after mail mail_after orders s said (Some (left o s t))
 want_done o n seen seen_after mail mail_after orders s w a said t sh sh_after want needs is answers shares binds =

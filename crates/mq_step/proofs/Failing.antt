@@ -7,7 +7,7 @@ use Rattle.mq_talk.specs.declared.book.Reply.{Reply}
 use Rattle.mq_talk.specs.declared.book.Reply.TheVariants as reply
 use Rattle.mq_talk.specs.declared.note.Note.{Note}
 use Rattle.mq_talk.specs.declared.note.End.TheVariants as end
-use Rattle.mq_talk.specs.Mails.{Boxes, IsTold}
+use Rattle.mq_talk.specs.Mails.{IsTold, Inboxes}
 use Rattle.mq_talk.specs.Offices.{Seen}
 use Rattle.mq_machine.specs.declared.setup.Setup.{Setup}
 use Rattle.mq_machine.specs.State.{Conn, Link, Held, Port, Shared}
@@ -25,6 +25,7 @@ use Rattle.mq_step.specs.Wanted.{ActGives, ported, is_send, with_prepared}
 use Rattle.mq_step.specs.Gives.{Tries, InVain, first_of, Gives}
 use Rattle.mq_step.proofs.Cores.{gives_up_wants}
 use Rattle.mq_step.proofs.Linking.{on_link}
+use Rattle.mq_machine.proofs.Silents.{starves_alive}
 
 -- the connection whose link failed
 abbrev pub fallen : Held → Link → Held
@@ -94,7 +95,7 @@ became_link h a n (Some b) t o is then =
 -- ---- the step
 
 -- what the connection did then is what the try does
-pub failed_gives : (setup : Setup) (tries : Tries) (vain : InVain) (try : Try) (o n : Outside) (seen seen_after : Seen) (mail mail_after : Option Boxes) (stands_for : Held → Type 0) (s : Held) (found link : Link) (r : Result Stepped NoMemory)
+pub failed_gives : (setup : Setup) (tries : Tries) (vain : InVain) (try : Try) (o n : Outside) (seen seen_after : Seen) (mail mail_after : Inboxes) (stands_for : Held → Type 0) (s : Held) (found link : Link) (r : Result Stepped NoMemory)
     → first_of tries (filled o (on_link found) s) ≡ Some try → vain (on_link found)
     → ((sh after : Shared) (answer : Answer) (note : Note) (became : Option Held) → ActNext (ported o idle (fallen s link)) sh answer note became after → TryNext setup (filled o (on_link found) s) sh try answer note became after)
     → (o.link s.conn.number ≡ None → (filled o (on_link found) s).link.read_fails || (filled o (on_link found) s).link.write_fails ≡ true
@@ -150,4 +151,4 @@ failed_gives setup tries vain try o n seen seen_after mail mail_after stands_for
       then = x.then;
     }
 failed_gives setup tries vain try o n seen seen_after mail mail_after stands_for s found link (Err refused) is vain_is next_is faults told gives = λ orders.
-    let e = (gives orders).1.alive in absurd cc
+    let e = starves_alive (fallen s link).conn (gives orders).1.takes in absurd cc

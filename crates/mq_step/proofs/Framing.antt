@@ -10,7 +10,7 @@ use Rattle.mq_machine.specs.declared.setup.Setup.{Setup}
 use Rattle.mq_machine.specs.State.{Conn, Link, Held, Orders, Shared}
 use Rattle.mq_machine.specs.Want.{Want, Nothing, Say, Bind, Ask, Judge, Push, Send, Over, Said, want_of, may_wait}
 use Rattle.mq_machine.specs.Steps.{framed, starved}
-use Rattle.mq_machine.specs.Silent.{Reached, Leaves}
+use Rattle.mq_machine.specs.Silent.{Reached, Leaves, may_starve}
 use Rattle.mq_machine.specs.Turn.{Try, Act, Frame, with_conn}
 use Rattle.mq_machine.specs.Acting.{Outside, Rose}
 use Rattle.mq_conn.specs.declared.conn.Conn.{Conn as Core}
@@ -104,9 +104,9 @@ abbrev pub drained : Outside → Found → Held → List (List ℕ) → Held
 drained o f s pieces = whole o f s (starved s.conn) (record (filled o f s).link { pieces = pieces })
 
 pub drains : (tries : Tries) (vain : InVain) (o n : Outside) (seen : Seen) (m : Mailed seen) (orders : Orders) (s : Held) (f : Found) (t : Try) (took : Bool) (pieces : List (List ℕ))
-    → vain f → first_of tries (filled o f s) ≡ Some t → (t ≡ Act → s.conn.ending ≡ None) → Leaves took t (filled o f s).link.pieces pieces → n.binds.holds ≡ o.binds.holds
+    → vain f → first_of tries (filled o f s) ≡ Some t → (t ≡ Act → may_starve (want_of s.conn) ≡ true) → Leaves took t (filled o f s).link.pieces pieces → n.binds.holds ≡ o.binds.holds
     → Starved tries vain o n seen seen m.mail m.mail orders s (drained o f s pieces)
-drains tries vain o n seen m orders s f t took pieces vain_is is alive leaves same =
+drains tries vain o n seen m orders s f t took pieces vain_is is takes leaves same =
     let sh : Shared = shared_by seen seen.entries m.boxes orders in
     record {
       found = f;
@@ -120,7 +120,7 @@ drains tries vain o n seen m orders s f t took pieces vain_is is alive leaves sa
       tunnels = s.conn.tunnels;
       is = is;
       shares = shares_same seen seen m orders refl;
-      alive = alive;
+      takes = takes;
       leaves = leaves;
       heard = (refl, refl, refl);
       binds = same;

@@ -7,7 +7,7 @@ use Rattle.mq_outside.specs.Counts.{LinkCounts, PortCounts}
 use Rattle.mq_outside.specs.Links.{LinkPast, behind}
 use Rattle.mq_outside.specs.Ports.{PortHolds}
 use Rattle.mq_talk.specs.declared.note.Note.{Note}
-use Rattle.mq_talk.specs.Mails.{Boxes, IsTold}
+use Rattle.mq_talk.specs.Mails.{IsTold, Inboxes}
 use Rattle.mq_talk.specs.Offices.{Seen}
 use Rattle.mq_machine.specs.declared.setup.Setup.{Setup}
 use Rattle.mq_machine.specs.State.{Conn, Tunnel, Link, Held}
@@ -113,7 +113,7 @@ fails_read (Some l) after fails = let P : Option Link → Type 0 = λ a. IsTold 
 
 module _ {L Q : Type 0} (link : L → Option Link) (past : L → LinkPast) (counts : L → LinkCounts) (most : Q → ℕ) (holds : Q → Option PortHolds) (port_counts : Q → PortCounts) (binds binds_after : Binder) (table after : Slab Q)
     (old new fin : HeldBy L) (o n : Outside) (s : Held) where
-  pub read_fails_gives : (setup : Setup) (seen seen_after : Seen) (mail mail_after : Option Boxes) (r : Result Stepped NoMemory) → IsHeld most table old s → may_wait (want_of s.conn) ≡ true
+  pub read_fails_gives : (setup : Setup) (seen seen_after : Seen) (mail mail_after : Inboxes) (r : Result Stepped NoMemory) → IsHeld most table old s → may_wait (want_of s.conn) ≡ true
       → Sees link counts holds port_counts binds table old o → Sees link counts holds port_counts binds_after after fin n
       → new ≡ record old { conn = new.conn; link = new.link } → fin ≡ record new { conn = fin.conn; ports = fin.ports; bound = fin.bound }
       → ReadGives setup (calls_of link past counts old.link new.link) (IsConn new.conn) s.conn (Ok went.Failed)
@@ -139,7 +139,7 @@ module _ {L Q : Type 0} (link : L → Option Link) (past : L → LinkPast) (coun
 idle_reads : ReadsWait idle
 idle_reads = record { writes = record { sends = λ tunnel. (refl, refl); works = refl; room = refl }; works = refl; pieces = refl; not_ended = refl }
 
-pub read_waits_gives : {L : Type 0} (link : L → Option Link) (past : L → LinkPast) (counts : L → LinkCounts) (o n : Outside) (old new : HeldBy L) (s : Held) (setup : Setup) (seen seen_after : Seen) (mail mail_after : Option Boxes)
+pub read_waits_gives : {L : Type 0} (link : L → Option Link) (past : L → LinkPast) (counts : L → LinkCounts) (o n : Outside) (old new : HeldBy L) (s : Held) (setup : Setup) (seen seen_after : Seen) (mail mail_after : Inboxes)
     (stands_for : Held → Type 0) (r : Result Stepped NoMemory) → s.conn.number ≡ old.number → SeesLink link counts old o → ReadWaits (calls_of link past counts old.link new.link) s.conn
     → Gives setup receives_of ReadsWait (mid o (λ i. counts new.link) o.port_counts) n seen seen_after mail mail_after stands_for s r → Gives setup from_read WritesWait o n seen seen_after mail mail_after stands_for s r
 read_waits_gives link past counts o n old new s setup seen seen_after mail mail_after stands_for r number sees waits gives =

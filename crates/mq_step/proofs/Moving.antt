@@ -11,7 +11,7 @@ use Rattle.mq_outside.specs.Ports.{PortHolds}
 use Rattle.mq_talk.specs.declared.note.Note.{Note}
 use Rattle.mq_talk.specs.declared.note.End.{End}
 use Rattle.mq_talk.specs.declared.note.End.TheVariants as end
-use Rattle.mq_talk.specs.Mails.{Boxes, IsTold}
+use Rattle.mq_talk.specs.Mails.{IsTold, Inboxes}
 use Rattle.mq_talk.specs.Offices.{Seen}
 use Rattle.mq_machine.specs.declared.setup.Setup.{Setup}
 use Rattle.mq_machine.specs.State.{Conn, Tunnel, Link, new_link, Held, owed}
@@ -44,7 +44,7 @@ use Rattle.mq_step.proofs.Linking.{on_link, LinkSeen, write_in_vain, write_rose,
 use Rattle.mq_step.proofs.Failing.{failed_gives, fallen}
 
 -- memory was refused, whoever said so
-pub gives_err : (setup : Setup) (tries : Tries) (vain : InVain) (o n : Outside) (seen seen_after : Seen) (mail mail_after : Option Boxes) (stands_for : Held → Type 0) (s : Held) (r : Result Stepped NoMemory) → IsErr r
+pub gives_err : (setup : Setup) (tries : Tries) (vain : InVain) (o n : Outside) (seen seen_after : Seen) (mail mail_after : Inboxes) (stands_for : Held → Type 0) (s : Held) (r : Result Stepped NoMemory) → IsErr r
     → ((refused : NoMemory) → Gives setup tries vain o n seen seen_after mail mail_after stands_for s (Err refused)) → Gives setup tries vain o n seen seen_after mail mail_after stands_for s r
 gives_err setup tries vain o n seen seen_after mail mail_after stands_for s (Ok stepped) is gives = absurd cc
 gives_err setup tries vain o n seen seen_after mail mail_after stands_for s (Err refused) is gives = gives refused
@@ -202,7 +202,7 @@ module _ {L Q : Type 0} (link : L → Option Link) (past : L → LinkPast) (coun
       rose_risen (o.link_counts s.conn.number).faults (n.link_counts s.conn.number).faults
       (ap (λ (x : LinkCounts). x.faults) (b ∙ is) ∙ ap (λ (x : LinkCounts). risen x.faults) (sym a))
 
-  pub write_fails_gives : (setup : Setup) (seen seen_after : Seen) (mail mail_after : Option Boxes) (r : Result Stepped NoMemory) → IsHeld most table old s → may_wait (want_of s.conn) ≡ true
+  pub write_fails_gives : (setup : Setup) (seen seen_after : Seen) (mail mail_after : Inboxes) (r : Result Stepped NoMemory) → IsHeld most table old s → may_wait (want_of s.conn) ≡ true
       → Sees link counts holds port_counts binds table old o → Sees link counts holds port_counts binds_after after fin n
       → new ≡ record old { conn = new.conn; link = new.link } → fin ≡ record new { conn = fin.conn; ports = fin.ports; bound = fin.bound }
       → WriteGives (calls_of link past counts old.link new.link) (IsConn new.conn) s.conn (Ok went.Failed)
@@ -233,7 +233,7 @@ from_read_back o n lc s between asked =
     All-cons (Asked o n s) Read (receives_of s) (read_back o n lc o.port_counts s between (All-head (Asked (mid o lc o.port_counts) n s) Read (receives_of s) asked))
     (receives_back o n lc o.port_counts s s.ports between.ports (All-tail (Asked (mid o lc o.port_counts) n s) Read (receives_of s) asked))
 
-pub write_waits_gives : {L : Type 0} (link : L → Option Link) (past : L → LinkPast) (counts : L → LinkCounts) (o n : Outside) (old new : HeldBy L) (s : Held) (setup : Setup) (seen seen_after : Seen) (mail mail_after : Option Boxes)
+pub write_waits_gives : {L : Type 0} (link : L → Option Link) (past : L → LinkPast) (counts : L → LinkCounts) (o n : Outside) (old new : HeldBy L) (s : Held) (setup : Setup) (seen seen_after : Seen) (mail mail_after : Inboxes)
     (stands_for : Held → Type 0) (r : Result Stepped NoMemory) → s.conn.number ≡ old.number → SeesLink link counts old o → WriteWaits (calls_of link past counts old.link new.link) s.conn
     → Gives setup from_read WritesWait (mid o (λ i. counts new.link) o.port_counts) n seen seen_after mail mail_after stands_for s r → Gives setup from_write SendsWait o n seen seen_after mail mail_after stands_for s r
 write_waits_gives link past counts o n old new s setup seen seen_after mail mail_after stands_for r number sees waits gives =

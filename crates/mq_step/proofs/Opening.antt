@@ -43,6 +43,7 @@ use Rattle.mq_step.proofs.Keeping.{opened_next, kept_full}
 use Rattle.mq_step.proofs.Cores.{open_alive, same_tunnels, tail_opens}
 use Rattle.mq_step.proofs.Standing.{stands, same_apart, bound_none}
 use Rattle.mq_step.proofs.Doing.{NeedsNoPort, idle_works, left, want_done}
+use Rattle.mq_talk.proofs.Mails.{nothing_moved}
 
 -- ---- the port of a tunnel that opens
 
@@ -208,7 +209,7 @@ open_done o n actor seen seen_after m orders s conn id names tunnel goal routes 
       became = Some (behind h (Ask asked) answer t);
       calm = λ not_send. refl;
       can = ap (λ (w : Want). can_do h.ports w) want;
-      shares = record { config = refl; book = ok.sees; wrote = ok.seen; same = ok.same; boxes = m.told; count = m.count; boxes_after = m.told; orders_are = refl };
+      shares = record { config = refl; book = ok.sees; wrote = ok.seen; same = ok.same; boxes = m.told; count = m.count; boxes_after = m.told; moves = nothing_moved m.mail m.mail m.boxes refl; orders_are = refl };
       faults = none_fails o n idle s.ports idle_works;
       binds = same;
       next = record {
@@ -386,7 +387,7 @@ comes_full {L} {Q} most holds counts table after h g o n actor seen seen_after m
       left_is = left o s t;
       done_is = want_done o n seen seen_after m.mail m.mail orders s (Ask asked) (Replied full) said.note t sh sh opens.want (full_needs n conn id names entries live goal) does
           (subst B (sym opens.mine) (record { said = full; is = ok.reply_is; reply_is = refl; after_is = refl }))
-          (record { config = refl; book = ok.sees; wrote = ok.seen; same = ok.same; boxes = m.told; count = m.count; boxes_after = m.told; orders_are = refl }) opens.binds;
+          (record { config = refl; book = ok.sees; wrote = ok.seen; same = ok.same; boxes = m.told; count = m.count; boxes_after = m.told; moves = nothing_moved m.mail m.mail m.boxes refl; orders_are = refl }) opens.binds;
       stands_for = stands most after g (left o s t) opens.conn (k.number ∙ opens.number)
           (subst A (sym same) (are_filled most after o idle h.ports.items s.ports (seats_kept most table after h.ports.items s.ports opens.keeps opens.held.ports)))
           (same_apart h.ports.items g.ports.items same opens.held.apart)

@@ -9,7 +9,7 @@ use Rattle.mq_wire.specs.declared.NoMemory.{NoMemory}
 use Rattle.mq_outside.specs.Counts.{risen, LinkCounts, PortCounts, no_port_counts}
 use Rattle.mq_outside.specs.Ports.{PortHolds, PortPast}
 use Rattle.mq_talk.specs.declared.note.Note.{Note}
-use Rattle.mq_talk.specs.Mails.{Boxes}
+use Rattle.mq_talk.specs.Mails.{Inboxes}
 use Rattle.mq_talk.specs.Offices.{Seen}
 use Rattle.mq_machine.specs.declared.setup.Setup.{Setup}
 use Rattle.mq_machine.specs.State.{Link, Held, Port, Orders, tunnel_of}
@@ -272,7 +272,7 @@ module _ {L Q : Type 0} (most : Q → ℕ) (holds : Q → Option PortHolds) (pas
                   by_case (inl (same, is)) = absurd (omega (arith, lt, same))
                   by_case (inr ne) = ne.0
 
-    turned_all : (setup : Setup) (n : Outside) (seen seen_after : Seen) (mail mail_after : Option Boxes) (orders : Orders) (said : Note) (t : Option Held)
+    turned_all : (setup : Setup) (n : Outside) (seen seen_after : Seen) (mail mail_after : Inboxes) (orders : Orders) (said : Note) (t : Option Held)
         → Turned setup (receive_alone seat.tunnel) (ReceivesWait seat.tunnel) (mid o o.link_counts counts_now) n seen seen_after mail mail_after orders s said t
         → Turned setup receives_of ReadsWait o n seen seen_after mail mail_after orders s said t
     turned_all setup n seen seen_after mail mail_after orders said t d = record {
@@ -292,7 +292,7 @@ module _ {L Q : Type 0} (most : Q → ℕ) (holds : Q → Option PortHolds) (pas
     }
 
     -- what it gives, all give
-    pub seat_gives : (setup : Setup) (n : Outside) (seen seen_after : Seen) (mail mail_after : Option Boxes) (stand : Held → Type 0) (r : Result Stepped NoMemory) → (r ≡ Ok Quiet → ⊥)
+    pub seat_gives : (setup : Setup) (n : Outside) (seen seen_after : Seen) (mail mail_after : Inboxes) (stand : Held → Type 0) (r : Result Stepped NoMemory) → (r ≡ Ok Quiet → ⊥)
         → Gives setup (receive_alone seat.tunnel) (ReceivesWait seat.tunnel) (mid o o.link_counts counts_now) n seen seen_after mail mail_after stand s r → Gives setup receives_of ReadsWait o n seen seen_after mail mail_after stand s r
     seat_gives setup n seen seen_after mail mail_after stand (Ok Quiet) loud gives = absurd (loud refl)
     seat_gives setup n seen seen_after mail mail_after stand (Ok (Did said)) loud gives = λ orders.
@@ -314,7 +314,7 @@ module _ {L Q : Type 0} (most : Q → ℕ) (holds : Q → Option PortHolds) (pas
             tunnels = d.tunnels;
             is = first_all d.found d.try d.vain_is d.is;
             shares = d.shares;
-            alive = d.alive;
+            takes = d.takes;
             leaves = d.leaves;
             heard = d.heard;
             binds = binds_back o n o.link_counts counts_now d.answer d.binds;
@@ -325,7 +325,7 @@ module _ {L Q : Type 0} (most : Q → ℕ) (holds : Q → Option PortHolds) (pas
 
   -- ---- all were in vain
 
-  pub all_waited : (link : L → Option Link) (link_counts : L → LinkCounts) (g : HeldBy L) (n : Outside) (seen : Seen) (mail : Option Boxes) → length h.ports.items ≤ k → g.number ≡ h.number → g.link ≡ h.link
+  pub all_waited : (link : L → Option Link) (link_counts : L → LinkCounts) (g : HeldBy L) (n : Outside) (seen : Seen) (mail : Inboxes) → length h.ports.items ≤ k → g.number ≡ h.number → g.link ≡ h.link
       → SeesLink link link_counts h o → SeesLink link link_counts g n → SeesPorts holds counts after n h.ports.items → n.binds ≡ o.binds → Waited receives_of o n seen seen mail mail s
   all_waited link link_counts g n seen mail end number same lo ln sn binds =
       let stay = link_stays link link_counts h g o n number same lo ln in
@@ -402,7 +402,7 @@ module _ {L Q : Type 0} (most : Q → ℕ) (holds : Q → Option PortHolds) (pas
             subst C (sym p.2) (cannot idle i p.0 p.1 (less i x.0 x.1) (refl, refl))
 
 -- whoever says that memory was refused
-pub err_gives : (setup : Setup) (o n : Outside) (seen seen_after : Seen) (mail mail_after : Option Boxes) (stand : Held → Type 0) (s : Held) (refused : NoMemory) (r : Result Stepped NoMemory) → IsErr r
+pub err_gives : (setup : Setup) (o n : Outside) (seen seen_after : Seen) (mail mail_after : Inboxes) (stand : Held → Type 0) (s : Held) (refused : NoMemory) (r : Result Stepped NoMemory) → IsErr r
     → Gives setup receives_of ReadsWait o n seen seen_after mail mail_after stand s (Err refused) → Gives setup receives_of ReadsWait o n seen seen_after mail mail_after stand s r
 err_gives setup o n seen seen_after mail mail_after stand s refused (Ok stepped) is gives = absurd cc
 err_gives setup o n seen seen_after mail mail_after stand s refused (Err why) is gives = gives

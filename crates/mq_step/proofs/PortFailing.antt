@@ -11,7 +11,7 @@ use Rattle.mq_talk.specs.declared.book.Call.TheVariants as call
 use Rattle.mq_talk.specs.declared.book.Reply.TheVariants as reply
 use Rattle.mq_talk.specs.declared.note.Note.{Note}
 use Rattle.mq_talk.specs.declared.note.End.{End}
-use Rattle.mq_talk.specs.Mails.{Boxes}
+use Rattle.mq_talk.specs.Mails.{Inboxes}
 use Rattle.mq_talk.specs.Offices.{Seen}
 use Rattle.mq_machine.specs.declared.act.StreamAct.TheVariants as stream
 use Rattle.mq_talk.specs.declared.note.Why.TheVariants as why
@@ -109,7 +109,7 @@ module _ {L Q : Type 0} (most : Q → ℕ) (holds : Q → Option PortHolds) (pas
             λ none fails. inr (subst F (sym (ap (λ (z : Port). z.tunnel) port ∙ x.of_port)) faults)
         by_case i y q (inr (ne, other)) = other_fits o n seat.tunnel failing_port q other
 
-  pub failed_done : (x : Live most holds counts table h o s seat) (n : Outside) (setup : Setup) (seen seen_after : Seen) (mail mail_after : Option Boxes) (orders : Orders) (said : Note) (stand : Held → Type 0)
+  pub failed_done : (x : Live most holds counts table h o s seat) (n : Outside) (setup : Setup) (seen seen_after : Seen) (mail mail_after : Inboxes) (orders : Orders) (said : Note) (stand : Held → Type 0)
       → FailsReceive (holds x.is.port) → (closed : Closed seen seen_after mail mail_after orders stand seat.tunnel (failing s x.t) said) → n.binds ≡ handed_back (risen (o.port_counts seat.tunnel).faults) o.binds
       → Turned setup (receive_alone seat.tunnel) (ReceivesWait seat.tunnel) o n seen seen_after mail mail_after orders s said (Some (failed_left o s seat.tunnel closed.conn))
   failed_done x n setup seen seen_after mail mail_after orders said stand fails closed faults =
@@ -177,7 +177,7 @@ module _ {L Q : Type 0} (most : Q → ℕ) (holds : Q → Option PortHolds) (pas
     }
 
 -- a close gives nothing else
-pub closes_give : (setup : Setup) (tunnel : ℕ) (o n : Outside) (seen seen_after : Seen) (mail mail_after : Option Boxes) (stand : Held → Type 0) (s closing : Held) (r : Result Stepped NoMemory) → CloseGives seen seen_after mail mail_after stand tunnel closing r
+pub closes_give : (setup : Setup) (tunnel : ℕ) (o n : Outside) (seen seen_after : Seen) (mail mail_after : Inboxes) (stand : Held → Type 0) (s closing : Held) (r : Result Stepped NoMemory) → CloseGives seen seen_after mail mail_after stand tunnel closing r
     → ((said : Note) (orders : Orders) → Closed seen seen_after mail mail_after orders stand tunnel closing said
     → (t : Held) × Turned setup (receive_alone tunnel) (ReceivesWait tunnel) o n seen seen_after mail mail_after orders s said (Some t) × StandsAsTold n stand t)
     → Gives setup (receive_alone tunnel) (ReceivesWait tunnel) o n seen seen_after mail mail_after stand s r
@@ -187,7 +187,7 @@ closes_give setup tunnel o n seen seen_after mail mail_after stand s closing (Ok
 closes_give setup tunnel o n seen seen_after mail mail_after stand s closing (Err refused) gives turns = absurd gives
 
 -- nor does a step that was refused memory
-pub starved_gives : (setup : Setup) (tunnel : ℕ) (o n : Outside) (seen seen_after : Seen) (mail mail_after : Option Boxes) (stand : Held → Type 0) (s : Held) (r : Result Stepped NoMemory) → IsErr r
+pub starved_gives : (setup : Setup) (tunnel : ℕ) (o n : Outside) (seen seen_after : Seen) (mail mail_after : Inboxes) (stand : Held → Type 0) (s : Held) (r : Result Stepped NoMemory) → IsErr r
     → ((orders : Orders) → (t : Held) × Starved (receive_alone tunnel) (ReceivesWait tunnel) o n seen seen_after mail mail_after orders s t × StandsAsTold n stand t)
     → Gives setup (receive_alone tunnel) (ReceivesWait tunnel) o n seen seen_after mail mail_after stand s r
 starved_gives setup tunnel o n seen seen_after mail mail_after stand s (Ok stepped) is starves = absurd cc

@@ -10,7 +10,7 @@ use Rattle.mq_outside.specs.Ports.{PortHolds, PortPast}
 use Rattle.mq_talk.specs.declared.note.Note.{Note}
 use Rattle.mq_talk.specs.declared.note.End.TheVariants as end
 use Rattle.mq_talk.specs.declared.note.From.TheVariants as source
-use Rattle.mq_talk.specs.Mails.{Boxes, IsTold}
+use Rattle.mq_talk.specs.Mails.{IsTold, Inboxes}
 use Rattle.mq_talk.specs.Offices.{Seen}
 use Rattle.mq_machine.specs.declared.setup.Setup.{Setup}
 use Rattle.mq_machine.specs.State.{Conn, Tunnel, Link, Held, Port, Orders, Shared, tunnel_of}
@@ -209,7 +209,7 @@ module _ {L Q : Type 0} (most : Q → ℕ) (holds : Q → Option PortHolds) (pas
 
   -- ---- it waits
 
-  pub received_waits : (x : Live most holds counts table h o s seat) (b : Behind most holds counts table after h g o n seat x.is.port) (seen : Seen) (mail : Option Boxes)
+  pub received_waits : (x : Live most holds counts table h o s seat) (b : Behind most holds counts table after h g o n seat x.is.port) (seen : Seen) (mail : Inboxes)
       → ReceiveWaits (receive_calls holds past counts x.is.port b.now) → n.binds ≡ o.binds → Waited (receive_alone seat.tunnel) o n seen seen mail mail s
   received_waits x b seen mail w binds =
       let counts_are : n.port_counts seat.tunnel ≡ record (o.port_counts seat.tunnel) { receive_waits = risen (o.port_counts seat.tunnel).receive_waits } =
@@ -278,7 +278,7 @@ module _ {L Q : Type 0} (most : Q → ℕ) (holds : Q → Option PortHolds) (pas
     is = first_is most holds counts table h o s seat x (found_at seat.tunnel (with_one [])) true
         (ap (λ (y : PortHolds). may_give (port_if (holds x.is.port) y)) (found_here seat.tunnel (with_one [])) ∙ gives_one (holds x.is.port) can);
     shares = shares_same seen seen m orders refl;
-    alive = λ same. absurd cc;
+    takes = λ same. absurd cc;
     leaves = refl;
     heard = (refl, refl, refl);
     binds = same;

@@ -16,7 +16,7 @@ use Rattle.mq_machine.specs.State.{Tunnel, Held, Port, Orders, Shared}
 use Rattle.mq_machine.specs.Want.{Want, Ask, Said, Replied, want_of}
 use Rattle.mq_machine.specs.Steps.{starved}
 use Rattle.mq_machine.specs.Shared.{Answers, Asks}
-use Rattle.mq_machine.specs.Silent.{takes_memory, tunnels_after}
+use Rattle.mq_machine.specs.Silent.{takes_memory, tunnels_after, may_starve}
 use Rattle.mq_machine.specs.Turn.{can_do}
 use Rattle.mq_machine.specs.Acting.{Outside, PortsTold}
 use Rattle.mq_conn.specs.Conns.{IsConn, heard}
@@ -31,6 +31,8 @@ use Rattle.mq_step.proofs.Keeping.{no_opens_nil}
 use Rattle.mq_step.proofs.Filling.{are_filled, KeepsSeats, seats_kept, seats_told, filled_told, served_filled, served_last, alive_served}
 use Rattle.mq_step.proofs.Cores.{open_alive}
 use Rattle.mq_step.proofs.Standing.{stands, same_apart}
+use Rattle.mq_machine.proofs.Silents.{starves_alive}
+use Rattle.mq_talk.proofs.Mails.{nothing_moved}
 
 -- a connection that is ending for want of memory, with these tunnels
 abbrev pub sunk : Outside → Held → List Tunnel → Held
@@ -83,9 +85,11 @@ served_then conn id names goal reply.Closed tunnels ports is = inl is
 
 -- the book wrote nothing
 pub sinks_before : {L Q : Type 0} (most : Q → ℕ) (holds : Q → Option PortHolds) (counts : Q → PortCounts) (table after : Slab Q) (h g : HeldBy L) (o n : Outside) (actor : ℕ) (seen seen_after : Seen) (m : Mailed seen) (orders : Orders) (s : Held)
-    (asked : Call) → s.conn.ending ≡ None → Fails most holds counts table after h g o n actor s asked → Sees seen seen_after.entries → IsSame seen seen_after → IsConn g.conn (starved s.conn)
+    (asked : Call) → takes_memory (Ask asked) ≡ true → Fails most holds counts table after h g o n actor s asked → Sees seen seen_after.entries → IsSame seen seen_after → IsConn g.conn (starved s.conn)
     → Sinks most after g o n seen seen_after m orders s
-sinks_before most holds counts table after h g o n actor seen seen_after m orders s asked alive fails sees same is =
+sinks_before most holds counts table after h g o n actor seen seen_after m orders s asked takes fails sees same is =
+    let takes_it : may_starve (want_of s.conn) ≡ true = ap (λ (w : Want). may_starve w) fails.want ∙ takes in
+    let alive = starves_alive s.conn takes_it in
     let all = alive_served s.conn.ending s.conn.tunnels s.ports alive fails.held.served in
     let sh : Shared = shared_by seen seen_after.entries m.boxes orders in
     record {
@@ -98,8 +102,8 @@ sinks_before most holds counts table after h g o n actor seen seen_after m order
         asked = false;
         tunnels = s.conn.tunnels;
         can = ap (λ (w : Want). can_do (ported o idle s).ports w) fails.want;
-        alive = alive;
-        shares = record { config = refl; book = sees; wrote = refl; same = same; boxes = m.told; count = m.count; boxes_after = m.told; orders_are = refl };
+        takes = takes_it;
+        shares = record { config = refl; book = sees; wrote = refl; same = same; boxes = m.told; count = m.count; boxes_after = m.told; moves = nothing_moved m.mail m.mail m.boxes refl; orders_are = refl };
         heard = (refl, refl, refl);
         binds = fails.binds;
         then = refl;
@@ -110,11 +114,11 @@ sinks_before most holds counts table after h g o n actor seen seen_after m order
 
 -- what the book wrote, and the connection didn't hear
 pub sinks_behind : {L Q : Type 0} (most : Q → ℕ) (holds : Q → Option PortHolds) (counts : Q → PortCounts) (table after : Slab Q) (h g : HeldBy L) (o n : Outside) (actor : ℕ) (seen seen_after : Seen) (m : Mailed seen) (orders : Orders) (s : Held)
-    (asked : Call) (said : Reply) (book : List Entry) → s.conn.ending ≡ None → takes_memory (Ask asked) ≡ true → AreServed (Some end.NoMemory) (tunnels_after (Ask asked) (Replied said) s.conn.tunnels) s.ports
+    (asked : Call) (said : Reply) (book : List Entry) → takes_memory (Ask asked) ≡ true → AreServed (Some end.NoMemory) (tunnels_after (Ask asked) (Replied said) s.conn.tunnels) s.ports
     → Fails most holds counts table after h g o n actor s asked → Sees seen book → IsSame seen seen_after → said ≢ reply.Closed → IsConn g.conn (heard s.conn said)
     → Asks (shared_by seen book m.boxes orders) actor asked said (shared_by seen seen_after.entries m.boxes orders)
     → Sinks most after g o n seen seen_after m orders s
-sinks_behind most holds counts table after h g o n actor seen seen_after m orders s asked said book alive takes served fails sees same not_closed is asks =
+sinks_behind most holds counts table after h g o n actor seen seen_after m orders s asked said book takes served fails sees same not_closed is asks =
     let sh : Shared = shared_by seen book m.boxes orders in
     let after_sh : Shared = shared_by seen seen_after.entries m.boxes orders in
     let tunnels = tunnels_after (want_of s.conn) (Replied said) s.conn.tunnels in
@@ -131,8 +135,8 @@ sinks_behind most holds counts table after h g o n actor seen seen_after m order
         asked = true;
         tunnels = tunnels;
         can = ap (λ (w : Want). can_do (ported o idle s).ports w) fails.want;
-        alive = alive;
-        shares = record { config = refl; book = sees; wrote = refl; same = same; boxes = m.told; count = m.count; boxes_after = m.told; orders_are = refl };
+        takes = ap (λ (w : Want). may_starve w) fails.want ∙ takes;
+        shares = record { config = refl; book = sees; wrote = refl; same = same; boxes = m.told; count = m.count; boxes_after = m.told; moves = nothing_moved m.mail m.mail m.boxes refl; orders_are = refl };
         heard = record {
           tries = refl;
           takes = ap (λ (w : Want). takes_memory w) fails.want ∙ takes;
@@ -168,11 +172,11 @@ sinks most holds counts table after h g o n actor seen seen_after m orders s (ca
 sinks most holds counts table after h g o n actor seen seen_after m orders s (call.Assign tunnel list) refused not plain fails gives = absurd plain
 sinks most holds counts table after h g o n actor seen seen_after m orders s (call.Advertise tunnel list) refused not plain fails gives = absurd plain
 sinks most holds counts table after h g o n actor seen seen_after m orders s (call.Open conn id names goal) refused not plain fails (not_close, inl before) =
-    sinks_before most holds counts table after h g o n actor seen seen_after m orders s (call.Open conn id names goal) (open_alive h.conn s.conn conn id names goal fails.held.conn fails.want).0
+    sinks_before most holds counts table after h g o n actor seen seen_after m orders s (call.Open conn id names goal) refl
     fails before.0.0 before.0.1 before.1
 sinks most holds counts table after h g o n actor seen seen_after m orders s (call.Open conn id names goal) refused not plain fails (not_close, inr behind) =
     let alive = (open_alive h.conn s.conn conn id names goal fails.held.conn fails.want).0 in
     let all = alive_served s.conn.ending s.conn.tunnels s.ports alive fails.held.served in
-    sinks_behind most holds counts table after h g o n actor seen seen_after m orders s (call.Open conn id names goal) behind.said behind.replied.book alive refl
+    sinks_behind most holds counts table after h g o n actor seen seen_after m orders s (call.Open conn id names goal) behind.said behind.replied.book refl
     (served_then conn id names goal behind.said s.conn.tunnels s.ports all) fails behind.replied.sees behind.replied.same behind.open_is behind.stands_for
     (asks_open seen m orders actor conn id names goal behind.said seen_after behind.replied)

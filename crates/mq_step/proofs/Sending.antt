@@ -9,7 +9,7 @@ use Rattle.mq_outside.specs.Ports.{PortHolds}
 use Rattle.mq_talk.specs.declared.book.Call.TheVariants as call
 use Rattle.mq_talk.specs.declared.goal.Goal.TheVariants as goal
 use Rattle.mq_talk.specs.declared.note.Note.{Note}
-use Rattle.mq_talk.specs.Mails.{IsTold}
+use Rattle.mq_talk.specs.Mails.{IsTold, Inboxes}
 use Rattle.mq_talk.specs.Offices.{Seen}
 use Rattle.mq_talk.specs.Mails.{Boxes}
 use Rattle.mq_machine.specs.State.{Conn, Tunnel, Held, Port, Orders, Shared}
@@ -305,7 +305,7 @@ module _ {L Q : Type 0} (most : Q → ℕ) (holds : Q → Option PortHolds) (cou
       let long : nat_lt q.limit (length payload) ≡ false = ap (λ (l : ℕ). nat_lt l (length payload)) x.one.is.limit ∙ waits.fits in
       ap (λ (v : Want). can_do (ported o f s).ports v) x.want ∙ ap (λ (p : Option Port). not (send_waits p payload)) first ∙ waits_by q.send_waits q.send_fails (nat_lt q.limit (length payload)) w.1 w.0 long
 
-  pub sent_waits : (seen : Seen) (mail : Option Boxes) (x : Sends most holds counts table after h g o n s tunnel k payload) → SendWaits (calls holds counts x.one.is.port x.now) (most x.one.is.port) payload → n.binds ≡ o.binds
+  pub sent_waits : (seen : Seen) (mail : Inboxes) (x : Sends most holds counts table after h g o n s tunnel k payload) → SendWaits (calls holds counts x.one.is.port x.now) (most x.one.is.port) payload → n.binds ≡ o.binds
       → WantWaits o n seen seen mail mail s
   sent_waits seen mail x waits faults =
       let A : Want → Type 0 = λ v. WantWaited o n v in

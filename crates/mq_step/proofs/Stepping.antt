@@ -1,7 +1,7 @@
 -- A step of a connection: its want, or else a frame, or else what comes behind.
 use Rattle.std.proofs.Common.{◌≡◌, ℕ, true, false, List, [], ◌∷◌, All, Option, Some, None, Result, Ok, Err, refl, sym, ap, subst, ◌∙◌}
 use Rattle.std.specs.Prelude.{is_some}
-use Rattle.mq_talk.specs.Mails.{Boxes, IsTold}
+use Rattle.mq_talk.specs.Mails.{IsTold, Inboxes}
 use Rattle.mq_step.proofs.Counting.{rose_then}
 use Rattle.mq_step.proofs.Places.{at_all}
 use Rattle.mq_step.proofs.Sending.{the_mine}
@@ -75,7 +75,7 @@ module _ {L Q : Type 0} (link : L → Option Link) (past : L → LinkPast) (coun
 same_between : (o : Outside) (s : Held) → Between o o.link_counts o.port_counts s
 same_between o s = between_link o o.link_counts s (link_same (o.link_counts s.conn.number) (o.link_counts s.conn.number) refl) refl
 
-pub frame_waits : (setup : Setup) (o n : Outside) (seen seen_after : Seen) (mail mail_after : Option Boxes) (stands_for : Held → Type 0) (s : Held) (r : Result Stepped NoMemory) → framed s.conn ≡ None
+pub frame_waits : (setup : Setup) (o n : Outside) (seen seen_after : Seen) (mail mail_after : Inboxes) (stands_for : Held → Type 0) (s : Held) (r : Result Stepped NoMemory) → framed s.conn ≡ None
     → Gives setup from_write SendsWait o n seen seen_after mail mail_after stands_for s r → Gives setup from_frame SendsWait o n seen seen_after mail mail_after stands_for s r
 frame_waits setup o n seen seen_after mail mail_after stands_for s r none gives =
     skip o n o.link_counts o.port_counts setup Frame from_write SendsWait SendsWait seen seen_after mail mail_after stands_for s r (same_between o s)
@@ -93,7 +93,7 @@ vain_waits ports (Push parcel) is = absurd cc
 vain_waits ports (Send tunnel k payload) is = refl
 vain_waits ports (Over why) is = absurd cc
 
-pub want_waits : (o n : Outside) (s : Held) (seen seen_after : Seen) (mail mail_after : Option Boxes) → WantWaits o n seen seen_after mail mail_after s → may_wait (want_of s.conn) ≡ true
+pub want_waits : (o n : Outside) (s : Held) (seen seen_after : Seen) (mail mail_after : Inboxes) → WantWaits o n seen seen_after mail mail_after s → may_wait (want_of s.conn) ≡ true
 want_waits o n s seen seen_after mail mail_after w = vain_waits (ported o idle s).ports (want_of s.conn) (w.cannot idle (λ tunnel. (refl, refl)))
 
 -- ---- what the outside tells once a want was in vain
@@ -119,7 +119,7 @@ between_ports o n (p ∷ ports) grow work =
     All-cons (PortBetween o n.port_counts) p ports (record { grows = All-head G p ports grow; faults = All-head W p ports work })
     (between_ports o n ports (All-tail G p ports grow) (All-tail W p ports work))
 
-pub want_between : (o n : Outside) (seen seen_after : Seen) (mail mail_after : Option Boxes) (s : Held) → WantWaits o n seen seen_after mail mail_after s → Between o o.link_counts n.port_counts s
+pub want_between : (o n : Outside) (seen seen_after : Seen) (mail mail_after : Inboxes) (s : Held) → WantWaits o n seen seen_after mail mail_after s → Between o o.link_counts n.port_counts s
 want_between o n seen seen_after mail mail_after s w = record {
   link = link_same (o.link_counts s.conn.number) (o.link_counts s.conn.number) refl;
   link_faults = refl;
@@ -127,7 +127,7 @@ want_between o n seen seen_after mail mail_after s w = record {
 }
 
 pub want_sight : {L Q : Type 0} (link : L → Option Link) (link_counts : L → LinkCounts) (most : Q → ℕ) (holds : Q → Option PortHolds) (counts : Q → PortCounts) (binds binds_after : Binder) (table after : Slab Q) (old new : HeldBy L)
-    (o n : Outside) (seen seen_after : Seen) (mail mail_after : Option Boxes) (s : Held) → Sees link link_counts holds counts binds table old o → new.number ≡ old.number → new.link ≡ old.link → IsHeld most after new s
+    (o n : Outside) (seen seen_after : Seen) (mail mail_after : Inboxes) (s : Held) → Sees link link_counts holds counts binds table old o → new.number ≡ old.number → new.link ≡ old.link → IsHeld most after new s
     → WantWaits o n seen seen_after mail mail_after s → SeesTable holds counts binds_after after new.ports.items n → Sees link link_counts holds counts binds_after after new (mid o o.link_counts n.port_counts)
 want_sight link link_counts most holds counts binds binds_after table after old new o n seen seen_after mail mail_after s sees number same held w sn = record {
   of_link = record {
@@ -168,13 +168,13 @@ want_asked most table h o m n s (Send tunnel k payload) held want asked grow =
     let here = subst I one.of_port (at_all G s.ports grow one.place one.p one.at_port) in
     rose_then (o.port_counts tunnel).send_waits (m.port_counts tunnel).send_waits (n.port_counts tunnel).send_waits asked here.send_waits
 
-pub quiet_gives : {L Q : Type 0} (most : Q → ℕ) (table : Slab Q) (h : HeldBy L) (setup : Setup) (o m n : Outside) (seen seen_mid seen_after : Seen) (mail mail_mid mail_after : Option Boxes) (stands_for : Held → Type 0) (s : Held) (r : Result Stepped NoMemory)
+pub quiet_gives : {L Q : Type 0} (most : Q → ℕ) (table : Slab Q) (h : HeldBy L) (setup : Setup) (o m n : Outside) (seen seen_mid seen_after : Seen) (mail mail_mid mail_after : Inboxes) (stands_for : Held → Type 0) (s : Held) (r : Result Stepped NoMemory)
     → IsHeld most table h s → WantWaits o m seen seen_mid mail mail_mid s → Gives setup from_frame SendsWait (mid o o.link_counts m.port_counts) n seen_mid seen_after mail_mid mail_after stands_for s r
     → Gives setup tries_of Anything o n seen seen_after mail mail_after stands_for s r
 quiet_gives most table h setup o m n seen seen_mid seen_after mail mail_mid mail_after stands_for s r held w gives =
     let between = want_between o m seen seen_mid mail mail_mid s w in
     let S : Seen → Type 0 = λ x. Gives setup from_frame SendsWait (mid o o.link_counts m.port_counts) n x seen_after mail_mid mail_after stands_for s r in
-    let M : Option Boxes → Type 0 = λ x. Gives setup from_frame SendsWait (mid o o.link_counts m.port_counts) n seen seen_after x mail_after stands_for s r in
+    let M : Inboxes → Type 0 = λ x. Gives setup from_frame SendsWait (mid o o.link_counts m.port_counts) n seen seen_after x mail_after stands_for s r in
     skip o n o.link_counts m.port_counts setup Act from_frame SendsWait Anything seen seen_after mail mail_after stands_for s r between
     (λ f vain. w.cannot f vain) (λ tunnel. (refl, refl)) (λ f vain. tt)
     (λ grows. want_asked most table h o m n s (want_of s.conn) held refl w.asked grows.ports)
@@ -197,7 +197,7 @@ module _ {L Q : Type 0} (most : Q → ℕ) (after : Slab Q) (new : HeldBy L) (o 
       let R : Link → Type 0 = λ x. IsTold (n.link t.conn.number) x in
       subst R (sym is) (subst P (sym (ap n.link stands_for.number ∙ same)) (told_link (o.link s.conn.number) idle_link))
 
-  turned : (setup : Setup) (seen seen_after : Seen) (mail mail_after : Option Boxes) (orders : Orders) (said : Note) (t : Option Held) → WantDone o n seen seen_after mail mail_after orders (linked o s) said t
+  turned : (setup : Setup) (seen seen_after : Seen) (mail mail_after : Inboxes) (orders : Orders) (said : Note) (t : Option Held) → WantDone o n seen seen_after mail mail_after orders (linked o s) said t
       → Turned setup tries_of Anything o n seen seen_after mail mail_after orders s said t
   turned setup seen seen_after mail mail_after orders said t x = record {
     found = at_ports x.found;
@@ -218,7 +218,7 @@ module _ {L Q : Type 0} (most : Q → ℕ) (after : Slab Q) (new : HeldBy L) (o 
     then = x.then;
   }
 
-  pub act_gives : (setup : Setup) (seen seen_after : Seen) (mail mail_after : Option Boxes) (r : Result Stepped NoMemory) → n.link new.number ≡ o.link s.conn.number → (r ≡ Ok Quiet → ⊥)
+  pub act_gives : (setup : Setup) (seen seen_after : Seen) (mail mail_after : Inboxes) (r : Result Stepped NoMemory) → n.link new.number ≡ o.link s.conn.number → (r ≡ Ok Quiet → ⊥)
       → ActGives o n seen seen_after mail mail_after (IsHeld most after new) (linked o s) r → Gives setup tries_of Anything o n seen seen_after mail mail_after (IsHeld most after new) s r
   act_gives setup seen seen_after mail mail_after (Ok Quiet) same loud gives = absurd (loud refl)
   act_gives setup seen seen_after mail mail_after (Ok (Did said)) same loud gives = λ orders.
@@ -242,7 +242,7 @@ module _ {L Q : Type 0} (most : Q → ℕ) (after : Slab Q) (new : HeldBy L) (o 
           tunnels = x.tunnels;
           is = first_true (filled o (at_ports x.found) s) Act (from_frame (filled o (at_ports x.found) s)) x.can;
           shares = x.shares;
-          alive = λ is. x.alive;
+          takes = λ is. x.takes;
           leaves = refl;
           heard = x.heard;
           binds = x.binds;
@@ -287,7 +287,7 @@ known_then seen after actor who s known same mine =
     subst P (sym same) (subst Q (sym mine) known)
 
 -- the book keeps its configuration
-pub config_stays : (old new : Outside) (seen seen_after : Seen) (mail mail_after : Option Boxes) (stands : Held → Type 0) (s : Held) (r : Result Stepped NoMemory) → ActGives old new seen seen_after mail mail_after stands s r
+pub config_stays : (old new : Outside) (seen seen_after : Seen) (mail mail_after : Inboxes) (stands : Held → Type 0) (s : Held) (r : Result Stepped NoMemory) → ActGives old new seen seen_after mail mail_after stands s r
     → seen_after.config ≡ seen.config
 config_stays old new seen seen_after mail mail_after stands s (Ok Quiet) gives = ap (λ (x : Seen). x.config) gives.0.seen_is
 config_stays old new seen seen_after mail mail_after stands s (Ok (Did note)) gives = (gives (record { bind = false })).1.shares.same.config

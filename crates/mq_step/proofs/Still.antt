@@ -4,7 +4,7 @@ use Rattle.slab.specs.Slab.{Slab}
 use Rattle.mq_wire.specs.declared.NoMemory.{NoMemory}
 use Rattle.mq_outside.specs.Counts.{PortCounts}
 use Rattle.mq_outside.specs.Ports.{PortHolds}
-use Rattle.mq_talk.specs.Mails.{Boxes}
+use Rattle.mq_talk.specs.Mails.{Inboxes}
 use Rattle.mq_talk.specs.Offices.{Seen}
 use Rattle.mq_machine.specs.State.{Held}
 use Rattle.mq_machine.specs.Want.{want_of, may_wait}
@@ -32,7 +32,7 @@ still_from most table after old mid new (Ok stepped) moves still = λ is s held 
 still_from most table after old mid new (Err refused) moves still = tt
 
 -- the close of a tunnel is never quiet
-pub closes_still : (seen seen_after : Seen) (mail mail_after : Option Boxes) (stand : Held → Type 0) (tunnel : ℕ) (s : Held) (r : Result Stepped NoMemory) (X : Type 0) → CloseGives seen seen_after mail mail_after stand tunnel s r
+pub closes_still : (seen seen_after : Seen) (mail mail_after : Inboxes) (stand : Held → Type 0) (tunnel : ℕ) (s : Held) (r : Result Stepped NoMemory) (X : Type 0) → CloseGives seen seen_after mail mail_after stand tunnel s r
     → IfOk r (λ stepped. stepped ≡ Quiet → X)
 closes_still seen seen_after mail mail_after stand tunnel s (Ok (Did said)) X gives = λ is. absurd cc
 closes_still seen seen_after mail mail_after stand tunnel s (Ok Quiet) X gives = absurd gives
@@ -41,13 +41,13 @@ closes_still seen seen_after mail mail_after stand tunnel s (Err refused) X give
 
 -- what a want does whatever the outside tells
 abbrev pub Acts : {L Q : Type 0} → (Q → ℕ) → (Q → Option PortHolds) → (Q → PortCounts) → (binds binds_after : Binder) → (table after : Slab Q)
-    → (old new : HeldBy L) → (seen seen_after : Seen) → (mail mail_after : Option Boxes) → Held → Result Stepped NoMemory → Type 0
+    → (old new : HeldBy L) → (seen seen_after : Seen) → (mail mail_after : Inboxes) → Held → Result Stepped NoMemory → Type 0
 Acts {L} {Q} most holds counts binds binds_after table after old new seen seen_after mail mail_after s r =
     (o n : Outside) → SeesTable holds counts binds table old.ports.items o → SeesTable holds counts binds_after after new.ports.items n
     → ActGives o n seen seen_after mail mail_after (IsHeld most after new) s r
 
 module _ {L Q : Type 0} (most : Q → ℕ) (holds : Q → Option PortHolds) (counts : Q → PortCounts) (binds binds_after : Binder) (table after : Slab Q)
-    (old new : HeldBy L) (seen seen_after : Seen) (mail mail_after : Option Boxes) (s : Held) where
+    (old new : HeldBy L) (seen seen_after : Seen) (mail mail_after : Inboxes) (s : Held) where
   -- seen with what its ports tell
   seen_acts : (r : Result Stepped NoMemory) → IsHeld most table old s → new.ports.items ≡ old.ports.items
       → Acts most holds counts binds binds_after table after old new seen seen_after mail mail_after s r
@@ -71,7 +71,7 @@ module _ {L Q : Type 0} (most : Q → ℕ) (holds : Q → Option PortHolds) (cou
 
 -- a connection whose link failed is never quiet
 pub fallen_still : {L Q : Type 0} (most : Q → ℕ) (holds : Q → Option PortHolds) (counts : Q → PortCounts) (binds binds_after : Binder) (table after : Slab Q)
-    (old new : HeldBy L) (seen seen_after : Seen) (mail mail_after : Option Boxes) (s : Held) (r : Result Stepped NoMemory) (X : Type 0) → IsHeld most table old (fallen s s.link)
+    (old new : HeldBy L) (seen seen_after : Seen) (mail mail_after : Inboxes) (s : Held) (r : Result Stepped NoMemory) (X : Type 0) → IsHeld most table old (fallen s s.link)
     → IfOk r (λ stepped. stepped ≡ Quiet → new.ports.items ≡ old.ports.items)
     → Acts most holds counts binds binds_after table after old new seen seen_after mail mail_after (fallen s s.link) r → IfOk r (λ stepped. stepped ≡ Quiet → X)
 fallen_still {L} {Q} most holds counts binds binds_after table after old new seen seen_after mail mail_after s (Ok stepped) X held stays acts = λ is.

@@ -25,7 +25,7 @@ use Rattle.mq_talk.specs.declared.place.Place.TheVariants as place
 use Rattle.mq_talk.specs.declared.place.Pushed.{Pushed as WasPushed}
 use Rattle.mq_talk.specs.declared.place.Pushed.TheVariants as pushed
 use Rattle.mq_talk.specs.Answers.{IsAnswer}
-use Rattle.mq_talk.specs.Mails.{Boxes, IsTold, PushDoes, PushGives, has_room, inbox_in, with_parcel}
+use Rattle.mq_talk.specs.Mails.{Boxes, IsTold, PushDoes, PushGives, has_room, inbox_in, with_parcel, Inboxes}
 use Rattle.mq_talk.specs.Offices.{Seen}
 use Rattle.mq_machine.specs.declared.act.StreamAct.{StreamAct}
 use Rattle.mq_machine.specs.declared.act.StreamAct.TheVariants as stream
@@ -64,6 +64,7 @@ use Rattle.mq_step.proofs.Doing.{NeedsNoPort, left, left_stands, left_told, want
 use Rattle.mq_step.proofs.Opening.{Comes}
 use Rattle.mq_step.proofs.Refusing.{Fails, Sinks, sinks_before, sinks_behind}
 use Rattle.mq_step.proofs.Binding.{Stays, held_back}
+use Rattle.mq_talk.proofs.Mails.{nothing_moved, push_moved}
 
 -- ---- inboxes
 
@@ -96,11 +97,11 @@ told_length None after shown n is long e = absurd cc
 told_length (Some boxes) after shown n is long e = cc
 
 -- there are as many inboxes as before
-pub push_keeps : (seen : Seen) (count to : ℕ) (mail mail_after : Option Boxes) (parcel : Parcel) (p : WasPushed) → HasInboxes seen count mail → PushGives count mail to parcel p mail_after
+pub push_keeps : (seen : Seen) (count to : ℕ) (mail mail_after : Inboxes) (parcel : Parcel) (p : WasPushed) → HasInboxes seen count mail → PushGives count mail to parcel p mail_after
     → HasInboxes seen count mail_after
 push_keeps seen count to mail mail_after parcel p has gives = record {
   count_is = has.count_is;
-  size = λ shown e. told_length mail_after gives.after shown count gives.is (push_length p gives.before gives.after to parcel gives.does ∙ gives.size) e;
+  size = λ shown e. told_length mail_after.told gives.after shown count gives.is (push_length p gives.before gives.after to parcel gives.does ∙ gives.size) e;
 }
 
 -- ---- what was told to a tunnel
@@ -296,14 +297,14 @@ module _ {L Q : Type 0} (most : Q → ℕ) (holds : Q → Option PortHolds) (cou
       record {
         left_is = left o s d.t;
         done_is = want_done o n seen seen_after m.mail m.mail orders s (Judge tunnel k flow) (Judged v at) said d.t sh sh want needs d.does (d.gives.at, d.gives.verdict, refl)
-            (record { config = refl; same = d.gives.same; book = d.gives.sees; wrote = refl; boxes = m.told; count = m.count; boxes_after = m.told; orders_are = refl })
+            (record { config = refl; same = d.gives.same; book = d.gives.sees; wrote = refl; boxes = m.told; count = m.count; boxes_after = m.told; moves = nothing_moved m.mail m.mail m.boxes refl; orders_are = refl })
             (held_back most holds counts binds binds_after table after h g o n s x stays);
         stands_for = stays_left x d.t alive bound (kept_judged s.conn d.t said v at (tail_opens h.conn s.conn x.held.conn) d.does) d.stands_for;
         told_is = stays_told x d.t;
       }
 
   -- its parcel was pushed
-  pub pushes : (x : Stays most holds counts binds binds_after table after h g o n s) (seen : Seen) (count workers : ℕ) (mail mail_after : Option Boxes) (orders : Orders) (said : Note) (parcel : Parcel)
+  pub pushes : (x : Stays most holds counts binds binds_after table after h g o n s) (seen : Seen) (count workers : ℕ) (mail mail_after : Inboxes) (orders : Orders) (said : Note) (parcel : Parcel)
       → HasInboxes seen count mail → workers ≡ seen.config.workers → want_of s.conn ≡ Push parcel → g.bound ≡ h.bound → binds_after ≡ binds → Pushes count mail mail_after workers (IsConn g.conn) s.conn parcel said
       → (t : Held) × WantDone o n seen seen mail mail_after orders s said (Some t) × IsHeld most after g t × PortsTold n t.ports
   pushes x seen count workers mail mail_after orders said parcel has staff want same stays d =
@@ -319,7 +320,7 @@ module _ {L Q : Type 0} (most : Q → ℕ) (holds : Q → Option PortHolds) (cou
       let answers = push_answers seen p.before p.after orders workers parcel d.pushed long p.does in (
         left o s d.t,
         want_done o n seen seen mail mail_after orders s (Push parcel) (Pushed taken) said d.t sh sh_after want needs d.does answers
-            (record { config = refl; same = record { config = refl; whole = refl }; book = sees_same seen; wrote = refl; boxes = p.was; count = many; boxes_after = p.is; orders_are = refl })
+            (record { config = refl; same = record { config = refl; whole = refl }; book = sees_same seen; wrote = refl; boxes = p.was; count = many; boxes_after = p.is; moves = push_moved count (inbox_in workers parcel.to) mail mail_after parcel d.pushed p; orders_are = refl })
             (held_back most holds counts binds binds_after table after h g o n s x stays),
         stays_left x d.t alive bound (kept_pushed s.conn d.t said taken (tail_opens h.conn s.conn x.held.conn) d.does) d.stands_for,
         stays_told x d.t,
@@ -345,7 +346,7 @@ module _ {L Q : Type 0} (most : Q → ℕ) (holds : Q → Option PortHolds) (cou
         left_is = left o s d.t;
         done_is = want_done o n seen seen_after m.mail m.mail orders s (Ask asked) (Replied d.told) said d.t sh sh_after want
             (subst R (sym a.told_is) (tell_needs n asked tunnel actor seen.config a.book a.said of a.is)) d.does (subst B (sym mine) asks_is)
-            (record { config = refl; same = a.same; book = a.sees; wrote = a.wrote; boxes = m.told; count = m.count; boxes_after = m.told; orders_are = refl })
+            (record { config = refl; same = a.same; book = a.sees; wrote = a.wrote; boxes = m.told; count = m.count; boxes_after = m.told; moves = nothing_moved m.mail m.mail m.boxes refl; orders_are = refl })
             (held_back most holds counts binds binds_after table after h g o n s x stays);
         stands_for = stands most after g (left o s d.t) d.stands_for (kept.0 ∙ x.held.number ∙ sym x.number)
             (subst A (sym x.seats) (are_filled most after o idle h.ports.items s.ports (are_kept most table after h.ports.items s.ports x.keeps x.held.ports)))
@@ -376,14 +377,14 @@ module _ {L Q : Type 0} (most : Q → ℕ) (holds : Q → Option PortHolds) (cou
     alive = tell_alive s.conn asked tunnel of want
 
     by_case : TellGives actor seen asked seen_after (IsConn g.conn) s.conn (Err refused) → Sinks most after g o n seen seen_after m orders s
-    by_case (inl before) = sinks_before most holds counts table after h g o n actor seen seen_after m orders s asked alive fails before.0.0 before.0.1 before.1
+    by_case (inl before) = sinks_before most holds counts table after h g o n actor seen seen_after m orders s asked (tell_takes tunnel asked of) fails before.0.0 before.0.1 before.1
     by_case (inr behind) =
         let a = behind.asks in
         let all = alive_served s.conn.ending s.conn.tunnels s.ports alive x.held.served in
         let S : List Tunnel → Type 0 = λ ts. AreServed (Some end.NoMemory) ts s.ports in
         let asks_is : Asks (shared_by seen a.book m.boxes orders) actor asked behind.told (shared_by seen seen_after.entries m.boxes orders) =
         record { said = a.said; is = a.is; reply_is = a.told_is; after_is = ap (λ (book : List Entry). shared_by seen book m.boxes orders) a.wrote } in
-        sinks_behind most holds counts table after h g o n actor seen seen_after m orders s asked behind.told a.book alive (tell_takes tunnel asked of)
+        sinks_behind most holds counts table after h g o n actor seen seen_after m orders s asked behind.told a.book (tell_takes tunnel asked of)
         (subst S (sym (tell_opens tunnel asked behind.told s.conn.tunnels of)) (inl all)) fails a.sees a.same behind.open_is behind.stands_for asks_is
 
 -- ---- a list that couldn't be handed over

@@ -4,7 +4,7 @@ use Rattle.std.specs.Prelude.{find, if◌then◌else◌}
 use Rattle.std.proofs.lemmas.List.Elements.{All-cons, All-head, All-tail, All-nil}
 use Rattle.mq_wire.specs.declared.NoMemory.{NoMemory}
 use Rattle.mq_outside.specs.Counts.{risen, LinkCounts, PortCounts}
-use Rattle.mq_talk.specs.Mails.{Boxes}
+use Rattle.mq_talk.specs.Mails.{Inboxes}
 use Rattle.mq_talk.specs.Offices.{Seen}
 use Rattle.mq_machine.specs.declared.setup.Setup.{Setup}
 use Rattle.mq_machine.specs.State.{Held, Port}
@@ -119,7 +119,7 @@ module _ (o n : Outside) (lc : ℕ → LinkCounts) (pc : ℕ → PortCounts) whe
 
   -- ---- a try that is in vain goes before
 
-  pub skip : (setup : Setup) (t : Try) (tries : Tries) (vain less : InVain) (seen seen_after : Seen) (mail mail_after : Option Boxes) (stands_for : Held → Type 0) (s : Held) (r : Result Stepped NoMemory)
+  pub skip : (setup : Setup) (t : Try) (tries : Tries) (vain less : InVain) (seen seen_after : Seen) (mail mail_after : Inboxes) (stands_for : Held → Type 0) (s : Held) (r : Result Stepped NoMemory)
       → Between o lc pc s → ((f : Found) → vain f → can_try (filled o f s) t ≡ false) → vain idle → ((f : Found) → vain f → less f)
       → (Grows (mid o lc pc) n s → Asked o n s t) → (All (Asked (mid o lc pc) n s) (tries s) → All (Asked o n s) (tries s))
       → Gives setup tries vain (mid o lc pc) n seen seen_after mail mail_after stands_for s r → Gives setup (λ h. t ∷ tries h) less o n seen seen_after mail mail_after stands_for s r
@@ -189,7 +189,7 @@ module _ (o n : Outside) (lc : ℕ → LinkCounts) (pc : ℕ → PortCounts) whe
           tunnels = x.tunnels;
           is = first_false (filled o x.found s) t (tries (filled o x.found s)) (cannot x.found x.vain_is) ∙ x.is;
           shares = x.shares;
-          alive = x.alive;
+          takes = x.takes;
           leaves = x.leaves;
           heard = x.heard;
           binds = binds_back x.answer x.binds;

@@ -8,7 +8,7 @@ use Rattle.mq_talk.specs.declared.note.Note.TheVariants as note
 use Rattle.mq_talk.specs.declared.note.End.{End}
 use Rattle.mq_talk.specs.declared.place.Parcel.{Parcel}
 use Rattle.mq_talk.specs.declared.book.Entry.{Entry}
-use Rattle.mq_talk.specs.Mails.{Boxes, IsTold}
+use Rattle.mq_talk.specs.Mails.{Boxes, IsTold, Inboxes}
 use Rattle.mq_talk.specs.Offices.{Seen, Sees, IsOfOther}
 use Rattle.mq_machine.specs.State.{Conn, Held, Orders, Shared}
 use Rattle.mq_machine.specs.Want.{Want, Nothing, Say, Bind, Ask, Judge, Push, Send, Over, Answer, want_of}
@@ -17,6 +17,7 @@ use Rattle.mq_machine.specs.Shared.{ports_after}
 use Rattle.mq_machine.specs.Turn.{over_or, acted, with_conn}
 use Rattle.mq_machine.specs.Acting.{Shares}
 use Rattle.mq_step.specs.Holds.{HasInboxes}
+use Rattle.mq_talk.proofs.Mails.{nothing_moved}
 
 abbrev pub IsNotOver : Want → Type 0
 IsNotOver Nothing = ⊤
@@ -58,9 +59,9 @@ shared_by seen book boxes orders = record { config = seen.config; book = book; b
 
 -- a mail, and inboxes with which what it tells fits
 pub record Mailed (seen : Seen) : Type 0 where
-  pub mail : Option Boxes
+  pub mail : Inboxes
   pub boxes : Boxes
-  pub told : IsTold mail boxes
+  pub told : IsTold mail.told boxes
   pub count : length boxes ≡ seen.config.workers + 1
 
 -- so many inboxes without a parcel
@@ -75,15 +76,15 @@ no_parcels_size (suc n) = ap (λ (k : ℕ). suc k) (no_parcels_size n)
 
 -- inboxes with which that fits
 abbrev Fitting : ℕ → Option Boxes → Type 0
-Fitting count mail = (boxes : Boxes) × IsTold mail boxes × (length boxes ≡ count)
+Fitting count told = (boxes : Boxes) × IsTold told boxes × (length boxes ≡ count)
 
-pub fitting : (count : ℕ) (mail : Option Boxes) → ((boxes : Boxes) → mail ≡ Some boxes → length boxes ≡ count) → Fitting count mail
+pub fitting : (count : ℕ) (told : Option Boxes) → ((boxes : Boxes) → told ≡ Some boxes → length boxes ≡ count) → Fitting count told
 fitting count None size = (no_parcels count, tt, no_parcels_size count)
 fitting count (Some boxes) size = (boxes, refl, size boxes refl)
 
-abbrev pub mailed : (seen : Seen) (count : ℕ) (mail : Option Boxes) → HasInboxes seen count mail → Mailed seen
+abbrev pub mailed : (seen : Seen) (count : ℕ) (mail : Inboxes) → HasInboxes seen count mail → Mailed seen
 mailed seen count mail has =
-    let f = fitting count mail has.size in
+    let f = fitting count mail.told has.size in
     record { mail = mail; boxes = f.0; told = f.1; count = f.2 ∙ has.count_is }
 
 pub sees_same : (seen : Seen) → Sees seen seen.entries
@@ -99,5 +100,6 @@ shares_same seen seen_after m orders same = record {
   boxes = m.told;
   count = m.count;
   boxes_after = m.told;
+  moves = nothing_moved m.mail m.mail m.boxes refl;
   orders_are = refl;
 }

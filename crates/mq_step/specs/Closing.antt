@@ -5,7 +5,7 @@ use Rattle.mq_wire.specs.declared.NoMemory.{NoMemory}
 use Rattle.mq_outside.specs.Counts.{PortCounts}
 use Rattle.mq_talk.specs.declared.book.Reply.TheVariants as reply
 use Rattle.mq_talk.specs.declared.note.Note.{Note}
-use Rattle.mq_talk.specs.Mails.{Boxes}
+use Rattle.mq_talk.specs.Mails.{Inboxes}
 use Rattle.mq_talk.specs.Offices.{Seen}
 use Rattle.mq_machine.specs.State.{Conn, Link, Held, Orders, Shared}
 use Rattle.mq_machine.specs.Want.{Replied, want_of}
@@ -19,7 +19,7 @@ use Rattle.mq_step.specs.declared.stepped.Stepped.TheVariants.{Quiet, Did, Ended
 use Rattle.mq_step.specs.Sights.{Found, filled_port}
 
 -- the book closed this tunnel, and it stands for a connection without its port, on any link, whatever the other ports hold
-pub record Closed (seen seen_after : Seen) (mail mail_after : Option Boxes) (orders : Orders) (stands : Held → Type 0) (tunnel : ℕ) (s : Held) (said : Note) : Type 0 where
+pub record Closed (seen seen_after : Seen) (mail mail_after : Inboxes) (orders : Orders) (stands : Held → Type 0) (tunnel : ℕ) (s : Held) (said : Note) : Type 0 where
   pub conn : Conn
   pub sh : Shared
   pub after : Shared
@@ -29,7 +29,7 @@ pub record Closed (seen seen_after : Seen) (mail mail_after : Option Boxes) (ord
   pub stands_for : (link : Link) (o : Outside) (found : Found) → stands (record { conn = conn; link = link; ports = without_port tunnel (map (filled_port o found) s.ports) })
 
 -- To close a tunnel takes no memory, and waits for nothing.
-abbrev pub CloseGives : Seen → Seen → (mail mail_after : Option Boxes) → (Held → Type 0) → ℕ → Held → Result Stepped NoMemory → Type 0
+abbrev pub CloseGives : Seen → Seen → (mail mail_after : Inboxes) → (Held → Type 0) → ℕ → Held → Result Stepped NoMemory → Type 0
 CloseGives seen seen_after mail mail_after stands tunnel s (Ok (Did said)) = (orders : Orders) → Closed seen seen_after mail mail_after orders stands tunnel s said
 CloseGives seen seen_after mail mail_after stands tunnel s (Ok Quiet) = ⊥
 CloseGives seen seen_after mail mail_after stands tunnel s (Ok (Ended said)) = ⊥

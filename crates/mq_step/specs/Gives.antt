@@ -3,14 +3,14 @@
 use Rattle.std.specs.Prelude.{◌≡◌, ◌≢◌, ⊤, ℕ, true, false, List, [], ◌∷◌, All, find, map, Option, Some, None, option_map, Result, Ok, Err}
 use Rattle.mq_wire.specs.declared.NoMemory.{NoMemory}
 use Rattle.mq_talk.specs.declared.note.Note.{Note}
-use Rattle.mq_talk.specs.Mails.{Boxes}
+use Rattle.mq_talk.specs.Mails.{Inboxes}
 use Rattle.mq_talk.specs.Offices.{Seen}
 use Rattle.mq_machine.specs.declared.setup.Setup.{Setup}
 use Rattle.mq_machine.specs.State.{Tunnel, Port, Held, Orders, Shared, owed}
 use Rattle.mq_machine.specs.Want.{Answer, want_of}
 use Rattle.mq_machine.specs.Steps.{can_read, framed, starved}
 use Rattle.mq_machine.specs.Turn.{Try, Act, Frame, Write, Read, Receive, can_try, TryNext}
-use Rattle.mq_machine.specs.Silent.{Reached, Leaves, Heard}
+use Rattle.mq_machine.specs.Silent.{Reached, Leaves, Heard, may_starve}
 use Rattle.mq_machine.specs.Acting.{Outside, Rose, WantWaited, BindFits, Shares}
 use Rattle.mq_step.specs.declared.stepped.Stepped.{Stepped}
 use Rattle.mq_step.specs.declared.stepped.Stepped.TheVariants.{Quiet, Did, Ended}
@@ -51,7 +51,7 @@ abbrev pub InVain : Type 1
 InVain = Found → Type 0
 
 -- One of the tries was done, and gave this note.
-pub record Turned (setup : Setup) (tries : Tries) (vain : InVain) (old new : Outside) (seen seen_after : Seen) (mail mail_after : Option Boxes) (orders : Orders)
+pub record Turned (setup : Setup) (tries : Tries) (vain : InVain) (old new : Outside) (seen seen_after : Seen) (mail mail_after : Inboxes) (orders : Orders)
     (s : Held) (note : Note) (t : Option Held) : Type 0 where
   pub found : Found
   pub vain_is : vain found
@@ -76,7 +76,7 @@ Asked old new s Read = can_read s.conn ≡ true → Rose (old.link_counts s.conn
 Asked old new s (Receive tunnel) = Rose (old.port_counts tunnel).receive_waits (new.port_counts tunnel).receive_waits
 
 -- Each of the tries was in vain.
-pub record Waited (tries : Tries) (old new : Outside) (seen seen_after : Seen) (mail mail_after : Option Boxes) (s : Held) : Type 0 where
+pub record Waited (tries : Tries) (old new : Outside) (seen seen_after : Seen) (mail mail_after : Inboxes) (s : Held) : Type 0 where
   pub none : first_of tries (filled old idle s) ≡ None
   pub asked : All (Asked old new s) (tries s)
   pub grows : Grows old new s
@@ -85,7 +85,7 @@ pub record Waited (tries : Tries) (old new : Outside) (seen seen_after : Seen) (
   pub mail_is : mail_after ≡ mail
 
 -- One of the tries was begun, and memory was refused when it had come so far.
-pub record Starved (tries : Tries) (vain : InVain) (old new : Outside) (seen seen_after : Seen) (mail mail_after : Option Boxes) (orders : Orders) (s t : Held) : Type 0 where
+pub record Starved (tries : Tries) (vain : InVain) (old new : Outside) (seen seen_after : Seen) (mail mail_after : Inboxes) (orders : Orders) (s t : Held) : Type 0 where
   pub found : Found
   pub vain_is : vain found
   pub try : Try
@@ -97,7 +97,7 @@ pub record Starved (tries : Tries) (vain : InVain) (old new : Outside) (seen see
   pub tunnels : List Tunnel
   pub is : first_of tries (filled old found s) ≡ Some try
   pub shares : Shares seen seen_after mail mail_after orders sh after
-  pub alive : try ≡ Act → s.conn.ending ≡ None
+  pub takes : try ≡ Act → may_starve (want_of s.conn) ≡ true
   pub leaves : Leaves reached.took try (filled old found s).link.pieces pieces
   pub heard : Heard reached.asked (filled old found s) sh try answer tunnels after
   pub binds : BindFits old new answer
@@ -111,7 +111,7 @@ abbrev pub StandsAsTold : Outside → (Held → Type 0) → Held → Type 0
 StandsAsTold new stands t = stands t × IsAsTold new t
 
 -- What the tries of a connection give, by what stands behind them.
-abbrev pub Gives : Setup → Tries → InVain → Outside → Outside → Seen → Seen → (mail mail_after : Option Boxes) → (Held → Type 0) → Held → Result Stepped NoMemory → Type 0
+abbrev pub Gives : Setup → Tries → InVain → Outside → Outside → Seen → Seen → (mail mail_after : Inboxes) → (Held → Type 0) → Held → Result Stepped NoMemory → Type 0
 Gives setup tries vain old new seen seen_after mail mail_after stands s (Ok Quiet) = Waited tries old new seen seen_after mail mail_after s × stands s
 Gives setup tries vain old new seen seen_after mail mail_after stands s (Ok (Did note)) = (orders : Orders)
     → (t : Held) × Turned setup tries vain old new seen seen_after mail mail_after orders s note (Some t) × StandsAsTold new stands t

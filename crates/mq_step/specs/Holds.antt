@@ -7,7 +7,7 @@ use Rattle.mq_talk.specs.declared.book.Call.TheVariants as call
 use Rattle.mq_talk.specs.declared.goal.Goal.{Goal}
 use Rattle.mq_talk.specs.declared.goal.Goal.TheVariants as goal
 use Rattle.mq_talk.specs.declared.note.End.{End}
-use Rattle.mq_talk.specs.Mails.{Boxes}
+use Rattle.mq_talk.specs.Mails.{Boxes, Inboxes}
 use Rattle.mq_talk.specs.Offices.{IsSound, Seen}
 use Rattle.mq_machine.specs.Placing.{ArePlaced}
 use Rattle.mq_machine.specs.State.{Tunnel, Port, Held}
@@ -110,9 +110,9 @@ pub record IsKnown (seen : Seen) (actor : ℕ) (s : Held) : Type 0 where
   pub places : ArePlaced seen.config.workers s.conn.due
 
 -- there is an inbox for each worker, and one for the pump
-pub record HasInboxes (seen : Seen) (count : ℕ) (mail : Option Boxes) : Type 0 where
+pub record HasInboxes (seen : Seen) (count : ℕ) (mail : Inboxes) : Type 0 where
   pub count_is : count ≡ seen.config.workers + 1
-  pub size : (boxes : Boxes) → mail ≡ Some boxes → length boxes ≡ count
+  pub size : (boxes : Boxes) → mail.told ≡ Some boxes → length boxes ≡ count
 
 -- ---- the ports of other connections
 

@@ -3,12 +3,12 @@ use Rattle.std.specs.Prelude.{◌≡◌, ◌⊎◌, ℕ, Bool, true, false, List
 use Rattle.mq_wire.specs.declared.NoMemory.{NoMemory}
 use Rattle.mq_talk.specs.declared.book.Reply.TheVariants as reply
 use Rattle.mq_talk.specs.declared.note.Note.{Note}
-use Rattle.mq_talk.specs.Mails.{Boxes}
+use Rattle.mq_talk.specs.Mails.{Inboxes}
 use Rattle.mq_talk.specs.Offices.{Seen}
 use Rattle.mq_machine.specs.State.{Tunnel, Port, Held, Orders, Shared}
 use Rattle.mq_machine.specs.Want.{Want, Nothing, Say, Bind, Ask, Judge, Push, Send, Over, Answer, Replied, want_of}
 use Rattle.mq_machine.specs.Shared.{at_port}
-use Rattle.mq_machine.specs.Silent.{Heard}
+use Rattle.mq_machine.specs.Silent.{Heard, may_starve}
 use Rattle.mq_machine.specs.Steps.{starved}
 use Rattle.mq_machine.specs.Turn.{Act, can_try, ActNext}
 use Rattle.mq_machine.specs.Acting.{Outside, Binder, Binds, WantWaited, BindFits, PortsTold, Shares, prepared}
@@ -38,7 +38,7 @@ is_send (Push parcel) = false
 is_send (Over why) = false
 
 -- It did what it wants.
-pub record WantDone (old new : Outside) (seen seen_after : Seen) (mail mail_after : Option Boxes) (orders : Orders) (s : Held) (note : Note) (t : Option Held) : Type 0 where
+pub record WantDone (old new : Outside) (seen seen_after : Seen) (mail mail_after : Inboxes) (orders : Orders) (s : Held) (note : Note) (t : Option Held) : Type 0 where
   pub found : Found
   pub answer : Answer
   pub sh : Shared
@@ -58,7 +58,7 @@ abbrev pub SendsWait : Found → Type 0
 SendsWait found = (tunnel : ℕ) → ((found.port tunnel).send_fails ≡ false) × ((found.port tunnel).send_waits ≡ true)
 
 -- what it wants waits for a port, or it wants nothing
-pub record WantWaits (old new : Outside) (seen seen_after : Seen) (mail mail_after : Option Boxes) (s : Held) : Type 0 where
+pub record WantWaits (old new : Outside) (seen seen_after : Seen) (mail mail_after : Inboxes) (s : Held) : Type 0 where
   pub cannot : (found : Found) → SendsWait found → can_try (ported old found s) Act ≡ false
   pub asked : WantWaited old new (want_of s.conn)
   pub grows : All (λ (p : Port). PortGrows (old.port_counts p.tunnel) (new.port_counts p.tunnel)) s.ports
@@ -72,8 +72,8 @@ pub record WantWaits (old new : Outside) (seen seen_after : Seen) (mail mail_aft
 abbrev pub MayBind : Binder → Binder → Type 0
 MayBind old new = (new ≡ old) ⊎ ((done : Bool) × Binds done old new)
 
--- It was refused memory as it did what it wants, which a connection that is ending is never.
-pub record WantStarves (old new : Outside) (seen seen_after : Seen) (mail mail_after : Option Boxes) (orders : Orders) (s t : Held) : Type 0 where
+-- It was refused memory as it did what it wants, which takes some.
+pub record WantStarves (old new : Outside) (seen seen_after : Seen) (mail mail_after : Inboxes) (orders : Orders) (s t : Held) : Type 0 where
   pub found : Found
   pub answer : Answer
   pub sh : Shared
@@ -81,13 +81,13 @@ pub record WantStarves (old new : Outside) (seen seen_after : Seen) (mail mail_a
   pub asked : Bool
   pub tunnels : List Tunnel
   pub can : can_try (ported old found s) Act ≡ true
-  pub alive : s.conn.ending ≡ None
+  pub takes : may_starve (want_of s.conn) ≡ true
   pub shares : Shares seen seen_after mail mail_after orders sh after
   pub heard : Heard asked (ported old found s) sh Act answer tunnels after
   pub binds : BindFits old new answer
   pub then : t ≡ record (ported old found s) { conn = record (starved s.conn) { tunnels = tunnels } }
 
-abbrev pub ActGives : Outside → Outside → Seen → Seen → (mail mail_after : Option Boxes) → (Held → Type 0) → Held → Result Stepped NoMemory → Type 0
+abbrev pub ActGives : Outside → Outside → Seen → Seen → (mail mail_after : Inboxes) → (Held → Type 0) → Held → Result Stepped NoMemory → Type 0
 ActGives old new seen seen_after mail mail_after stands s (Ok Quiet) = WantWaits old new seen seen_after mail mail_after s × stands s
 ActGives old new seen seen_after mail mail_after stands s (Ok (Did note)) =
     (orders : Orders) → (t : Held) × WantDone old new seen seen_after mail mail_after orders s note (Some t) × stands t × PortsTold new t.ports

@@ -3,7 +3,7 @@ ghost use Rattle.std.specs.Prelude.{◌≡◌, ◌≢◌, ℕ, MatchOption, Opti
 ghost use Rattle.slab.specs.Slab.{Updates};
 ghost use Rattle.mq_talk.specs.declared.book.Call.TheVariants.{Close};
 ghost use Rattle.mq_talk.specs.declared.note.Note.{Note as Said};
-ghost use Rattle.mq_talk.specs.Mails.{Boxes};
+ghost use Rattle.mq_talk.specs.Mails.{Inboxes};
 ghost use Rattle.mq_talk.specs.Offices.{IsSound};
 ghost use Rattle.mq_machine.specs.Acting.{Outside, binder};
 ghost use Rattle.mq_machine.specs.State as machine;
@@ -51,7 +51,7 @@ fn open<L, P: Ports, O: Office>(
     ensures gives { (o n : Outside) → SeesTable P.P.holds P.P.counts (binder P.holds P.faults table.old.ports) table.old.table held.old.ports.items o
         → SeesTable P.P.holds P.P.counts (binder P.holds P.faults table.new.ports) table.new.table held.new.ports.items n
         → (s : machine.Held) → IsHeld P.P.most table.old.table held.old s → want_of s.conn ≡ Ask call
-        → (count : ℕ) (mail : Option Boxes) → HasInboxes (O.seen office.old) count mail
+        → (count : ℕ) (mail : Inboxes) → HasInboxes (O.seen office.old) count mail
         → ActGives o n (O.seen office.old) (O.seen office.new) mail mail (IsHeld P.P.most table.new.table held.new) s result }
     ensures rest { held.new ≡ record held.old { conn = held.new.conn; ports = held.new.ports; bound = held.new.bound } }
     ensures stays { IfOk result (λ stepped. stepped ≡ Stepped.Quiet → held.new.ports.items ≡ held.old.ports.items) }
@@ -86,10 +86,10 @@ fn close<L, P: Ports, O: Office>(
     ensures gives { (o n : Outside) → SeesTable P.P.holds P.P.counts (binder P.holds P.faults table.old.ports) table.old.table held.old.ports.items o
         → SeesTable P.P.holds P.P.counts (binder P.holds P.faults table.new.ports) table.new.table held.new.ports.items n
         → (s : machine.Held) → IsHeld P.P.most table.old.table held.old s → want_of s.conn ≡ Ask (Close tunnel)
-        → (count : ℕ) (mail : Option Boxes) → HasInboxes (O.seen office.old) count mail
+        → (count : ℕ) (mail : Inboxes) → HasInboxes (O.seen office.old) count mail
         → ActGives o n (O.seen office.old) (O.seen office.new) mail mail (IsHeld P.P.most table.new.table held.new) s result }
     ensures closes { (s : machine.Held) → IsHeld P.P.most table.old.table held.old s → want_of s.conn ≡ Ask (Close tunnel)
-        → (count : ℕ) (mail : Option Boxes) → HasInboxes (O.seen office.old) count mail
+        → (count : ℕ) (mail : Inboxes) → HasInboxes (O.seen office.old) count mail
         → CloseGives (O.seen office.old) (O.seen office.new) mail mail (IsHeld P.P.most table.new.table held.new) tunnel s result
         × HandsBack P.P.counts table.old.table held.old.ports.items tunnel (binder P.holds P.faults table.old.ports) (binder P.holds P.faults table.new.ports)
         × Retires table.old.table table.new.table held.old.ports.items held.new.ports.items tunnel }
@@ -120,10 +120,10 @@ pub fn ask<L, P: Ports, O: Office>(
     ensures gives { (o n : Outside) → SeesTable P.P.holds P.P.counts (binder P.holds P.faults table.old.ports) table.old.table held.old.ports.items o
         → SeesTable P.P.holds P.P.counts (binder P.holds P.faults table.new.ports) table.new.table held.new.ports.items n
         → (s : machine.Held) → IsHeld P.P.most table.old.table held.old s → want_of s.conn ≡ Ask call
-        → (count : ℕ) (mail : Option Boxes) → HasInboxes (O.seen office.old) count mail
+        → (count : ℕ) (mail : Inboxes) → HasInboxes (O.seen office.old) count mail
         → ActGives o n (O.seen office.old) (O.seen office.new) mail mail (IsHeld P.P.most table.new.table held.new) s result }
     ensures closes { (s : machine.Held) → IsHeld P.P.most table.old.table held.old s → want_of s.conn ≡ Ask call → (tunnel : ℕ) → call ≡ Close tunnel
-        → (count : ℕ) (mail : Option Boxes) → HasInboxes (O.seen office.old) count mail
+        → (count : ℕ) (mail : Inboxes) → HasInboxes (O.seen office.old) count mail
         → CloseGives (O.seen office.old) (O.seen office.new) mail mail (IsHeld P.P.most table.new.table held.new) tunnel s result
         × HandsBack P.P.counts table.old.table held.old.ports.items tunnel (binder P.holds P.faults table.old.ports) (binder P.holds P.faults table.new.ports)
         × Retires table.old.table table.new.table held.old.ports.items held.new.ports.items tunnel }

@@ -1,6 +1,6 @@
 //! A payload goes to the port of its tunnel.
 ghost use Rattle.std.specs.Prelude.{◌≡◌, ℕ, List, Ok, Option};
-ghost use Rattle.mq_talk.specs.Mails.{Boxes};
+ghost use Rattle.mq_talk.specs.Mails.{Inboxes};
 ghost use Rattle.mq_talk.specs.Offices.{Seen};
 ghost use Rattle.mq_machine.specs.Acting.{Outside, binder};
 ghost use Rattle.mq_machine.specs.State as machine;
@@ -20,7 +20,7 @@ pub fn send<L, P: Ports>(held: &mut Held<L>, tunnel: u32, table: &mut PortTable<
     ensures gives { (o n : Outside) → SeesTable P.P.holds P.P.counts (binder P.holds P.faults table.old.ports) table.old.table held.old.ports.items o
         → SeesTable P.P.holds P.P.counts (binder P.holds P.faults table.new.ports) table.new.table held.new.ports.items n
         → (seen : Seen) (s : machine.Held) → IsHeld P.P.most table.old.table held.old s → (k : ℕ) (payload : List ℕ) → want_of s.conn ≡ Send tunnel k payload
-        → (count : ℕ) (mail : Option Boxes) → HasInboxes seen count mail
+        → (count : ℕ) (mail : Inboxes) → HasInboxes seen count mail
         → ActGives o n seen seen mail mail (IsHeld P.P.most table.new.table held.new) s (Ok result) }
     ensures rest { held.new ≡ record held.old { conn = held.new.conn } }
     ensures ports { table.new.ports ≡ table.old.ports }

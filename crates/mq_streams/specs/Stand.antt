@@ -57,7 +57,3 @@ StandFor streams h = AreOf h streams.table.highest streams.initial streams.conne
 -- in each history that they stand for
 abbrev pub InEach : Streams → (History → Type 0) → Type 0
 InEach streams P = (h : History) → StandFor streams h → P h
-
--- in some history that they stand for
-abbrev pub InSome : Streams → (History → Type 0) → Type 0
-InSome streams P = (h : History) × StandFor streams h × P h

@@ -1,6 +1,6 @@
 //! An actor's way to the inboxes.
-ghost use Rattle.std.specs.Prelude.{◌≡◌, ℕ, ◌<◌, Option};
-ghost use Rattle.mq_talk.specs.Mails.{Boxes, IsParcel, PushGives, PopGives};
+ghost use Rattle.std.specs.Prelude.{◌≡◌, ℕ, ◌<◌};
+ghost use Rattle.mq_talk.specs.Mails.{Inboxes, IsParcel, PushGives, PopGives};
 
 use crate::place::{Parcel, Pushed};
 
@@ -11,8 +11,8 @@ pub trait Mail {
     ghost actor: { Self → ℕ };
     /// How many inboxes there are.
     ghost count: { Self → ℕ };
-    /// The inboxes, where it tells them.
-    ghost boxes: { Self → Option Boxes };
+    /// The inboxes, and all that its actor moved, where it tells them.
+    ghost boxes: { Self → Inboxes };
 
     /// Puts a parcel at the back of an inbox, or hands it back where that inbox is full.
     fn push(&mut self, to: u32, parcel: Parcel) -> Pushed

@@ -12,7 +12,7 @@ use Rattle.mq_talk.specs.declared.place.Parcel.{Parcel}
 use Rattle.mq_talk.specs.declared.place.Verdict.{Verdict}
 use Rattle.mq_talk.specs.declared.place.Verdict.TheVariants as verdict
 use Rattle.mq_talk.specs.Config.{IsConfig}
-use Rattle.mq_talk.specs.Mails.{Boxes, box_at, has_room}
+use Rattle.mq_talk.specs.Mails.{Boxes, box_at, has_room, Inboxes}
 use Rattle.mq_talk.specs.Packets.{flow_of}
 use Rattle.mq_talk.specs.Offices.{Seen, IsSound, Sees}
 use Rattle.mq_outside.specs.Counts.{PortCounts, no_link_counts, no_port_counts}
@@ -22,7 +22,7 @@ use Rattle.mq_machine.specs.Shared.{inbox_of}
 use Rattle.mq_machine.specs.Placing.{ArePlaced}
 use Rattle.mq_machine.specs.Acting.{Outside, Known, IsOpen, HasTunnel, Meets, NetRefills, PumpGave, PumpGives, PumpKnown, PumpLeaves, PumpSight, PumpSteps, bare_pump, shared_sight}
 use Rattle.mq_machine.specs.Turn.{ThePump, PumpTry, PushHeld, SendHeld, SendNext, Receives, PumpNext, PumpTurn, IsMet, IsReceived, Turn, pump_try, parcel_pushed, net_sent, net_popped, net_judged, with_arrivals, last_of}
-use Rattle.mq_mem.specs.Mails.{Mail as MailOf}
+use Rattle.mq_mem.specs.Mails.{Mail as MailOf, shown}
 use Rattle.mq_mem.specs.Offices.{Office as OfficeOf, seen_of}
 use Rattle.mq_net.specs.Sims.{Sim, holds_of, told}
 use Rattle.mq_pump.specs.declared.pump.Pump.{Pump as PumpBy}
@@ -115,7 +115,7 @@ kept_try p sh Receives d is = kept_received p sh p.net.holds.arrived d is
 
 -- what is known of a worker says nothing of whom the office serves, nor of what waits in the inboxes
 module _ (o : Outside) (seen now : Seen) (boxes after : Boxes) (config : now.config ≡ seen.config) (entries : now.entries ≡ seen.entries) (size : length after ≡ length boxes) where
-  known_still : (w : Worker) → Known (sight o seen (Some boxes)) w → Known (sight o now (Some after)) w
+  known_still : (w : Worker) → Known (sight o seen (shown boxes)) w → Known (sight o now (shown after)) w
   known_still w known = record {
     id = subst (λ (c : Config). w.id < c.workers) (sym config) known.id;
     pump = subst (λ (c : Config). w.setup.pump ≡ c.workers) (sym config) known.pump;
@@ -194,10 +194,10 @@ module _ (old : Workers) (s : State) (is : IsWorld old s) (k : ℕ) (at : k ≡ 
   seen = seen_of (turned_office old k)
 
   abbrev before : PumpSight
-  before = pump_sight (told old.pump.net) counts seen (Some old.mail.boxes)
+  before = pump_sight (told old.pump.net) counts seen (shown old.mail.boxes)
 
   abbrev behind : PumpSight
-  behind = pump_sight (told pump.net) after_counts (seen_of office) (Some mail.boxes)
+  behind = pump_sight (told pump.net) after_counts (seen_of office) (shown mail.boxes)
 
   abbrev world : Workers
   world = record old { pump = pump; office = office; mail = mail }
@@ -268,7 +268,7 @@ module _ (old : Workers) (s : State) (is : IsWorld old s) (k : ℕ) (at : k ≡ 
       let holds : holds_of pump.net ≡ holds_of old.pump.net = let e = leaves.net in cc in
       let is_same : t ≡ s.pump = same_pump t s.pump same (net ∙ holds ∙ sym is.pump.net) in
       let entries : office.book.history ≡ old.office.book.history = ap (λ (x : Seen). x.entries) leaves.seen in
-      let boxes : mail.boxes ≡ old.mail.boxes = sym leaves.tells ∙ leaves.told in
+      let boxes : mail.boxes ≡ old.mail.boxes = ap (λ (m : Inboxes). unwrap_or m.told []) leaves.boxes in
       let after_is : s.shared ≡ shared_of (common_of world) =
       is.shared ∙ sym (shared_is (shared_of (common_of world)) old.office.book.config old.office.book.history old.mail.boxes (record { bind = old.bind_fails }) config entries boxes refl) in
       subst (λ (p : Pump). IsWorld world (record s { pump = p })) is_same (stands t s.shared is_pump net known_after entries after_is)

@@ -8,11 +8,12 @@ use Rattle.mq_actor.specs.Steps.{sight}
 use Rattle.mq_plain.specs.Served.{Plain, Serves}
 use Rattle.mq_world.specs.Worlds.{AreServed}
 use Rattle.mq_plain.proofs.Beside.{known_beside}
+use Rattle.mq_mem.specs.Mails.{shown}
 
 -- ---- whose turn it is
 
 -- what is known of a worker says nothing of whom the office serves
-known_turned : (o : Outside) (seen : Seen) (boxes : Boxes) (k : ℕ) (w : Worker) → Known (sight o seen (Some boxes)) w → Known (sight o (record seen { actor = k }) (Some boxes)) w
+known_turned : (o : Outside) (seen : Seen) (boxes : Boxes) (k : ℕ) (w : Worker) → Known (sight o seen (shown boxes)) w → Known (sight o (record seen { actor = k }) (shown boxes)) w
 known_turned o seen boxes k w known = record { id = known.id; pump = known.pump; tunnels = known.tunnels; last = known.last; places = known.places; boxes = known.boxes }
 
 serves_turned : (links : List Told) (seen : Seen) (boxes : Boxes) (k number : ℕ) (a : Plain) (w : Worker) → Serves links seen boxes number a w → Serves links (record seen { actor = k }) boxes number a w

@@ -14,8 +14,13 @@ const WANT: &str =
 
 /// What is done with these pieces and then the end, but for what is written.
 fn done(alloc: Global, pieces: &[&[u8]]) -> Result<String, Fail> {
+    let told = told(alloc, WILLING, pieces, true)?;
+    without_written(alloc, told.as_str())
+}
+
+fn without_written(alloc: Global, told: &str) -> Result<String, Fail> {
     let mut text = String::new(alloc);
-    for line in told(alloc, WILLING, pieces, true)?.lines() {
+    for line in told.lines() {
         if !line.starts_with("wrote") {
             text.push_str(line)?;
             text.push_str("\n")?;

@@ -1,6 +1,6 @@
 //! How a connection ends, in each state, and why its tunnel closes.
 
-use super::{REQUEST, WILLING, acts, copied, over, settles, setup, tunneled};
+use super::{REQUEST, WILLING, acts, copied, is, over, settles, setup, tunneled};
 use crate::{Conn, Want};
 use mq_talk::{Call, End, From, Reply};
 use mq_wire::Seq;
@@ -23,17 +23,11 @@ fn after(alloc: Global, piece: &[u8]) -> Result<Conn, Fail> {
     Ok(conn)
 }
 
-/// What is done until it is over.
-fn rest_of(alloc: Global, conn: &mut Conn) -> Result<String, Fail> {
-    let mut text = String::new(alloc);
-    settles(alloc, conn, WILLING, &mut text)?;
-    Ok(text)
-}
-
 /// It does this until it is over.
 fn is_rest(rt: &impl Abort, alloc: Global, conn: &mut Conn, want: &str) -> Result<(), Fail> {
-    let text = rest_of(alloc, conn)?;
-    assert_eq!(rt; text.as_str(), want);
+    let mut text = String::new(alloc);
+    settles(alloc, conn, WILLING, &mut text)?;
+    is(rt, text.as_str(), want);
     Ok(())
 }
 
@@ -44,6 +38,16 @@ fn delivers(alloc: Global, conn: &mut Conn) -> Result<(), Fail> {
     Ok(())
 }
 
+/// A connection that read this ends with its link like this.
+fn ends(rt: &impl Abort, alloc: Global, piece: &[u8], want: &str) -> Result<(), Fail> {
+    let mut conn = after(alloc, piece)?;
+    if !conn.can_read() {
+        return Ok(());
+    }
+    conn.finish();
+    is_rest(rt, alloc, &mut conn, want)
+}
+
 #[test]
 fn a_link_ends_inside_a_head(rt: HostRuntime) -> Result<(), Fail> {
     for (piece, want) in [
@@ -52,12 +56,35 @@ fn a_link_ends_inside_a_head(rt: HostRuntime) -> Result<(), Fail> {
         (b"\r\n".as_slice(), "ended Truncated\n"),
         (b"PRI * HTTP/2.0\r\n\r\n".as_slice(), "ended Truncated\n"),
     ] {
-        let mut conn = after(rt.alloc(), piece)?;
-        if conn.can_read() {
-            conn.finish();
-            is_rest(&rt, rt.alloc(), &mut conn, want)?;
-        }
+        ends(&rt, rt.alloc(), piece, want)?;
     }
+    Ok(())
+}
+
+/// A connection that read this fails like this.
+fn fails(rt: &impl Abort, alloc: Global, piece: &[u8], why: End, want: &str) -> Result<(), Fail> {
+    let mut conn = after(alloc, piece)?;
+    conn.fail(why);
+    assert!(rt; !conn.can_read());
+    is_rest(rt, alloc, &mut conn, want)
+}
+
+/// A connection that owes bytes fails: its tunnel closes, and it is over.
+fn owes_and_fails(
+    rt: &impl Abort,
+    alloc: Global,
+    conn: &mut Conn,
+    why: End,
+    want: &str,
+) -> Result<(), Fail> {
+    acts(alloc, conn, WILLING, &mut String::new(alloc))?;
+    assert!(rt; !conn.owed().is_empty());
+    conn.fail(why);
+    let mut text = String::new(alloc);
+    acts(alloc, conn, WILLING, &mut text)?;
+    over(alloc, conn, &mut text)?;
+    let end = text.strip_prefix("closed 0 Conn left 0\n").unwrap_or("");
+    is(rt, end, want);
     Ok(())
 }
 
@@ -69,23 +96,10 @@ fn a_link_fails_or_memory_is_refused(rt: HostRuntime) -> Result<(), Fail> {
     ] {
         // Before the head, with a request due, with a refusal due, and with bytes owed.
         for piece in [b"".as_slice(), b"GET", REQUEST, b"GET / HTTP/1.1\r\n\r\n"] {
-            let mut conn = after(rt.alloc(), piece)?;
-            conn.fail(why);
-            assert!(rt; !conn.can_read());
-            is_rest(&rt, rt.alloc(), &mut conn, want)?;
+            fails(&rt, rt.alloc(), piece, why, want)?;
         }
         let mut conn = after(rt.alloc(), REQUEST)?;
-        let mut text = String::new(rt.alloc());
-        acts(rt.alloc(), &mut conn, WILLING, &mut text)?;
-        assert!(rt; !conn.owed().is_empty());
-        conn.fail(why);
-        let mut text = String::new(rt.alloc());
-        acts(rt.alloc(), &mut conn, WILLING, &mut text)?;
-        over(rt.alloc(), &conn, &mut text)?;
-        assert_eq!(rt;
-            text,
-            format!(in rt.alloc(); "closed 0 Conn left 0\n{want}")?
-        );
+        owes_and_fails(&rt, rt.alloc(), &mut conn, why, want)?;
     }
     Ok(())
 }
@@ -144,25 +158,25 @@ fn closes(conn: &Conn) -> Result<bool, Fail> {
     })
 }
 
-#[test]
-fn one_that_was_refused_memory_serves_its_own_end(rt: HostRuntime) -> Result<(), Fail> {
-    let mut conn = tunneled(rt.alloc())?;
-    conn.fail(End::NoMemory);
-    let setup = setup(rt.alloc())?;
+/// A request and what it asks for are refused memory, and the end is served.
+fn serves_its_end(rt: &impl Abort, alloc: Global, conn: &mut Conn) -> Result<(), Fail> {
+    let setup = setup(alloc)?;
     assert!(rt; conn.feed(&setup, b"x").is_err());
     assert!(rt; conn.frame().is_err());
     assert!(rt; conn.say().is_err());
     assert!(rt; conn.bound(true).is_err());
     let reply = Reply::Opened {
         tunnel: 9,
-        routes: Seq::from_vec(Vec::new(rt.alloc())),
+        routes: Seq::from_vec(Vec::new(alloc)),
     };
     assert!(rt; conn.answer(reply).is_err());
-    assert!(rt; closes(&conn)?);
-    is_rest(
-        &rt,
-        rt.alloc(),
-        &mut conn,
-        "closed 0 Conn left 0\nended NoMemory\n",
-    )
+    assert!(rt; closes(conn)?);
+    is_rest(rt, alloc, conn, "closed 0 Conn left 0\nended NoMemory\n")
+}
+
+#[test]
+fn one_that_was_refused_memory_serves_its_own_end(rt: HostRuntime) -> Result<(), Fail> {
+    let mut conn = tunneled(rt.alloc())?;
+    conn.fail(End::NoMemory);
+    serves_its_end(&rt, rt.alloc(), &mut conn)
 }

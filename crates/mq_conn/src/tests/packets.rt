@@ -1,8 +1,10 @@
 //! Tunnels for IP packets: how one opens, what it asks of the book, and the way of its packets (RFC 9484).
 
-use super::{Outside, WILLING, copied, told, tunneled_by};
-use mq_talk::{Cause, From, Note, Place, Verdict};
+use super::{Outside, WILLING, add_line, copied, is, is_line, settles, told, tunneled_by};
+use crate::Conn;
+use mq_talk::{From, Place, Verdict};
 use std::alloc::Global;
+use std::process::Abort;
 use std::test::Fail;
 
 /// A request for a tunnel for IP packets.
@@ -26,6 +28,20 @@ const ANY_ADDRESS: &[u8] = b"\x02\x07\x01\x04\x00\x00\x00\x00\x20";
 /// What is done from the request on, where its tunnel opens.
 fn open(alloc: Global, rest: &str) -> Result<String, Fail> {
     Ok(format!(in alloc; "opened 0 0 0 ip\ncontrol 0 0300\nwrote {SWITCHING}\n{rest}")?)
+}
+
+/// With these bytes behind the request, whose tunnel opens, this is done.
+fn opens(
+    rt: &impl Abort,
+    alloc: Global,
+    outside: Outside,
+    bytes: &[u8],
+    want: &str,
+) -> Result<(), Fail> {
+    let text = told(alloc, outside, &[REQUEST, bytes], false)?;
+    let want = open(alloc, want)?;
+    is(rt, text.as_str(), want.as_str());
+    Ok(())
 }
 
 #[test]
@@ -77,8 +93,7 @@ fn capsules_of_a_tunnel(rt: HostRuntime) -> Result<(), Fail> {
         (WILLING, b"\x03\x00", "advertised 0 at 1 true\n"),
     ];
     for (outside, bytes, want) in rows {
-        let text = told(rt.alloc(), outside, &[REQUEST, bytes], false)?;
-        assert_eq!(rt; text, open(rt.alloc(), want)?);
+        opens(&rt, rt.alloc(), outside, bytes, want)?;
     }
     Ok(())
 }
@@ -94,29 +109,61 @@ fn the_book_refuses_a_tunnel(rt: HostRuntime) -> Result<(), Fail> {
     Ok(())
 }
 
+/// This text so many times.
+fn repeated(alloc: Global, text: &str, count: usize) -> Result<String, Fail> {
+    let mut all = String::new(alloc);
+    for _ in 0..count {
+        all.push_str(text)?;
+    }
+    Ok(all)
+}
+
+/// A request for an address so many times.
+fn asked(alloc: Global, count: usize) -> Result<Vec<u8>, Fail> {
+    let mut all = Vec::new(alloc);
+    for _ in 0..count {
+        all.extend_from_slice(ANY_ADDRESS)?;
+    }
+    Ok(all)
+}
+
 #[test]
 fn a_seventeenth_value_closes(rt: HostRuntime) -> Result<(), Fail> {
-    let mut asked = Vec::new(rt.alloc());
-    let mut want = String::new(rt.alloc());
-    for _ in 0..17 {
-        asked.extend_from_slice(ANY_ADDRESS)?;
-    }
-    for _ in 0..16 {
-        want.push_str("assigned 0 at 1 #0\n")?;
-    }
+    let asked = asked(rt.alloc(), 17)?;
+    let mut want = repeated(rt.alloc(), "assigned 0 at 1 #0\n", 16)?;
     want.push_str("closed 0 Full left 0\nended Tunnel\n")?;
-    let text = told(rt.alloc(), WILLING, &[REQUEST, asked.as_slice()], false)?;
-    assert_eq!(rt; text, open(rt.alloc(), want.as_str())?);
-    Ok(())
+    opens(&rt, rt.alloc(), WILLING, asked.as_slice(), want.as_str())
+}
+
+/// What a connection does when this packet is delivered to tunnel 0.
+fn delivers(
+    alloc: Global,
+    conn: &mut Conn,
+    from: From,
+    packet: &[u8],
+    text: &mut String,
+) -> Result<(), Fail> {
+    let packet = copied(alloc, packet)?;
+    let note = conn.deliver(from, 3, 0, packet);
+    add_line(alloc, text, &note)?;
+    settles(alloc, conn, WILLING, text)
 }
 
 /// What a delivery to tunnel 0 of this packet is.
 fn delivered(alloc: Global, from: From, packet: &[u8]) -> Result<String, Fail> {
+    let mut text = String::new(alloc);
     let mut conn = tunneled_by(alloc, REQUEST)?;
-    let note = conn.deliver(from, 3, 0, copied(alloc, packet)?);
-    let mut text = super::line(alloc, &note)?;
-    super::settles(alloc, &mut conn, WILLING, &mut text)?;
+    delivers(alloc, &mut conn, from, packet, &mut text)?;
     Ok(text)
+}
+
+/// The packet of that capsule, where it may go so many hops.
+fn packet_of(alloc: Global, hops: u8) -> Result<Vec<u8>, Fail> {
+    let mut packet = Vec::from_slice(alloc, PACKET.get(3..).unwrap_or(&[]))?;
+    if let Some(place) = packet.get_mut(8) {
+        *place = hops;
+    }
+    Ok(packet)
 }
 
 #[test]
@@ -126,23 +173,22 @@ fn packets_for_a_tunnel(rt: HostRuntime) -> Result<(), Fail> {
     let want = format!(in rt.alloc();
         "queued net 3 to 0\ndelivered net 3 to 0 {ONWARD}\nwrote 001f00{ONWARD}\n"
     )?;
-    assert_eq!(rt; text, want);
-    let mut last = Vec::from_slice(rt.alloc(), packet)?;
-    if let Some(hops) = last.get_mut(8) {
-        *hops = 1;
-    }
-    let text = delivered(rt.alloc(), From::Tunnel(5), last.as_slice())?;
-    assert_eq!(rt; text.as_str(), "dropped 5 3 HopLimit\n");
+    is(&rt, text.as_str(), want.as_str());
+    Ok(())
+}
+
+#[test]
+fn a_packet_on_its_last_hop(rt: HostRuntime) -> Result<(), Fail> {
+    let packet = packet_of(rt.alloc(), 1)?;
+    let text = delivered(rt.alloc(), From::Tunnel(5), packet.as_slice())?;
+    is(&rt, text.as_str(), "dropped 5 3 HopLimit\n");
     Ok(())
 }
 
 #[test]
 fn a_packet_for_another_tunnel(rt: HostRuntime) -> Result<(), Fail> {
+    let packet = copied(rt.alloc(), b"hi")?;
     let mut conn = tunneled_by(rt.alloc(), REQUEST)?;
-    let note = conn.deliver(From::Net, 3, 1, copied(rt.alloc(), b"hi")?);
-    let Note::Dropped { from, n, cause } = note else {
-        return Err(Fail::from("it isn't dropped"));
-    };
-    assert_eq!(rt; (from, n, cause), (From::Net, 3, Cause::Gone));
-    Ok(())
+    let note = conn.deliver(From::Net, 3, 1, packet);
+    is_line(&rt, rt.alloc(), &note, "dropped net 3 Gone\n")
 }

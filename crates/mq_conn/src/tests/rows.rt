@@ -1,8 +1,9 @@
 //! Worked rows: what a client sends, and what is done.
 
-use super::{Outside, REQUEST, SWITCHING, WILLING, told};
+use super::{Outside, REQUEST, SWITCHING, WILLING, is, told};
 use mq_outside::PortPut;
 use std::alloc::Global;
+use std::process::Abort;
 use std::test::Fail;
 
 /// What is done from the request on, where its tunnel opens.
@@ -10,9 +11,19 @@ fn open(alloc: Global, rest: &str) -> Result<String, Fail> {
     Ok(format!(in alloc; "ported 0 0\nopened 0 0 0 udp\nwrote {SWITCHING}\n{rest}")?)
 }
 
-/// What is done with these bytes behind a request whose tunnel opens.
-fn behind(alloc: Global, outside: Outside, bytes: &[u8], ends: bool) -> Result<String, Fail> {
-    told(alloc, outside, &[REQUEST, bytes], ends)
+/// With these bytes behind a request whose tunnel opens, this is done.
+fn opens(
+    rt: &impl Abort,
+    alloc: Global,
+    outside: Outside,
+    bytes: &[u8],
+    ends: bool,
+    want: &str,
+) -> Result<(), Fail> {
+    let text = told(alloc, outside, &[REQUEST, bytes], ends)?;
+    let want = open(alloc, want)?;
+    is(rt, text.as_str(), want.as_str());
+    Ok(())
 }
 
 #[test]
@@ -53,22 +64,39 @@ fn capsules_of_a_tunnel(rt: HostRuntime) -> Result<(), Fail> {
         (&[0], true, "closed 0 Truncated left 0\nended Truncated\n"),
     ];
     for (bytes, ends, want) in rows {
-        let text = behind(rt.alloc(), WILLING, bytes, ends)?;
-        assert_eq!(rt; text, open(rt.alloc(), want)?);
+        opens(&rt, rt.alloc(), WILLING, bytes, ends, want)?;
     }
     Ok(())
 }
 
-/// What is done where a request is refused with this status line.
-fn refused(alloc: Global, status: &str, before: &str) -> Result<String, Fail> {
+/// What is written where a request is refused with this status line, in hex.
+fn refusal(alloc: Global, status: &str) -> Result<String, Fail> {
     let text = format!(in alloc;
         "HTTP/1.1 {status}\r\nConnection: close\r\nContent-Length: 0\r\n\r\n"
     )?;
-    let hex = hex::encode(alloc, text.as_bytes())?;
-    let Some((code, _)) = status.split_once(' ') else {
-        return Err(Fail::from("no status"));
-    };
+    Ok(hex::encode(alloc, text.as_bytes())?)
+}
+
+/// What is done where a request is refused with this status line.
+fn refused(alloc: Global, status: &str, before: &str) -> Result<String, Fail> {
+    let hex = refusal(alloc, status)?;
+    let (code, _) = status.split_once(' ').unwrap_or((status, ""));
     Ok(format!(in alloc; "{before}refused 0 0 {code} 0\nwrote {hex}\nended Refused\n")?)
+}
+
+/// With these pieces, the request is refused with this status line.
+fn refuses(
+    rt: &impl Abort,
+    alloc: Global,
+    outside: Outside,
+    pieces: &[&[u8]],
+    status: &str,
+    before: &str,
+) -> Result<(), Fail> {
+    let text = told(alloc, outside, pieces, false)?;
+    let want = refused(alloc, status, before)?;
+    is(rt, text.as_str(), want.as_str());
+    Ok(())
 }
 
 /// A request for a tunnel of this kind by this path.
@@ -76,6 +104,21 @@ fn request(alloc: Global, kind: &str, path: &str) -> Result<String, Fail> {
     Ok(format!(in alloc;
         "GET {path} HTTP/1.1\r\nHost: example.org\r\nConnection: Upgrade\r\nUpgrade: {kind}\r\n\r\n"
     )?)
+}
+
+/// A request for a tunnel of this kind by this path is refused with this status line.
+fn refuses_path(
+    rt: &impl Abort,
+    alloc: Global,
+    kind: &str,
+    path: &str,
+    status: &str,
+) -> Result<(), Fail> {
+    let request = request(alloc, kind, path)?;
+    let text = told(alloc, WILLING, &[request.as_bytes()], false)?;
+    let want = refused(alloc, status, "")?;
+    assert_eq!(rt; text.as_str(), want.as_str(), "at {path}");
+    Ok(())
 }
 
 #[test]
@@ -116,17 +159,13 @@ fn requests_that_are_refused(rt: HostRuntime) -> Result<(), Fail> {
         ("websocket", "/chat", "501 Not Implemented"),
     ];
     for (kind, path, status) in rows {
-        let request = request(rt.alloc(), kind, path)?;
-        let text = told(rt.alloc(), WILLING, &[request.as_bytes()], false)?;
-        assert_eq!(rt; text, refused(rt.alloc(), status, "")?, "at {path}");
+        refuses_path(&rt, rt.alloc(), kind, path, status)?;
     }
-    for head in ["GET / HTTP/1.1\r\n\r\n", "PRI * HTTP/1.1\r\n\r\n"] {
-        let text = told(rt.alloc(), WILLING, &[head.as_bytes()], false)?;
-        assert_eq!(rt;
-            text,
-            refused(rt.alloc(), "400 Bad Request", "")?,
-            "at {head}"
-        );
+    for head in [
+        b"GET / HTTP/1.1\r\n\r\n".as_slice(),
+        b"PRI * HTTP/1.1\r\n\r\n",
+    ] {
+        refuses(&rt, rt.alloc(), WILLING, &[head], "400 Bad Request", "")?;
     }
     Ok(())
 }
@@ -137,22 +176,30 @@ fn what_the_outside_refuses(rt: HostRuntime) -> Result<(), Fail> {
         binds: false,
         ..WILLING
     };
-    let text = behind(rt.alloc(), unbound, &[0, 3, 0, 1, 2], false)?;
-    assert_eq!(rt; text, refused(rt.alloc(), "502 Bad Gateway", "")?);
+    let pieces = [REQUEST, [0, 3, 0, 1, 2].as_slice()];
+    refuses(&rt, rt.alloc(), unbound, &pieces, "502 Bad Gateway", "")?;
     let full = Outside {
         opens: false,
         ..WILLING
     };
-    let text = behind(rt.alloc(), full, &[0, 3, 0, 1, 2], false)?;
-    assert_eq!(rt;
-        text,
-        refused(rt.alloc(), "503 Service Unavailable", "ported 0 0\n")?
-    );
+    refuses(
+        &rt,
+        rt.alloc(),
+        full,
+        &pieces,
+        "503 Service Unavailable",
+        "ported 0 0\n",
+    )?;
     let failing = Outside {
         put: PortPut::Failed,
         ..WILLING
     };
-    let text = behind(rt.alloc(), failing, &[0, 3, 0, 1, 2], false)?;
-    assert_eq!(rt; text, open(rt.alloc(), "dropped 0 0 Port\n")?);
-    Ok(())
+    opens(
+        &rt,
+        rt.alloc(),
+        failing,
+        &[0, 3, 0, 1, 2],
+        false,
+        "dropped 0 0 Port\n",
+    )
 }

@@ -99,7 +99,7 @@ pub named_once : IsSingle IsNamed
 named_once text a b h k = h.1 ∙ sym k.1
 
 pub template_once : IsCutOnce → (kind : Kind) → IsSingle (IsTemplateOf kind)
-template_once once kind text a b h k = one_template once kind text a b h.0 h.1 k.0 k.1
+template_once once kind text a b h k = one_template once text a b h.0 k.0
 
 no_addr_space : is_addr_byte 32 ≡ false
 unfolding is_addr_byte

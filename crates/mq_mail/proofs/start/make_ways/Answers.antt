@@ -2,11 +2,11 @@ use Rattle.std.proofs.Common.{◌≡◌, ◌<◌, ℕ, List, length, map, sym, a
 use lib.ListN.{length-map}
 use Rattle.mq_mail.specs.declared.inbox_rule.Part.{Part}
 use Rattle.mq_mail.specs.Keys.{InboxPass}
-use Rattle.mq_mail.specs.Made.{AreHalfway, AreWaysTo}
+use Rattle.mq_mail.specs.Made.{AreWaysTo}
 use Rattle.mq_mail.specs.PostParts.{inbox_id}
 use Rattle.mq_mail.proofs.InboxMoves.{makes}
 use Rattle.mq_mail.proofs.KeyMoves.{at_map, read_at}
-use Rattle.mq_mail.proofs.MatrixMoves.{half_length, half_at, half_more, half_all, ways_more}
+use Rattle.mq_mail.proofs.MatrixMoves.{AreHalfway, half_length, half_at, half_more, half_all, ways_more}
 use Rattle.mq_mail.proofs.start.make_ways.Goals as goal
 
 pub loop-i-init : goal.loop-i-init

@@ -1,5 +1,6 @@
 use Rattle.std.proofs.Common.{map}
-use Rattle.mq_mail.specs.Made.{AreHalfway, AreWaysTo}
+use Rattle.mq_mail.specs.Made.{AreWaysTo}
+use Rattle.mq_mail.proofs.MatrixMoves.{AreHalfway}
 use Rattle.mq_mail.specs.PostParts.{inbox_id}
 use Rattle.mq_mail.proofs.start.make_ways.Given as goal
 

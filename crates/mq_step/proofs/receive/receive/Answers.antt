@@ -1,7 +1,7 @@
 use Rattle.std.proofs.Common.{rules, ◌≡◌, ℕ, ◌+◌, suc, List, length, slice_get, Option, Result, Ok, Err, refl, sym, ap, subst, ◌∙◌, arith}
 use Rattle.std.specs.Vec.{vec_len}
 use Rattle.mq_wire.specs.declared.NoMemory.{NoMemory}
-use Rattle.mq_talk.specs.Mails.{Boxes}
+use Rattle.mq_talk.specs.Mails.{Inboxes}
 use Rattle.mq_talk.specs.Offices.{Seen}
 use Rattle.mq_machine.specs.Acting.{binder}
 use Rattle.mq_held.specs.declared.held.Held.{Held as HeldBy}
@@ -72,7 +72,7 @@ returns-in_err-stepped-clause-gives g c = λ o n so sn s held wait setup.
     let sees = sees_mid most holds g.P.P.Port.past counts table c.loop-place.table.table old o s c.loop-place.place held so.of_table.ports i.passed g.L.Link.holds g.L.Link.counts
     (binder g.P.Ports.holds g.P.Ports.faults c.loop-place.table.ports) mid_held (ap (λ h. h.number) i.rest) (ap (λ h. h.link) i.rest) i.stays so.of_link (so.of_table.binds_are ∙ sym i.calm.1) in
     let E : Seen → Type 0 = λ x. Gives setup (receive_alone seat.0.tunnel) (ReceivesWait seat.0.tunnel) (mid o o.link_counts pc) n x (g.O.Office.seen office) (g.M.Mail.boxes c.args.mail.now) (g.M.Mail.boxes c.receive_at.new.mail) (IsHeld most after.table new) s (Err c.in_err-stepped.field-0.0) in
-    let B : Option Boxes → Type 0 = λ x. Gives setup (receive_alone seat.0.tunnel) (ReceivesWait seat.0.tunnel) (mid o o.link_counts pc) n (g.O.Office.seen c.loop-place.office) (g.O.Office.seen office) x (g.M.Mail.boxes c.receive_at.new.mail) (IsHeld most after.table new) s (Err c.in_err-stepped.field-0.0) in
+    let B : Inboxes → Type 0 = λ x. Gives setup (receive_alone seat.0.tunnel) (ReceivesWait seat.0.tunnel) (mid o o.link_counts pc) n (g.O.Office.seen c.loop-place.office) (g.O.Office.seen office) x (g.M.Mail.boxes c.receive_at.new.mail) (IsHeld most after.table new) s (Err c.in_err-stepped.field-0.0) in
     let gives = subst E i.calm.0 (subst B i.calm.2 (c.in_err-stepped.ensures.gives (mid o o.link_counts pc) n sees sn s (i.still s held wait) wait setup seat.0 there)) in
     err_gives setup o n (g.O.Office.seen c.args.office.now) (g.O.Office.seen office) (g.M.Mail.boxes c.args.mail.now) (g.M.Mail.boxes c.receive_at.new.mail) (IsHeld most after.table new) s c.in_err-stepped.field-0.0 c.from_residual.result c.from_residual.ensures.0
     (seat_gives most holds g.P.P.Port.past counts table c.loop-place.table.table old o s c.loop-place.place held so.of_table.ports i.passed seat.0 seat.1 setup n (g.O.Office.seen c.args.office.now) (g.O.Office.seen office) (g.M.Mail.boxes c.args.mail.now) (g.M.Mail.boxes c.receive_at.new.mail)
@@ -112,7 +112,7 @@ returns-in_default g c = record {
       let sees = sees_mid most holds g.P.P.Port.past counts table c.loop-place.table.table old o s c.loop-place.place held so.of_table.ports i.passed g.L.Link.holds g.L.Link.counts
       (binder g.P.Ports.holds g.P.Ports.faults c.loop-place.table.ports) mid_held (ap (λ h. h.number) i.rest) (ap (λ h. h.link) i.rest) i.stays so.of_link (so.of_table.binds_are ∙ sym i.calm.1) in
       let E : Seen → Type 0 = λ x. Gives setup (receive_alone seat.0.tunnel) (ReceivesWait seat.0.tunnel) (mid o o.link_counts pc) n x (g.O.Office.seen office) (g.M.Mail.boxes c.args.mail.now) (g.M.Mail.boxes c.receive_at.new.mail) (IsHeld most after.table new) s (Ok c.in_ok-stepped.stepped) in
-      let B : Option Boxes → Type 0 = λ x. Gives setup (receive_alone seat.0.tunnel) (ReceivesWait seat.0.tunnel) (mid o o.link_counts pc) n (g.O.Office.seen c.loop-place.office) (g.O.Office.seen office) x (g.M.Mail.boxes c.receive_at.new.mail) (IsHeld most after.table new) s (Ok c.in_ok-stepped.stepped) in
+      let B : Inboxes → Type 0 = λ x. Gives setup (receive_alone seat.0.tunnel) (ReceivesWait seat.0.tunnel) (mid o o.link_counts pc) n (g.O.Office.seen c.loop-place.office) (g.O.Office.seen office) x (g.M.Mail.boxes c.receive_at.new.mail) (IsHeld most after.table new) s (Ok c.in_ok-stepped.stepped) in
       let gives = subst E i.calm.0 (subst B i.calm.2 (c.in_ok-stepped.ensures.gives (mid o o.link_counts pc) n sees sn s (i.still s held wait) wait setup seat.0 there)) in
       seat_gives most holds g.P.P.Port.past counts table c.loop-place.table.table old o s c.loop-place.place held so.of_table.ports i.passed seat.0 seat.1 setup n (g.O.Office.seen c.args.office.now) (g.O.Office.seen office) (g.M.Mail.boxes c.args.mail.now) (g.M.Mail.boxes c.receive_at.new.mail)
       (IsHeld most after.table new) (Ok c.in_ok-stepped.stepped) (λ is. c.in_default.not-Quiet (same_ok c.in_ok-stepped.stepped Quiet is)) gives;
@@ -184,7 +184,7 @@ returns-clause-gives g c = λ o n so sn s held wait setup.
     let P : List PortSeat → Type 0 = λ xs. SeesPorts holds counts after n xs in
     let mail = g.M.Mail.boxes c.args.mail.now in
     let W : Seen → Type 0 = λ x. Waited receives_of o n seen x mail (g.M.Mail.boxes c.loop-place.mail) s in
-    let V : Option Boxes → Type 0 = λ x. Waited receives_of o n seen seen mail x s in (
+    let V : Inboxes → Type 0 = λ x. Waited receives_of o n seen seen mail x s in (
       subst W (sym i.calm.0) (subst V (sym i.calm.2) (all_waited most holds g.P.P.Port.past counts table after old o s c.loop-place.place held so.of_table.ports i.passed g.L.Link.holds g.L.Link.counts c.loop-place.held n seen mail
           (omega (arith, len, end, out)) (ap (λ h. h.number) i.rest) (ap (λ h. h.link) i.rest) so.of_link sn.of_link (subst P i.stays sn.of_table.ports)
           (sn.of_table.binds_are ∙ i.calm.1 ∙ sym so.of_table.binds_are))),

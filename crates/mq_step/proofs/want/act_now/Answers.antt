@@ -2,7 +2,7 @@ use Rattle.std.proofs.Common.{false, refl}
 use Rattle.mq_machine.specs.Acting.{binder}
 use Rattle.mq_machine.specs.Want.{Said, want_of}
 use Rattle.mq_step.proofs.Binding.{Stays, held_back, sinks_alone}
-use Rattle.mq_step.proofs.Cores.{hands_alive}
+use Rattle.mq_step.proofs.Cores.{hands_starve}
 use Rattle.mq_step.proofs.Filling.{none_changed}
 use Rattle.mq_step.proofs.Telling.{hands_can, hands_unbound}
 use Rattle.mq_step.proofs.Wanting.{mailed}
@@ -26,7 +26,7 @@ returns-in-Err-clause-gives g c = λ o n so sn s held orders.
     let stays : Stays g.P.P.Port.most g.P.P.Port.holds g.P.P.Port.counts binds binds table table old new o n s =
     record { held = held; keeps = none_changed table; seats = refl; number = refl; sees = so; sees_after = sn } in
     let x = sinks_alone g.P.P.Port.most g.P.P.Port.holds g.P.P.Port.counts binds binds table table old new o n s stays seen m orders (want_of s.conn) Said false refl
-    (hands_can (want_of s.conn) hands) (hands_alive s.conn (want_of s.conn) refl hands)
+    (hands_can (want_of s.conn) hands) (hands_starve (want_of s.conn) hands)
     (hands_unbound g.P.P.Port.most table old.ports.items (want_of s.conn) old.bound hands held.bound)
     (c.fail.ensures.memory s.conn held.conn refl) (refl, refl, refl) (held_back g.P.P.Port.most g.P.P.Port.holds g.P.P.Port.counts binds binds table table old new o n s stays refl) in
     (x.left_is, x.starves, x.stands_for, x.told_is)

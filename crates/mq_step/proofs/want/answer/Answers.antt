@@ -45,7 +45,7 @@ returns-in_err-note-in-Say-clause-gives g c = λ o n so sn s held want.
     let bound = bound_none g.P.P.Port.most table old.ports.items (want_of s.conn) Say old.bound held.bound wanted in
     err_gives o n seen seen m.mail m.mail (IsHeld g.P.P.Port.most table new) s c.from_residual.result c.from_residual.ensures.0
     (λ orders.
-    let x = sinks_alone g.P.P.Port.most g.P.P.Port.holds g.P.P.Port.counts binds binds table table old new o n s stays seen m orders Say Said false wanted (λ ports. refl) (said_alive old.conn s.conn held.conn wanted) bound
+    let x = sinks_alone g.P.P.Port.most g.P.P.Port.holds g.P.P.Port.counts binds binds table table old new o n s stays seen m orders Say Said false wanted (λ ports. refl) refl bound
     (c.in_err-note-in-Say.ensures.answers s.conn held.conn) (refl, refl, refl) (held_back g.P.P.Port.most g.P.P.Port.holds g.P.P.Port.counts binds binds table table old new o n s stays refl) in
     (x.left_is, x.starves, x.stands_for, x.told_is))
 

@@ -8,5 +8,5 @@ use Rattle.mq_conn.proofs.conn.Conn.want_push.Goals as goal
 
 pub returns-in-Some : goal.returns-in-Some
 returns-in-Some c = λ n packet.
-    let P : Option machine.Tunnel → Type 0 = λ o. WantIs c.args.self.now.pump (want.Push c.inbox_of.result) (tunnel_want o (stream.Push n c.args.to packet)) in
-    subst P (sym c.in-Some.ensures) (record { is = (_, refl); pushes = c.inbox_of.ensures; may = tt })
+    let P : Option machine.Tunnel → Type 0 = λ o. WantIs c.args.self.now.pump (want.Push c.inbox.result) (tunnel_want o (stream.Push n c.args.to packet)) in
+    subst P (sym c.in-Some.ensures) (record { is = (_, refl); pushes = c.inbox.ensures; may = tt })

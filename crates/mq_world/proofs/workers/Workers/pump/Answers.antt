@@ -1,6 +1,6 @@
 use Rattle.std.proofs.Common.{Some, sym, ap, subst, ◌∙◌, arith}
 use Rattle.mq_machine.specs.Acting.{PumpSteps}
-use Rattle.mq_mem.specs.Mails.{Mail as MailOf}
+use Rattle.mq_mem.specs.Mails.{Mail as MailOf, shown}
 use Rattle.mq_mem.specs.Offices.{Office as OfficeOf, seen_of}
 use Rattle.mq_net.specs.Sims.{told}
 use Rattle.mq_pump.specs.Holds.{IsPump, pump_sight}
@@ -27,9 +27,9 @@ returns c = λ s is.
     let mail : MailOf = c.step.new.mail in
     let pump = c.step.new.self in
     let gives =
-    subst (λ (m : MailOf). PumpSteps (IsPump old.pump) (IsPump pump) (pump_sight (told old.pump.net) old.pump.net.counts (seen_of (record old.office { actor = k })) (Some m.boxes))
-    (pump_sight (told pump.net) pump.net.counts (seen_of office) (Some mail.boxes)) c.step.result) c.turn_to-2.ensures
-    (subst (λ (o : OfficeOf). PumpSteps (IsPump old.pump) (IsPump pump) (pump_sight (told old.pump.net) old.pump.net.counts (seen_of o) (Some c.turn_to-2.new.self.boxes))
-    (pump_sight (told pump.net) pump.net.counts (seen_of office) (Some mail.boxes)) c.step.result) c.turn_to.ensures c.step.ensures.gives) in
+    subst (λ (m : MailOf). PumpSteps (IsPump old.pump) (IsPump pump) (pump_sight (told old.pump.net) old.pump.net.counts (seen_of (record old.office { actor = k })) (shown m.boxes))
+    (pump_sight (told pump.net) pump.net.counts (seen_of office) (shown mail.boxes)) c.step.result) c.turn_to-2.ensures
+    (subst (λ (o : OfficeOf). PumpSteps (IsPump old.pump) (IsPump pump) (pump_sight (told old.pump.net) old.pump.net.counts (seen_of o) (shown c.turn_to-2.new.self.boxes))
+    (pump_sight (told pump.net) pump.net.counts (seen_of office) (shown mail.boxes)) c.step.result) c.turn_to.ensures c.step.ensures.gives) in
     pumped old s is k (c.count-number.ensures s is) office mail pump old.pump.net.counts pump.net.counts c.step.ensures.rest.1
     (c.step.ensures.office.1 ∙ ap (λ (o : OfficeOf). o.book.config) c.turn_to.ensures) c.step.result gives
