@@ -1,10 +1,10 @@
 -- Integers, byte by byte.
-use Rattle.std.proofs.Common.{◌≡◌, ℕ, ◌+◌, ◌-◌, ◌*◌, ◌%◌, ◌^◌, ◌<◌, ◌≤◌, zero, suc, cond, List, [], ◌∷◌, length, Result, Ok, Err, Some, None, refl, sym, ◌∙◌, ap, subst, arith, pow-suc, add-one, lit≤}
+use Rattle.std.proofs.Common.{◌≡◌, ℕ, ◌+◌, ◌-◌, ◌*◌, ◌%◌, ◌^◌, ◌<◌, ◌≤◌, zero, suc, cond, List, [], ◌∷◌, length, Some, None, Result, Ok, Err, refl, sym, ◌∙◌, ap, subst, arith, pow-suc, add-one, lit≤}
 use Rattle.std.proofs.lemmas.Bool.{lt-ltb, le-ltb}
 use Rattle.std.proofs.lemmas.Nat.{mul-le}
-use Rattle.std.specs.Prelude.{nat_lt}
-use Rattle.mq_hpack.specs.declared.fault.HpackFault.{HpackFault}
-use Rattle.mq_hpack.specs.Text.{IsFurther, IsInteger, IsWhole}
+use Rattle.std.proofs.lemmas.Option.{none-some, same_Some}
+use Rattle.std.specs.Prelude.{Option, nat_lt, OkIff}
+use Rattle.std.specs.Result.{result_ok}
 use Rattle.mq_hpack.specs.Integer.{further, integer_of}
 
 -- what a further byte is worth
@@ -25,10 +25,6 @@ part_small b w h k = mul-le b w 255 268435456 h k
 pub part_below : (b w : ℕ) → b ≤ 127 → b * w ≤ 127 * w
 part_below b w h = mul-le b w 127 w h (omega arith)
 
-pub none_left : (k w n : ℕ) → further k w n [] ≡ None
-none_left zero w n = refl
-none_left (suc k) w n = refl
-
 pub last_byte : (i w n b : ℕ) (bs : List ℕ) → i < 5 → b < 128 → further (5 - i) w n (b ∷ bs) ≡ cond (nat_lt (n + b * w) (2 ^ 32)) (Some (n + b * w, bs)) None
 last_byte i w n b bs h lt =
     let e : 5 - i ≡ suc (4 - i) = omega arith in
@@ -42,17 +38,27 @@ more_byte i w n b bs h le =
     ∙ ap (λ t. cond t (cond (nat_lt (n + b * w) (2 ^ 32)) (Some (n + b * w, bs)) None) (further (4 - i) (w * 128) (n + (b - 128) * w) bs)) (le-ltb b 128 le)
     ∙ ap (λ k. further k (w * 128) (n + (b - 128) * w) bs) f
 
-pub none_of : (k w n : ℕ) (xs : List ℕ) → length xs ≡ 0 → further k w n xs ≡ None
-none_of k w n [] h = none_left k w n
-none_of k w n (x ∷ xs) h = absurd (omega arith)
+-- a number that ends is given where it fits, and none where it doesn't
+pub whole_is : (n : ℕ) (after : List ℕ) → n < 2 ^ 32 → cond {A = Option (ℕ × List ℕ)} (nat_lt n (2 ^ 32)) (Some (n, after)) None ≡ Some (n, after)
+whole_is n after h = ap (λ t. cond t (Some (n, after)) None) (lt-ltb n (2 ^ 32) h)
 
--- a number that ends is whole, where it fits
-pub whole_is : (full n : ℕ) (bytes after : List ℕ) → further 5 1 full bytes ≡ cond (nat_lt n (2 ^ 32)) (Some (n, after)) None →
-    (r : Result (ℕ × List ℕ) HpackFault) → IsWhole n after r → IsFurther full bytes r
-whole_is full n bytes after e (Ok x) h =
-    e ∙ ap (λ t. cond t (Some (n, after)) None) (lt-ltb n (2 ^ 32) h.0) ∙ ap (λ y. Some y) (sym h.1)
-whole_is full n bytes after e (Err fault) h =
-    (h.0, e ∙ ap (λ t. cond t (Some (n, after)) None) (le-ltb n (2 ^ 32) h.1))
+pub too_large : (n : ℕ) (after : List ℕ) → 2 ^ 32 ≤ n → cond {A = Option (ℕ × List ℕ)} (nat_lt n (2 ^ 32)) (Some (n, after)) None ≡ None
+too_large n after h = ap (λ t. cond t (Some (n, after)) None) (le-ltb n (2 ^ 32) h)
+
+-- the last byte, as the code has it
+pub ended : (i w n b full : ℕ) (bytes rest : List ℕ) (first : ℕ) (after : List ℕ) → further 5 1 full bytes ≡ further (5 - i) w n rest → rest ≡ first ∷ after → b ≡ first → i < 5 → first < 128 →
+    further 5 1 full bytes ≡ cond (nat_lt (n + b * w) (2 ^ 32)) (Some (n + b * w, after)) None
+ended i w n b full bytes rest first after e f g h lt =
+    e ∙ ap (λ xs. further (5 - i) w n xs) (f ∙ ap (λ x. x ∷ after) (sym g)) ∙ last_byte i w n b after h (omega (arith, g, lt))
+
+-- what a conversion to 32 bits tells of the number
+pub fits : {E : Type 0} (r : Result ℕ E) (n w : ℕ) → OkIff r (n < 2 ^ 32) n → result_ok r ≡ Some w → (n < 2 ^ 32) × (w ≡ n)
+fits (Ok x) n w h e = (h.0, sym (same_Some x w e) ∙ h.1)
+fits (Err e) n w h k = absurd (none-some w k)
+
+pub fits_not : {E : Type 0} (r : Result ℕ E) (n : ℕ) → OkIff r (n < 2 ^ 32) n → result_ok r ≡ None → 2 ^ 32 ≤ n
+fits_not (Ok x) n h k = absurd (none-some x (sym k))
+fits_not (Err e) n h k = omega (arith, h)
 
 -- a first byte that isn't full
 pub first_byte : (prefix b : ℕ) (bs : List ℕ) → b % 2 ^ prefix < 2 ^ prefix - 1 → integer_of prefix (b ∷ bs) ≡ Some (b % 2 ^ prefix, bs)
@@ -67,11 +73,6 @@ pub no_byte : (prefix : ℕ) (bs : List ℕ) → length bs ≡ 0 → integer_of 
 unfolding integer_of
 no_byte prefix [] h = refl
 no_byte prefix (x ∷ xs) h = absurd (omega arith)
-
-pub further_is : (prefix full : ℕ) (bytes after : List ℕ) → integer_of prefix bytes ≡ further 5 1 full after →
-    (r : Result (ℕ × List ℕ) HpackFault) → IsFurther full after r → IsInteger prefix bytes r
-further_is prefix full bytes after e (Ok x) h = e ∙ h
-further_is prefix full bytes after e (Err fault) h = (h.0, e ∙ h.1)
 
 -- one less than a power of two, of up to eight bits
 pub full_small : (prefix : ℕ) → prefix ≤ 8 → 2 ^ prefix ≤ 256

@@ -28,7 +28,3 @@ then_so R S a (Err e) k h = inr (a, k, h)
 pub second : {X A B : Type 0} (view : X → B) (R : Result A HpackFault → Type 0) (S : A → Result B HpackFault → Type 0) (a : A) (r : Result X HpackFault) → R (Ok a) → Tells view (S a) r → Tells view (Then R S) r
 second view R S a (Ok x) k h = (a, k, h)
 second view R S a (Err e) k h = second_fault R S a e k h
-
-pub tells_weaker : {X A : Type 0} (view : X → A) (R S : Result A HpackFault → Type 0) → ((r : Result A HpackFault) → R r → S r) → (r : Result X HpackFault) → Tells view R r → Tells view S r
-tells_weaker view R S f (Ok x) h = f (Ok (view x)) h
-tells_weaker view R S f (Err e) h = told_weaker R S (λ e. f (Err e)) e h

@@ -1,9 +1,9 @@
 -- String literals (RFC 7541, section 5.2), and readings, which come to a value or to the first fault.
-use Rattle.std.specs.Prelude.{◌≡◌, ℕ, ◌^◌, ◌<◌, ◌≤◌, ◌⊎◌, Bool, true, false, List, length, take, drop, slice_index, nat_le, Some, None, Result, Ok, Err}
+use Rattle.std.specs.Prelude.{◌≡◌, ℕ, ◌<◌, ◌≤◌, ◌⊎◌, Bool, true, false, List, length, take, drop, slice_index, nat_le, Some, None, Result, Ok, Err}
 use Rattle.mq_huff.specs.Coded.{IsCoded, MeetsEos, IsBadlyPadded}
 use Rattle.mq_hpack.specs.declared.fault.HpackFault.{HpackFault}
 use Rattle.mq_hpack.specs.declared.fault.HpackFault.TheVariants.{Index, Integer, Text, Update, TooLarge, NoMemory}
-use Rattle.mq_hpack.specs.Integer.{further, integer_of}
+use Rattle.mq_hpack.specs.Integer.{integer_of}
 
 -- the answer is so, but where memory ran out
 abbrev pub Told : {A : Type 0} → (Result A HpackFault → Type 0) → Result A HpackFault → Type 0
@@ -24,15 +24,6 @@ Then {A} R S (Err e) = R (Err e) ⊎ ((a : A) × R (Ok a) × S a (Err e))
 abbrev pub IsInteger : ℕ → List ℕ → Result (ℕ × List ℕ) HpackFault → Type 0
 IsInteger prefix bytes (Ok found) = integer_of prefix bytes ≡ Some found
 IsInteger prefix bytes (Err fault) = (fault ≡ Integer) × (integer_of prefix bytes ≡ None)
-
--- the same, of the bytes behind a first byte that is full, and of a number with the bytes after it
-abbrev pub IsFurther : ℕ → List ℕ → Result (ℕ × List ℕ) HpackFault → Type 0
-IsFurther full bytes (Ok found) = further 5 1 full bytes ≡ Some found
-IsFurther full bytes (Err fault) = (fault ≡ Integer) × (further 5 1 full bytes ≡ None)
-
-abbrev pub IsWhole : ℕ → List ℕ → Result (ℕ × List ℕ) HpackFault → Type 0
-IsWhole n after (Ok found) = (n < 2 ^ 32) × (found ≡ (n, after))
-IsWhole n after (Err fault) = (fault ≡ Integer) × (2 ^ 32 ≤ n)
 
 -- what these bytes spell, in the Huffman code or as they are
 abbrev pub IsPlain : Bool → List ℕ → Result (List ℕ) HpackFault → Type 0

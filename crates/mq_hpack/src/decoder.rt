@@ -1,5 +1,5 @@
 //! The decoder of a connection's field blocks.
-ghost use Rattle.std.specs.Prelude.{◌≡◌, ◌≤◌, ◌++◌, List, [], ◌∷◌, OnOk, IfErr, IfOk};
+ghost use Rattle.std.specs.Prelude.{◌≡◌, ◌≤◌, ◌++◌, List, [], ◌∷◌, OnOk, IfOk};
 ghost use Rattle.std.specs.List.{sum_by};
 ghost use Rattle.mq_hpack.specs.Block.{Reads};
 ghost use Rattle.mq_hpack.specs.Decoder.{new_state, held, Answers};
@@ -11,7 +11,7 @@ use crate::fault::HpackFault;
 use crate::field::{Field, Text};
 use crate::representation::{Representation, read_representation};
 use crate::table::{FieldTable, field_size};
-use mq_wire::Seq;
+use mq_wire::{NoMemory, Seq};
 use std::alloc::Global;
 use std::marker::Model;
 
@@ -131,9 +131,8 @@ fn gain(fields: &mut Vec<Field>, total: u32, field: Field) -> Result<u32, HpackF
 }
 
 /// Another field like this one.
-fn copy_of(alloc: Global, field: &Field) -> Result<Field, HpackFault>
-    ensures same { IfOk result (λ copy. copy ≡ field.now) }
-    ensures memory_alone { IfErr result (λ fault. fault ≡ HpackFault.NoMemory) }
+fn copy_of(alloc: Global, field: &Field) -> Result<Field, NoMemory>
+    ensures { IfOk result (λ copy. copy ≡ field.now) }
 {
     Ok(Field {
         name: Text::copy_of(alloc, field.name.as_slice())?,

@@ -1,5 +1,6 @@
 //! Why a block was not read.
 
+use mq_wire::NoMemory;
 use std::alloc::{AllocError, AllocFailed};
 use thiserror::Error;
 
@@ -44,6 +45,17 @@ impl<T: Drop> From<AllocFailed<T>> for HpackFault {
     ghost from_gives = { λ _ e. e ≡ NoMemory };
 
     fn from(_: AllocFailed<T>) -> HpackFault {
+        HpackFault::NoMemory
+    }
+}
+
+impl From<NoMemory> for HpackFault {
+    ghost use Rattle.std.specs.Prelude.{◌≡◌};
+    ghost use Rattle.mq_hpack.specs.declared.fault.HpackFault.TheVariants.{NoMemory};
+
+    ghost from_gives = { λ _ e. e ≡ NoMemory };
+
+    fn from(_: NoMemory) -> HpackFault {
         HpackFault::NoMemory
     }
 }

@@ -35,7 +35,7 @@ fn read_name<'a>(
     requires { (1 ≤ prefix) × (prefix ≤ 8) }
     ensures { Tells (λ x. (x.0, x.1.now)) (IsName table.now prefix bytes.now) result }
 {
-    let (index, after) = read_integer(prefix, bytes)?;
+    let (index, after) = read_integer(prefix, bytes).ok_or(HpackFault::Integer)?;
     name_at(alloc, table, index, after)
 }
 

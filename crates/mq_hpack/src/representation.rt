@@ -44,7 +44,7 @@ fn read_indexed<'a>(
 ) -> Result<(Representation, &'a [u8]), HpackFault>
     ensures { Tells (λ x. (x.0, x.1.now)) (IsOf Indexes table.now total bytes.now) result }
 {
-    let (index, rest) = read_integer(7, bytes)?;
+    let (index, rest) = read_integer(7, bytes).ok_or(HpackFault::Integer)?;
     let Some((name, value)) = table.field(index) else {
         return Err(HpackFault::Index);
     };
@@ -92,7 +92,7 @@ fn read_size_update<'a>(
     if total > 0 {
         return Err(HpackFault::Update);
     }
-    let (limit, rest) = read_integer(5, bytes)?;
+    let (limit, rest) = read_integer(5, bytes).ok_or(HpackFault::Integer)?;
     if limit > 4096 {
         return Err(HpackFault::Update);
     }

@@ -1,11 +1,11 @@
 //! The dynamic table (RFC 7541, sections 2.3 and 4), as a ring of fields.
-ghost use Rattle.std.specs.Prelude.{◌≡◌, ◌≤◌, ◌++◌, [], ◌∷◌, OnOk, IfErr, MatchOption};
+ghost use Rattle.std.specs.Prelude.{◌≡◌, ◌≤◌, ◌++◌, [], ◌∷◌, OnOk, MatchOption};
 ghost use Rattle.std.specs.List.{sum_by};
 ghost use Rattle.mq_hpack.specs.Table.{IsFound, field_at, fitting, new_table, size_of, with_field, with_limit};
 
-use crate::fault::HpackFault;
 use crate::field::Field;
 use crate::static_table::{COUNT, static_field};
+use mq_wire::NoMemory;
 use std::alloc::Global;
 use std::collections::VecDeque;
 use std::marker::Model;
@@ -54,9 +54,8 @@ impl FieldTable {
     }
 
     /// Puts a field in front, and drops the oldest fields that no longer fit.
-    pub fn store(&mut self, field: Field) -> Result<(), HpackFault>
-        ensures ok { OnOk result (self.new ≡ with_field field self.old) }
-        ensures memory_alone { IfErr result (λ fault. fault ≡ HpackFault.NoMemory) }
+    pub fn store(&mut self, field: Field) -> Result<(), NoMemory>
+        ensures { OnOk result (self.new ≡ with_field field self.old) }
     {
         let size = field_size(&field);
         if size > u128::from(self.limit) {

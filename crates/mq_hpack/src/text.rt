@@ -12,7 +12,7 @@ use std::alloc::Global;
 pub fn read_string(alloc: Global, bytes: &[u8]) -> Result<(Text, &[u8]), HpackFault>
     ensures { Tells (λ x. (x.0, x.1.now)) (IsString bytes.now) result }
 {
-    let (len, after) = read_integer(7, bytes)?;
+    let (len, after) = read_integer(7, bytes).ok_or(HpackFault::Integer)?;
     take_text(alloc, is_coded(bytes), len as usize, after)
 }
 

@@ -53,10 +53,8 @@ fn write_coded(out: &mut Vec<u8>, coded: u64, text: &[u8]) -> Result<(), NoMemor
     ensures { OnOk result (Appends out.old.items out.new.items (IsText text.now)) }
 {
     write_integer(out, 128, 7, coded)?;
-    match encode(out, text) {
-        Ok(()) => Ok(()),
-        Err(_) => Err(NoMemory),
-    }
+    encode(out, text)?;
+    Ok(())
 }
 
 /// Writes a string as it is.

@@ -1,31 +1,30 @@
 //! Encoding, by a word that collects the bits.
-ghost use Rattle.std.specs.Prelude.{◌≡◌, ◌+◌, ◌^◌, ◌<◌, ◌≤◌, ◌++◌, ◌-◌, OnErr, OnOk, IfErr, IfOk};
+ghost use Rattle.std.specs.Prelude.{◌≡◌, ◌+◌, ◌^◌, ◌<◌, ◌≤◌, ◌++◌, ◌-◌, OnErr, OnOk, IfOk};
 ghost use Rattle.mq_huff.specs.Code.{bits_of};
 ghost use Rattle.mq_huff.specs.Coded.{coded_of, joined};
 ghost use Rattle.mq_huff.specs.Encoded.{Appends, AppendsBits, AppendsCoded, AppendsPadded};
 
 use crate::codes::code_at;
-use crate::fault::HuffFault;
+use std::alloc::AllocError;
 
 /// Writes the code of a text at the end: each byte's code, and then ones up to a whole byte.
-pub fn encode(out: &mut Vec<u8>, text: &[u8]) -> Result<(), HuffFault>
+pub fn encode(out: &mut Vec<u8>, text: &[u8]) -> Result<(), AllocError>
     ensures ok { OnOk result (AppendsCoded out.old.items out.new.items text.now) }
     ensures spelled { OnOk result (out.new.items ≡ out.old.items ++ coded_of text.now) }
     ensures err { OnErr result (out.new.items ≡ out.old.items) }
-    ensures memory_alone { IfErr result (λ fault. fault ≡ HuffFault.NoMemory) }
 {
     let before = out.len();
     match append(out, text) {
         Ok(()) => Ok(()),
-        Err(_) => {
+        Err(fault) => {
             out.truncate(before);
-            Err(HuffFault::NoMemory)
+            Err(fault)
         }
     }
 }
 
 /// Writes the codes and the padding. What an `Err` leaves behind the old bytes is to be cut off.
-fn append(out: &mut Vec<u8>, text: &[u8]) -> Result<(), HuffFault>
+fn append(out: &mut Vec<u8>, text: &[u8]) -> Result<(), AllocError>
     ensures ok { OnOk result (AppendsPadded out.old.items out.new.items (joined text.now)) }
     ensures err { OnErr result (Appends out.old.items out.new.items) }
 {
@@ -57,7 +56,7 @@ fn with_bits(word: u64, waiting: u32, number: u64, size: u32) -> u64
 }
 
 /// Writes the upper 32 bits of those that wait, and gives the others.
-fn put_word(out: &mut Vec<u8>, word: u64, waiting: u32) -> Result<u64, HuffFault>
+fn put_word(out: &mut Vec<u8>, word: u64, waiting: u32) -> Result<u64, AllocError>
     requires fits { word < 2 ^ waiting }
     requires many { 32 ≤ waiting }
     requires room { waiting ≤ 62 }
@@ -71,7 +70,7 @@ fn put_word(out: &mut Vec<u8>, word: u64, waiting: u32) -> Result<u64, HuffFault
 }
 
 /// Writes the last bits, with ones up to a whole byte.
-fn finish(out: &mut Vec<u8>, word: u64, waiting: u32) -> Result<(), HuffFault>
+fn finish(out: &mut Vec<u8>, word: u64, waiting: u32) -> Result<(), AllocError>
     requires fits { word < 2 ^ waiting }
     requires few { waiting < 32 }
     ensures ok { OnOk result (AppendsPadded out.old.items out.new.items (bits_of waiting word)) }

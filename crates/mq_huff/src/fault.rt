@@ -1,9 +1,9 @@
-//! Why a text was not decoded or encoded.
+//! Why a text was not decoded.
 
 use std::alloc::{AllocError, AllocFailed};
 use thiserror::Error;
 
-/// Why a text was not decoded or encoded.
+/// Why a text was not decoded.
 #[derive(Clone, Copy, Debug, PartialEq, Eq, Error)]
 pub enum HuffFault {
     /// What follows the last symbol has eight or more bits, or a zero bit.

@@ -1,7 +1,7 @@
 //! Vectors from outside: the strings of RFC 7541, appendix C, and inputs that only a decoder with a
 //! hole takes.
 use crate::{HuffFault, decode, encode, encoded_len};
-use std::alloc::Global;
+use std::alloc::{AllocError, Global};
 use std::test::Fail;
 
 /// The strings in the examples of RFC 7541, appendices C.4 and C.6.
@@ -22,7 +22,7 @@ const VECTORS: [(&[u8], &[u8]); 13] = [
     (b"", &[]),
 ];
 
-fn encoded(alloc: Global, text: &[u8]) -> Result<Vec<u8>, HuffFault> {
+fn encoded(alloc: Global, text: &[u8]) -> Result<Vec<u8>, AllocError> {
     let mut out = Vec::new(alloc);
     encode(&mut out, text)?;
     Ok(out)
@@ -66,7 +66,7 @@ fn padding_and_eos_are_refused(rt: HostRuntime) {
 }
 
 /// A text of two symbols after so many times `0`, whose code has five bits.
-fn at_offset(alloc: Global, offset: usize, first: u8, second: u8) -> Result<Vec<u8>, HuffFault> {
+fn at_offset(alloc: Global, offset: usize, first: u8, second: u8) -> Result<Vec<u8>, AllocError> {
     let mut text = Vec::new(alloc);
     for _ in 0..offset {
         text.push(b'0')?;

@@ -1,15 +1,7 @@
-use Rattle.std.proofs.Common.{◌≡◌, ◌+◌, ◌-◌, ◌*◌, ◌∷◌, ◌∙◌, refl, ap, sym, arith}
+use Rattle.std.proofs.Common.{◌+◌, ◌-◌, ◌*◌, ◌∷◌, ◌∙◌, ap, sym, arith}
 use Rattle.mq_hpack.specs.Integer.{further}
-use Rattle.mq_hpack.specs.Text.{IsFurther, IsWhole}
-use Rattle.mq_hpack.proofs.Integers.{last_byte, more_byte, none_of, whole_is, part_small, part_below, worth_small, worth_next}
-use Rattle.mq_hpack.proofs.Readings.{tells_weaker}
+use Rattle.mq_hpack.proofs.Integers.{ended, more_byte, fits, fits_not, whole_is, too_large, part_small, part_below, worth_small, worth_next}
 use Rattle.mq_hpack.proofs.integer.read_further.Goals as goal
-
-pub loop-init : goal.loop-init
-loop-init c = record { read = refl; within = omega arith; worth = refl }
-
-pub returns-in_default : goal.returns-in_default
-returns-in_default c = (refl, c.loop.invariant.read ∙ none_of _ _ _ c.loop.rest.now c.in_default.ensures.cases)
 
 pub overflow_mul-from : goal.overflow_mul-from
 overflow_mul-from c =
@@ -26,14 +18,19 @@ overflow_add-number c =
     let w = c.loop.invariant.within in
     omega arith
 
+pub returns-in_err-whole : goal.returns-in_err-whole
+returns-in_err-whole c =
+    let n = c.loop.number + c.from.result * c.loop.worth in
+    let large = fits_not c.try_from.result n c.try_from.ensures (sym c.ok.ensures.value ∙ c.in_err-whole.was) in
+    rw c.from_residual-in_err-whole.ensures (sym (ended c.loop.counter c.loop.worth c.loop.number c.from.result c.args.full c.args.bytes.now c.loop.rest.now c.in_ok-byte.byte.now c.in_ok-byte.after.now
+    c.loop.invariant.read c.in_ok-byte.ensures.cases.0 c.from.ensures c.loop-test.true c.if-byte-lt128.true ∙ too_large n c.in_ok-byte.after.now large))
+
 pub returns-then-byte-lt128 : goal.returns-then-byte-lt128
 returns-then-byte-lt128 c =
-    let rest = c.in-Some.ensures.cases.0 in
-    let e = c.loop.invariant.read ∙ ap (λ xs. further (5 - c.loop.counter) c.loop.worth c.loop.number xs) rest
-    ∙ ap (λ b. further (5 - c.loop.counter) c.loop.worth c.loop.number (b ∷ c.in-Some.after.now)) (sym c.from.ensures)
-    ∙ last_byte c.loop.counter c.loop.worth c.loop.number c.from.result c.in-Some.after.now c.loop-test.true (omega arith) in
-    tells_weaker _ (IsWhole (c.loop.number + c.from.result * c.loop.worth) c.in-Some.after.now) (IsFurther c.args.full c.args.bytes.now)
-    (whole_is c.args.full (c.loop.number + c.from.result * c.loop.worth) c.args.bytes.now c.in-Some.after.now e) c.whole.result c.whole.ensures
+    let n = c.loop.number + c.from.result * c.loop.worth in
+    let whole = fits c.try_from.result n c.in_ok-whole.whole c.try_from.ensures (sym c.ok.ensures.value ∙ c.in_ok-whole.was) in
+    rw whole.1 (sym (ended c.loop.counter c.loop.worth c.loop.number c.from.result c.args.full c.args.bytes.now c.loop.rest.now c.in_ok-byte.byte.now c.in_ok-byte.after.now
+    c.loop.invariant.read c.in_ok-byte.ensures.cases.0 c.from.ensures c.loop-test.true c.if-byte-lt128.true ∙ whole_is n c.in_ok-byte.after.now whole.0))
 
 pub overflow_mul-number : goal.overflow_mul-number
 overflow_mul-number c =
@@ -58,19 +55,14 @@ overflow_mul-worth c =
 
 pub loop-preserved : goal.loop-preserved
 loop-preserved c =
-    let rest = c.in-Some.ensures.cases.0 in
+    let rest = c.in_ok-byte.ensures.cases.0 in
     let e = c.loop.invariant.worth in
     let p = part_below (c.from-in-loop.result - 128) c.loop.worth (omega arith) in
     let w = c.loop.invariant.within in
     record {
       read = c.loop.invariant.read ∙ ap (λ xs. further (5 - c.loop.counter) c.loop.worth c.loop.number xs) rest
-          ∙ ap (λ b. further (5 - c.loop.counter) c.loop.worth c.loop.number (b ∷ c.in-Some.after.now)) (sym c.from-in-loop.ensures)
-          ∙ more_byte c.loop.counter c.loop.worth c.loop.number c.from-in-loop.result c.in-Some.after.now c.loop-test.true (omega arith);
+          ∙ ap (λ b. further (5 - c.loop.counter) c.loop.worth c.loop.number (b ∷ c.in_ok-byte.after.now)) (sym c.from-in-loop.ensures)
+          ∙ more_byte c.loop.counter c.loop.worth c.loop.number c.from-in-loop.result c.in_ok-byte.after.now c.loop-test.true (omega arith);
       within = omega arith;
       worth = ap (λ n. n * 128) e ∙ worth_next c.loop.counter;
     }
-
-pub returns : goal.returns
-returns c =
-    let z : 5 - c.loop.counter ≡ 0 = omega arith in
-    (refl, c.loop.invariant.read ∙ ap (λ k. further k c.loop.worth c.loop.number c.loop.rest.now) z)
