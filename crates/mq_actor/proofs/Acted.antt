@@ -10,7 +10,7 @@ use Rattle.mq_talk.specs.declared.book.Entry.{Entry}
 use Rattle.mq_talk.specs.declared.note.Note.{Note}
 use Rattle.mq_talk.specs.declared.place.Parcel.{Parcel}
 use Rattle.mq_talk.specs.Answers.{IsLegal}
-use Rattle.mq_talk.specs.Mails.{Boxes, IsTold, Inboxes}
+use Rattle.mq_talk.specs.Mails.{Boxes, IsTold}
 use Rattle.mq_machine.specs.Placing.{ArePlaced}
 use Rattle.mq_machine.specs.State.{Conn, Held, Offer, Worker, Tunnel, Orders, Shared}
 use Rattle.mq_machine.specs.Steps.{starved}

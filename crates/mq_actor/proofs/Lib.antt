@@ -9,6 +9,7 @@ pub mod InRing
 pub mod Lists
 pub mod Going
 pub mod Writing
+mod Asking
 mod Searches
 mod Shapes
 mod Beside

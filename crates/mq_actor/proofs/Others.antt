@@ -5,7 +5,7 @@ use Rattle.std.specs.Prelude.{⊤, if◌then◌else◌}
 use Rattle.std.proofs.lemmas.List.Elements.{All-nil}
 use Rattle.slab.specs.Slab.{Slab}
 use Rattle.mq_talk.specs.declared.place.Parcel.{Parcel}
-use Rattle.mq_talk.specs.Mails.{Boxes, IsTold, Inboxes}
+use Rattle.mq_talk.specs.Mails.{Boxes, IsTold}
 use Rattle.mq_machine.specs.State.{Conn, Link, Offer, Held}
 use Rattle.mq_machine.specs.Acting.{Outside, PortsTold, ConnsTold, WasInbox}
 use Rattle.mq_held.specs.declared.held.Held.{Held as HeldBy}

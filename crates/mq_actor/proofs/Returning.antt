@@ -360,6 +360,10 @@ module _ {L Q : Type 0} (words : Words L Q) (self : Ring L) (old : Moment L Q) (
           so_far words (begun self) old count starts three mid (AllUpper self.next_seat) (InUpper self.next_seat 0) (InUpper self.next_seat 1) passed three_is first.1
           (own_upper old.boxes count self.id (own_place o x is known) (fit o x known) self.next_seat boxes_one pops)
 
+      -- the mail tells as before
+      pub told_later : mid.boxes.told ≡ old.boxes.told
+      told_later = ap (λ (m : Inboxes). m.told) passed.boxes
+
       pub known_later : AreKnown words old → AreKnown words mid
       known_later k = known_passed words old mid (AllUpper self.next_seat) passed k
 
@@ -388,6 +392,10 @@ module _ {L Q : Type 0} (words : Words L Q) (self : Ring L) (old : Moment L Q) (
         offers_wait : OffersWait (begun self)
         offers_wait = offers_waited words (begun self) old count starts three three_is as_long first.1
             (λ down. second.1 (ap (λ (k : ℕ). is_in_part false k 0) next_is ∙ down))
+
+        -- the next search still begins where it did
+        pub seat_later : four.next_seat ≡ one.next_seat
+        seat_later = ap (λ (z : Ring L). z.next_seat) second.0 ∙ next_is ∙ ap (λ (z : Ring L). z.next_seat) (sym first.0)
 
         so_four : (o : Outside) (x : Worker) → IsWorker words.most old.table self x → Known (sight o old.seen old.boxes) x
             → SoFar words (begun self) three old mid count (AllUpper self.next_seat) ⊤ (InUpper self.next_seat 1)

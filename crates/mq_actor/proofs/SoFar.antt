@@ -1,5 +1,5 @@
 -- What went before the seat that acts: each seat that was tried was in vain.
-use Rattle.std.proofs.Common.{◌≡◌, ◌⊎◌, ℕ, ◌+◌, ◌≤◌, List, [], length, slice_get, Option, Some}
+use Rattle.std.proofs.Common.{◌≡◌, ◌⊎◌, ℕ, ◌+◌, ◌≤◌, List, [], length, slice_get, Some}
 use Rattle.mq_talk.specs.declared.place.Parcel.{Parcel}
 use Rattle.mq_talk.specs.Mails.{Boxes, IsTold, Inboxes}
 use Rattle.mq_machine.specs.State.{Held, Worker}

@@ -7,7 +7,7 @@ use Rattle.mq_talk.specs.declared.place.Cause.TheVariants as cause
 use Rattle.mq_talk.specs.declared.place.Parcel.{Parcel}
 use Rattle.mq_talk.specs.declared.place.Place.{Place}
 use Rattle.mq_talk.specs.declared.place.Place.TheVariants as place
-use Rattle.mq_talk.specs.Mails.{PopGives, Inboxes}
+use Rattle.mq_talk.specs.Mails.{Boxes, PopGives, Inboxes, missed_by}
 use Rattle.mq_machine.specs.State.{Conn, new_conn, tunnel_of}
 use Rattle.mq_machine.specs.Turn.{most_live, source_of}
 use Rattle.mq_conn.specs.declared.conn.Conn.{Conn as Core}
@@ -135,3 +135,8 @@ InboxGives count old id upper r s None new =
     × (is_in_part upper r.next_seat 1 ≡ false → new ≡ old)
 InboxGives count old id upper r s (Some said) new =
     (is_in_part upper r.next_seat 1 ≡ true) × Takes count old id r s said new
+
+-- what was missed behind it
+abbrev pub missed_at : {A : Type 0} → Bool → Option A → Option Boxes → ℕ → ℕ
+missed_at true answer told missed = missed_by answer told missed
+missed_at false answer told missed = missed

@@ -1,5 +1,4 @@
 -- What a step of a worker promises.
-use Rattle.std.specs.Prelude.{Option}
 use Rattle.mq_talk.specs.Mails.{Inboxes}
 use Rattle.mq_talk.specs.Offices.{Seen}
 use Rattle.mq_machine.specs.Acting.{Outside, Sight}

@@ -1,6 +1,6 @@
 //! A worker.
-ghost use Rattle.std.specs.Prelude.{◌≡◌, ◌≢◌, ◌+◌, ◌++◌, ◌∷◌, true, Some, None, IfOk, OnOk, IfErr, MatchOption, All, [], length};
-ghost use Rattle.mq_talk.specs.Mails.{Boxes};
+ghost use Rattle.std.specs.Prelude.{◌≡◌, ◌≢◌, ◌+◌, ◌++◌, ◌∷◌, true, Some, None, Ok, IfOk, OnOk, IfErr, MatchOption, All, [], length};
+ghost use Rattle.mq_talk.specs.Mails.{Boxes, one_missed};
 ghost use Rattle.mq_machine.specs.State as machine;
 ghost use Rattle.mq_machine.specs.State.{Orders, new_worker, with_offer};
 ghost use Rattle.mq_talk.specs.Offices.{IsSound};
@@ -109,6 +109,7 @@ impl<L: WriteReady, P: Ports> Actor<L, P> {
         ensures sound { IsSound (O.seen office.old) → IsSound (O.seen office.new) }
         ensures mail { M.actor mail.new ≡ M.actor mail.old }
         ensures inboxes { M.count mail.new ≡ M.count mail.old }
+        ensures asked { result ≡ Ok None → M.missed mail.new ≡ one_missed (M.boxes mail.old).told (M.missed mail.old) }
         ensures balanced { IsBalanced P.P.place (P.past self.old.table.ports) self.old.table.table.slots → IsBalanced P.P.place (P.past self.new.table.ports) self.new.table.table.slots }
     {
         self.ring.step(self.alloc, &mut self.table, office, mail)

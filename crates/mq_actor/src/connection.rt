@@ -43,7 +43,7 @@ impl<L: WriteReady> Ring<L> {
         ensures rooms { HasRooms self.new.rooms }
         ensures actor { (O.seen office.new).actor ≡ (O.seen office.old).actor }
         ensures sound { IsSound (O.seen office.old) → IsSound (O.seen office.new) }
-        ensures mail { (M.actor mail.new ≡ M.actor mail.old) × (M.count mail.new ≡ M.count mail.old) }
+        ensures mail { (M.actor mail.new ≡ M.actor mail.old) × (M.count mail.new ≡ M.count mail.old) × (M.missed mail.new ≡ M.missed mail.old) }
         ensures inboxes { HasInboxes (O.seen office.new) (M.count mail.new) (M.boxes mail.new) }
         ensures balanced { IsBalanced P.P.place (P.past table.old.ports) table.old.table.slots → IsBalanced P.P.place (P.past table.new.ports) table.new.table.slots }
     {
@@ -93,7 +93,7 @@ impl<L: WriteReady> Ring<L> {
         ensures rooms { HasRooms self.new.rooms }
         ensures actor { (O.seen office.new).actor ≡ (O.seen office.old).actor }
         ensures sound { IsSound (O.seen office.old) → IsSound (O.seen office.new) }
-        ensures mail { (M.actor mail.new ≡ M.actor mail.old) × (M.count mail.new ≡ M.count mail.old) }
+        ensures mail { (M.actor mail.new ≡ M.actor mail.old) × (M.count mail.new ≡ M.count mail.old) × (M.missed mail.new ≡ M.missed mail.old) }
         ensures inboxes { HasInboxes (O.seen office.new) (M.count mail.new) (M.boxes mail.new) }
         ensures balanced { IsBalanced P.P.place (P.past table.old.ports) table.old.table.slots → IsBalanced P.P.place (P.past table.new.ports) table.new.table.slots }
     {
@@ -136,7 +136,7 @@ impl<L: WriteReady> Ring<L> {
         ensures rooms { HasRooms self.new.rooms }
         ensures actor { (O.seen office.new).actor ≡ (O.seen office.old).actor }
         ensures sound { IsSound (O.seen office.old) → IsSound (O.seen office.new) }
-        ensures mail { (M.actor mail.new ≡ M.actor mail.old) × (M.count mail.new ≡ M.count mail.old) }
+        ensures mail { (M.actor mail.new ≡ M.actor mail.old) × (M.count mail.new ≡ M.count mail.old) × (M.missed mail.new ≡ M.missed mail.old) }
         ensures inboxes { HasInboxes (O.seen office.new) (M.count mail.new) (M.boxes mail.new) }
         ensures balanced { IsBalanced P.P.place (P.past table.old.ports) table.old.table.slots → IsBalanced P.P.place (P.past table.new.ports) table.new.table.slots }
     {

@@ -4,7 +4,8 @@ ghost use Rattle.std.specs.Vec.{vec_len};
 ghost use Rattle.mq_talk.specs.declared.note.Note.TheVariants as note;
 ghost use Rattle.mq_talk.specs.declared.place.Cause.TheVariants as cause;
 ghost use Rattle.mq_machine.specs.Turn.{source_of as source_is};
-ghost use Rattle.mq_actor.specs.Seats.{ComesAt, ComesTo, InboxGives, IsPlaceWith};
+ghost use Rattle.mq_actor.specs.Passing.{is_in_part};
+ghost use Rattle.mq_actor.specs.Seats.{ComesAt, ComesTo, InboxGives, IsPlaceWith, missed_at};
 
 use crate::ring::{Ring, is_in};
 use mq_talk::{Cause, From, Mail, Note, Origin, Parcel, Place};
@@ -74,6 +75,7 @@ impl<L: Drop> Ring<L> {
         ensures ring { (self.new.id ≡ self.old.id) × (self.new.setup ≡ self.old.setup) }
         ensures actor { M.actor mail.new ≡ M.actor mail.old }
         ensures count { M.count mail.new ≡ M.count mail.old }
+        ensures missed { M.missed mail.new ≡ missed_at (is_in_part upper self.old.next_seat 1) result (M.boxes mail.old).told (M.missed mail.old) }
     {
         if !is_in(1, self.next_seat, upper) {
             return None;

@@ -1,6 +1,7 @@
 //! One step of a worker.
-ghost use Rattle.std.specs.Prelude.{◌≡◌, ◌+◌, None};
+ghost use Rattle.std.specs.Prelude.{◌≡◌, ◌+◌, None, Ok};
 ghost use Rattle.mq_machine.specs.State.{Worker};
+ghost use Rattle.mq_talk.specs.Mails.{one_missed};
 ghost use Rattle.mq_talk.specs.Offices.{IsSound};
 ghost use Rattle.mq_machine.specs.Acting.{Outside, Known, Steps, binder};
 ghost use Rattle.mq_ports.specs.Tables.{IsBalanced};
@@ -56,6 +57,7 @@ impl<L: WriteReady> Ring<L> {
         ensures sound { IsSound (O.seen office.old) → IsSound (O.seen office.new) }
         ensures mail { M.actor mail.new ≡ M.actor mail.old }
         ensures inboxes { M.count mail.new ≡ M.count mail.old }
+        ensures asked { result ≡ Ok None → M.missed mail.new ≡ one_missed (M.boxes mail.old).told (M.missed mail.old) }
         ensures balanced { IsBalanced P.P.place (P.past table.old.ports) table.old.table.slots → IsBalanced P.P.place (P.past table.new.ports) table.new.table.slots }
     {
         self.forget();

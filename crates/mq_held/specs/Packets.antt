@@ -1,5 +1,5 @@
 -- What a connection does as the book judges its packet, and as an inbox answers a push.
-use Rattle.std.specs.Prelude.{◌≡◌, ℕ, Some, Option}
+use Rattle.std.specs.Prelude.{◌≡◌, ℕ, Some}
 use Rattle.mq_addr.specs.declared.range.Flow.{Flow}
 use Rattle.mq_talk.specs.declared.note.Note.{Note}
 use Rattle.mq_talk.specs.declared.place.Judged.{Judged}

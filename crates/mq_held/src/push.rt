@@ -21,6 +21,7 @@ impl<L> Held<L> {
         ensures rest { self.new ≡ record self.old { conn = self.new.conn } }
         ensures mail { M.actor mail.new ≡ M.actor mail.old }
         ensures inboxes { M.count mail.new ≡ M.count mail.old }
+        ensures missed { M.missed mail.new ≡ M.missed mail.old }
     {
         let parcel = self.conn.parcel();
         let to = parcel.to.inbox(workers);

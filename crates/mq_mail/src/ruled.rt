@@ -1,6 +1,6 @@
 //! An actor's way to the inboxes of a post that threads share.
-ghost use Rattle.std.specs.Prelude.{◌≡◌, ◌<◌, ℕ, length};
-ghost use Rattle.mq_talk.specs.Mails.{IsParcel, PushGives, PopGives};
+ghost use Rattle.std.specs.Prelude.{◌≡◌, ◌<◌, ℕ, length, None};
+ghost use Rattle.mq_talk.specs.Mails.{IsParcel, PushGives, PopGives, missed_by};
 ghost use Rattle.mq_mail.specs.Posts.{PushesBy, PopsBy};
 ghost use Rattle.mq_mail.specs.Ruled.{untold};
 
@@ -19,6 +19,8 @@ pub struct RuledMail<'a, R: Wait> {
     back: u64,
     /// The inbox from which the last of them came.
     back_by: u32,
+    /// How many pops gave nothing.
+    missed: u64,
     ghost same: { key.post ≡ post.now.inboxes },
     ghost room: { post.now.capacity ≡ 256 },
     ghost own: { key.actor < length key.post },
@@ -38,6 +40,7 @@ impl Post {
             key,
             back: 0,
             back_by: 0,
+            missed: 0,
         }
     }
 }
@@ -61,11 +64,14 @@ impl<R: Wait> Mail for RuledMail<'_, R> {
 
     ghost boxes = { λ m. untold m.key m.back m.back_by };
 
+    ghost missed = { λ m. m.missed };
+
     fn push(&mut self, to: u32, parcel: Parcel) -> Pushed
         requires inbox { to < length self.old.key.post }
         requires packet { IsParcel parcel }
         ensures gives { PushGives (length self.old.key.post) (untold self.old.key self.old.back self.old.back_by) to parcel result
             (untold self.new.key self.new.back self.new.back_by) }
+        ensures missed { self.new.missed ≡ self.old.missed }
         ensures actor { self.new.key.actor ≡ self.old.key.actor }
         ensures count { length self.new.key.post ≡ length self.old.key.post }
         ensures key { PushesBy 256 self.old.key to parcel result self.new.key }
@@ -81,10 +87,15 @@ impl<R: Wait> Mail for RuledMail<'_, R> {
     fn pop(&mut self) -> Option<Parcel>
         ensures gives { PopGives (length self.old.key.post) (untold self.old.key self.old.back self.old.back_by) self.old.key.actor result
             (untold self.new.key self.new.back self.new.back_by) }
+        ensures missed { self.new.missed ≡ missed_by result None self.old.missed }
         ensures actor { self.new.key.actor ≡ self.old.key.actor }
         ensures count { length self.new.key.post ≡ length self.old.key.post }
         ensures key { PopsBy self.old.key result self.new.key }
     {
-        self.key.pop(self.rt, self.post)
+        let popped = self.key.pop(self.rt, self.post);
+        if popped.is_none() {
+            self.missed = below_most(self.rt, self.missed) + 1;
+        }
+        popped
     }
 }

@@ -65,6 +65,8 @@ impl Mail for PlainMail {
 
     ghost boxes = { λ m. shown m.boxes };
 
+    ghost missed = { λ m. 0 };
+
     fn push(&mut self, to: u32, parcel: Parcel) -> Pushed {
         self.boxes[to as usize].push(parcel)
     }

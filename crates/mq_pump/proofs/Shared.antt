@@ -7,7 +7,7 @@ use Rattle.mq_talk.specs.declared.book.Entry.{Entry}
 use Rattle.mq_talk.specs.declared.place.Parcel.{Parcel}
 use Rattle.mq_talk.specs.declared.place.Place.{Place}
 use Rattle.mq_talk.specs.declared.place.Place.TheVariants as place
-use Rattle.mq_talk.specs.Mails.{Boxes, IsTold, box_at, inbox_in, Inboxes, MailMoves}
+use Rattle.mq_talk.specs.Mails.{Boxes, IsTold, box_at, inbox_in, MailMoves}
 use Rattle.mq_talk.specs.Offices.{Seen, Sees, IsSame, IsOfOther}
 use Rattle.mq_machine.specs.State.{Shared, Orders}
 use Rattle.mq_machine.specs.Shared.{inbox_of}

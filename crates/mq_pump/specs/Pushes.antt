@@ -1,5 +1,5 @@
 -- What comes of a parcel that is pushed to the inbox of its place.
-use Rattle.std.specs.Prelude.{◌≡◌, ℕ, Bool, true, false, length, Option}
+use Rattle.std.specs.Prelude.{◌≡◌, ℕ, Bool, true, false, length}
 use Rattle.mq_talk.specs.declared.note.Note.{Note}
 use Rattle.mq_talk.specs.declared.note.Note.TheVariants.{PushedNote, Dropped}
 use Rattle.mq_talk.specs.declared.place.Cause.TheVariants.{InboxFull}

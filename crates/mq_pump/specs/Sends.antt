@@ -10,7 +10,7 @@ use Rattle.mq_talk.specs.declared.note.Note.{Note}
 use Rattle.mq_talk.specs.declared.note.Note.TheVariants.{Sent, Waits, Dropped}
 use Rattle.mq_talk.specs.declared.place.Cause.TheVariants as cause
 use Rattle.mq_talk.specs.declared.place.Parcel.{Parcel}
-use Rattle.mq_talk.specs.Mails.{PopGives, Inboxes}
+use Rattle.mq_talk.specs.Mails.{Boxes, PopGives, Inboxes, missed_by}
 use Rattle.mq_machine.specs.Turn.{source_of}
 
 -- what a network holds, where it tells that, and what it counts
@@ -67,3 +67,8 @@ pub record SendsNext (count : ℕ) (boxes : Inboxes) (actor : ℕ) (boxes_after 
 abbrev pub SendGives : Option Parcel → ℕ → Inboxes → ℕ → Inboxes → NetSeen → NetSeen → Option Note → Option Parcel → Type 0
 SendGives None count boxes actor boxes_after old new said waits = SendsNext count boxes actor boxes_after old new said waits
 SendGives (Some parcel) count boxes actor boxes_after old new said waits = Tries old new parcel said waits × (boxes_after ≡ boxes)
+
+-- and the inbox is asked where none waits
+abbrev pub missed_behind : Option Parcel → Option Note → Option Boxes → ℕ → ℕ
+missed_behind None said told missed = missed_by said told missed
+missed_behind (Some parcel) said told missed = missed

@@ -1,6 +1,7 @@
 //! The pump: its two hands, its network, and its steps.
-ghost use Rattle.std.specs.Prelude.{◌≡◌, ◌+◌, ◌||◌, [], true, None, IfOk, is_some};
+ghost use Rattle.std.specs.Prelude.{◌≡◌, ◌+◌, ◌||◌, [], true, None, Ok, IfOk, is_some};
 ghost use Rattle.std.specs.Borrow.{sem, Lends};
+ghost use Rattle.mq_talk.specs.Mails.{one_missed};
 ghost use Rattle.mq_talk.specs.Offices.{IsSound};
 ghost use Rattle.mq_machine.specs.Acting.{PumpSteps, Rose};
 ghost use Rattle.mq_machine.specs.State as machine;
@@ -110,6 +111,7 @@ impl<N: NetReady> Pump<N> {
         ensures office { ((O.seen office.new).actor ≡ (O.seen office.old).actor) × ((O.seen office.new).config ≡ (O.seen office.old).config) }
         ensures mail { M.actor mail.new ≡ M.actor mail.old }
         ensures inboxes { M.count mail.new ≡ M.count mail.old }
+        ensures asked { (s : machine.Pump) → IsPump self.old s → s.to_send ≡ None → result ≡ Ok None → M.missed mail.new ≡ one_missed (M.boxes mail.old).told (M.missed mail.old) }
     {
         if let Some(parcel) = self.to_push.take() {
             return Ok(Some(push(self.workers, parcel, mail)));

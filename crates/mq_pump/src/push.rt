@@ -24,6 +24,7 @@ pub fn push<M: Mail>(workers: u32, parcel: Parcel, mail: &mut M) -> Note
     ensures gives { Pushes (M.count mail.old) (M.boxes mail.old) (inbox_in workers parcel.to) parcel result (M.boxes mail.new) }
     ensures actor { M.actor mail.new ≡ M.actor mail.old }
     ensures count { M.count mail.new ≡ M.count mail.old }
+    ensures missed { M.missed mail.new ≡ M.missed mail.old }
 {
     let from = source_of(parcel.from);
     let n = parcel.n;

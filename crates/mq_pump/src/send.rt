@@ -1,7 +1,8 @@
 //! The network is sent what came through the inbox.
 ghost use Rattle.std.specs.Prelude.{◌≡◌, ⊤, None, MatchOption};
+ghost use Rattle.mq_talk.specs.Mails.{missed_by};
 ghost use Rattle.mq_pump.specs.Holds.{CanSend};
-ghost use Rattle.mq_pump.specs.Sends.{net_seen, Tries, SendsNext, SendGives};
+ghost use Rattle.mq_pump.specs.Sends.{net_seen, Tries, SendsNext, SendGives, missed_behind};
 
 use crate::pump::Pump;
 use crate::push::source_of;
@@ -17,6 +18,7 @@ impl<N: Net> Pump<N> {
         ensures rest { self.new ≡ record self.old { net = self.new.net; to_send = self.new.to_send } }
         ensures actor { M.actor mail.new ≡ M.actor mail.old }
         ensures count { M.count mail.new ≡ M.count mail.old }
+        ensures missed { M.missed mail.new ≡ missed_behind self.old.to_send result (M.boxes mail.old).told (M.missed mail.old) }
     {
         match self.to_send.take() {
             Some(parcel) => self.try_send(parcel),
@@ -32,6 +34,7 @@ impl<N: Net> Pump<N> {
         ensures rest { self.new ≡ record self.old { net = self.new.net; to_send = self.new.to_send } }
         ensures actor { M.actor mail.new ≡ M.actor mail.old }
         ensures count { M.count mail.new ≡ M.count mail.old }
+        ensures missed { M.missed mail.new ≡ missed_by result (M.boxes mail.old).told (M.missed mail.old) }
     {
         let parcel = mail.pop()?;
         let waits = Note::Waits {

@@ -11,7 +11,6 @@ use Rattle.mq_talk.specs.declared.goal.Goal.TheVariants as goal
 use Rattle.mq_talk.specs.declared.note.Note.{Note}
 use Rattle.mq_talk.specs.Mails.{IsTold, Inboxes}
 use Rattle.mq_talk.specs.Offices.{Seen}
-use Rattle.mq_talk.specs.Mails.{Boxes}
 use Rattle.mq_machine.specs.State.{Conn, Tunnel, Held, Port, Orders, Shared}
 use Rattle.mq_machine.specs.Want.{Want, Ask, Send, want_of}
 use Rattle.mq_machine.specs.Shared.{Answers, PortsAnswer, put_of, port_of, port_answer, port_sent, at_port}

@@ -1,5 +1,5 @@
 -- A connection closed a tunnel, whatever its link and its ports hold.
-use Rattle.std.specs.Prelude.{◌≡◌, ◌≢◌, ℕ, List, map, remove, Option, Some, Result, Ok, Err}
+use Rattle.std.specs.Prelude.{◌≡◌, ◌≢◌, ℕ, List, map, remove, Some, Result, Ok, Err}
 use Rattle.slab.specs.Slab.{Slab, get}
 use Rattle.mq_wire.specs.declared.NoMemory.{NoMemory}
 use Rattle.mq_outside.specs.Counts.{PortCounts}

@@ -114,6 +114,16 @@ pub record PopGives (count : ℕ) (old : Inboxes) (of : ℕ) (answer : Option Pa
   pub does : PopDoes answer before of after
   pub goes : new.went ≡ option_map (went_after (moved_by of answer)) old.went
 
+-- a pop that gave nothing, as a mail counts it that doesn't tell its inboxes
+abbrev pub one_missed : Option Boxes → ℕ → ℕ
+one_missed None missed = missed + 1
+one_missed (Some boxes) missed = missed
+
+-- what was missed behind a pop that gave this
+abbrev pub missed_by : {A : Type 0} → Option A → Option Boxes → ℕ → ℕ
+missed_by None told missed = one_missed told missed
+missed_by (Some parcel) told missed = missed
+
 -- A step moved one parcel at most, and that led from the inboxes before it to those behind.
 pub record MailMoves (old new : Inboxes) (before after : Boxes) : Type 0 where
   pub moved : Moved

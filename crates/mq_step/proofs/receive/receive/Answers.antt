@@ -1,4 +1,4 @@
-use Rattle.std.proofs.Common.{rules, ◌≡◌, ℕ, ◌+◌, suc, List, length, slice_get, Option, Result, Ok, Err, refl, sym, ap, subst, ◌∙◌, arith}
+use Rattle.std.proofs.Common.{rules, ◌≡◌, ℕ, ◌+◌, suc, List, length, slice_get, Result, Ok, Err, refl, sym, ap, subst, ◌∙◌, arith}
 use Rattle.std.specs.Vec.{vec_len}
 use Rattle.mq_wire.specs.declared.NoMemory.{NoMemory}
 use Rattle.mq_talk.specs.Mails.{Inboxes}
@@ -26,7 +26,7 @@ loop-place-init g c = record {
   apart = c.requires.known.1.apart;
   calm = (refl, refl, refl);
   inboxes = c.requires.inboxes;
-  mail = (refl, refl);
+  mail = (refl, refl, refl);
   actor = refl;
   others = λ key port at other. (at, other);
   sound = λ is. is;
@@ -126,7 +126,7 @@ returns-in_default g c = record {
   actor = c.in_ok-stepped.ensures.actor ∙ c.loop-place.invariant.actor;
   others = keeps_both c.args.held.now c.loop-place.held c.receive_at.new.held c.args.table.now.table c.loop-place.table.table c.receive_at.new.table.table c.loop-place.invariant.others c.in_ok-stepped.ensures.others;
   sound = λ is. c.in_ok-stepped.ensures.sound (c.loop-place.invariant.sound is);
-  mail = (c.in_ok-stepped.ensures.mail.0 ∙ c.loop-place.invariant.mail.0, c.in_ok-stepped.ensures.mail.1 ∙ c.loop-place.invariant.mail.1);
+  mail = (c.in_ok-stepped.ensures.mail.0 ∙ c.loop-place.invariant.mail.0, c.in_ok-stepped.ensures.mail.1 ∙ c.loop-place.invariant.mail.1, c.in_ok-stepped.ensures.mail.2 ∙ c.loop-place.invariant.mail.2);
   inboxes = c.in_ok-stepped.ensures.inboxes;
   balanced = λ is. c.in_ok-stepped.ensures.balanced (c.loop-place.invariant.balanced is);
 } where
@@ -158,7 +158,7 @@ loop-place-preserved g c =
       still = λ s held wait. e.still quiet s (i.still s held wait) wait;
       apart = e.apart;
       calm = (calm.0 ∙ i.calm.0, calm.1 ∙ i.calm.1, calm.2 ∙ i.calm.2);
-      mail = (e.mail.0 ∙ i.mail.0, e.mail.1 ∙ i.mail.1);
+      mail = (e.mail.0 ∙ i.mail.0, e.mail.1 ∙ i.mail.1, e.mail.2 ∙ i.mail.2);
       inboxes = e.inboxes;
       actor = e.actor ∙ i.actor;
       others = keeps_both c.args.held.now c.loop-place.held c.receive_at.new.held c.args.table.now.table c.loop-place.table.table c.receive_at.new.table.table c.loop-place.invariant.others e.others;
@@ -222,7 +222,7 @@ pub returns-in_err-stepped-clause-mail : goal.returns-in_err-stepped-clause-mail
 returns-in_err-stepped-clause-mail g c =
     let e = c.in_err-stepped.ensures in
     let i = c.loop-place.invariant in
-    (e.mail.0 ∙ i.mail.0, e.mail.1 ∙ i.mail.1)
+    (e.mail.0 ∙ i.mail.0, e.mail.1 ∙ i.mail.1, e.mail.2 ∙ i.mail.2)
 
 pub returns-in_err-stepped-clause-inboxes : goal.returns-in_err-stepped-clause-inboxes
 returns-in_err-stepped-clause-inboxes g c = c.in_err-stepped.ensures.inboxes

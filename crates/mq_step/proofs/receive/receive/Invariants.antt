@@ -18,7 +18,7 @@ invariant-loop-place g l = record {
   apart : SeatsApart l.held.ports.items;
   calm : (g.O.Office.seen l.office ≡ g.O.Office.seen l.fn.office) × (binder g.P.Ports.holds g.P.Ports.faults l.table.ports ≡ binder g.P.Ports.holds g.P.Ports.faults l.fn.table.ports) × (g.M.Mail.boxes l.mail ≡ g.M.Mail.boxes l.fn.mail);
   inboxes : HasInboxes (g.O.Office.seen l.office) (g.M.Mail.count l.mail) (g.M.Mail.boxes l.mail);
-  mail : (g.M.Mail.actor l.mail ≡ g.M.Mail.actor l.fn.mail) × (g.M.Mail.count l.mail ≡ g.M.Mail.count l.fn.mail);
+  mail : (g.M.Mail.actor l.mail ≡ g.M.Mail.actor l.fn.mail) × (g.M.Mail.count l.mail ≡ g.M.Mail.count l.fn.mail) × (g.M.Mail.missed l.mail ≡ g.M.Mail.missed l.fn.mail);
   actor : (g.O.Office.seen l.office).actor ≡ (g.O.Office.seen l.fn.office).actor;
   others : KeepsOthers l.fn.held l.held l.fn.table.table l.table.table;
   sound : IsSound (g.O.Office.seen l.fn.office) → IsSound (g.O.Office.seen l.office);

@@ -20,7 +20,7 @@ invariant-loop-place g l = record {
   ports : HaveOwnPorts l.self.conns.items;
   rooms : HasRooms l.self.rooms;
   actor : (g.O.Office.seen l.office).actor ≡ (g.O.Office.seen l.fn.office).actor;
-  mail : (g.M.Mail.actor l.mail ≡ g.M.Mail.actor l.fn.mail) × (g.M.Mail.count l.mail ≡ g.M.Mail.count l.fn.mail);
+  mail : (g.M.Mail.actor l.mail ≡ g.M.Mail.actor l.fn.mail) × (g.M.Mail.count l.mail ≡ g.M.Mail.count l.fn.mail) × (g.M.Mail.missed l.mail ≡ g.M.Mail.missed l.fn.mail);
   inboxes : HasInboxes (g.O.Office.seen l.office) (g.M.Mail.count l.mail) (g.M.Mail.boxes l.mail);
   sound : IsSound (g.O.Office.seen l.fn.office) → IsSound (g.O.Office.seen l.office);
   balanced : IsBalanced g.P.P.Port.place (g.P.Ports.past l.fn.table.ports) l.fn.table.table.slots

@@ -8,7 +8,8 @@ use Rattle.mq_actor.specs.Seats.{AcceptGives, InboxGives}
 use Rattle.mq_actor.specs.Seen.{Words, Moment}
 use Rattle.mq_actor.proofs.Returning.{begun, from_begun, among, err_promise, known_conns, known_later, accept_refused, accept_did, pop_did, upper_stopped, accept_refused_later, accept_did_later, pop_did_later, lower_gives}
 use Rattle.mq_actor.proofs.Returning.{accept_refused_sights, accept_did_sights, pop_did_sights, upper_stopped_sights, accept_refused_later_sights}
-use Rattle.mq_actor.proofs.Returning.{accept_did_later_sights, pop_did_later_sights, lower_sights, pump_one, inboxes_one, pump_two, inboxes_two}
+use Rattle.mq_actor.proofs.Returning.{accept_did_later_sights, pop_did_later_sights, lower_sights, pump_one, inboxes_one, pump_two, inboxes_two, told_later, seat_later}
+use Rattle.mq_actor.proofs.Asking.{asked_once}
 use Rattle.mq_actor.proofs.Placing.{fitting}
 use Rattle.mq_actor.specs.Ended.{conn_numbers, offer_numbers}
 use Rattle.mq_actor.proofs.Leaving.{AllLeft, idle_left, accept_left, refused_left, pop_left, passed_left, did_left, starved_left, pass_left}
@@ -315,6 +316,31 @@ returns-clause-gives g c =
     record { conns = c.pass-2.new.self.conns.items; table = c.pass-2.new.table.table; binds = binder g.P.Ports.holds g.P.Ports.faults c.pass-2.new.table.ports; seen = g.O.Office.seen c.pass-2.new.office; boxes = g.M.Mail.boxes c.pass-2.new.mail } in
     lower_gives words self old refl count c.requires.office c.requires.inboxes c.accept.new.self c.pop.new.self boxes_one (g.M.Mail.actor c.args.mail.now) c.requires.mail first popped c.pass.new.self mid refl upper ports rooms c.accept-2.new.self second c.pop-2.new.self (g.M.Mail.boxes c.pop-2.new.mail) popped_later
     c.pass-2.new.self new c.pass-2.result refl c.pass-2.ensures.gives c.pass-2.ensures.ports c.pass-2.ensures.rooms (fitting _ _ _ (c.pass-2.ensures.sound (c.in_ok-note-2.ensures.sound c.requires.sound)) c.pass-2.ensures.inboxes)
+
+pub returns-clause-asked : goal.returns-clause-asked
+returns-clause-asked g c quiet =
+    let self = c.args.self.now in
+    let words : Words g.row.L.Denot g.row.P-P.Denot = record { most = g.P.P.Port.most; link = g.L.Link.holds; link_counts = g.L.Link.counts; port = g.P.P.Port.holds; port_counts = g.P.P.Port.counts } in
+    let old : Moment g.row.L.Denot g.row.P-P.Denot =
+    record { conns = self.conns.items; table = c.args.table.now.table; binds = binder g.P.Ports.holds g.P.Ports.faults c.args.table.now.ports; seen = g.O.Office.seen c.args.office.now; boxes = g.M.Mail.boxes c.args.mail.now } in
+    let count = g.M.Mail.count c.args.mail.now in
+    let A : Option Note → Type 0 = λ z. AcceptGives true c.forget.new.self c.accept.new.self (Ok z) in
+    let first = from_begun self c.forget.new.self c.accept.new.self (Ok None) c.forget.ensures (subst A c.in_default.is c.in_ok-note.ensures.gives) in
+    let popped = c.in_default-pop.ensures.gives in
+    let boxes_one = g.M.Mail.boxes c.pop.new.mail in
+    let mid : Moment g.row.L.Denot g.row.P-P.Denot =
+    record { conns = c.pass.new.self.conns.items; table = c.pass.new.table.table; binds = binder g.P.Ports.holds g.P.Ports.faults c.pass.new.table.ports; seen = g.O.Office.seen c.pass.new.office; boxes = g.M.Mail.boxes c.pass.new.mail } in
+    let U : Option Note → Type 0 = λ z. PassGives words true c.pop.new.self c.pass.new.self (among c.pop.new.self.conns.items (g.M.Mail.boxes c.pop.new.mail) old) mid (Ok z) in
+    let upper = subst U c.in_default-2.is c.in_ok-note-2.ensures.gives in
+    let ports = c.in_ok-note-2.ensures.ports in
+    let rooms = c.in_ok-note-2.ensures.rooms in
+    let B : Option Note → Type 0 = λ z. AcceptGives false c.pass.new.self c.accept-2.new.self (Ok z) in
+    let second = subst B c.in_default-3.is c.in_ok-note-3.ensures.gives in
+    asked_once c.accept.new.self.next_seat c.accept-2.new.self.next_seat old.boxes.told mid.boxes.told (g.M.Mail.missed c.args.mail.now) (g.M.Mail.missed c.pop.new.mail)
+    (g.M.Mail.missed c.pass.new.mail) (g.M.Mail.missed c.pop-2.new.mail) (g.M.Mail.missed c.pass-2.new.mail) c.in_default-pop.ensures.missed c.in_ok-note-2.ensures.mail.2
+    (seat_later words self old refl count c.requires.office c.requires.inboxes c.accept.new.self c.pop.new.self boxes_one (g.M.Mail.actor c.args.mail.now) c.requires.mail first popped c.pass.new.self mid refl upper ports rooms c.accept-2.new.self second)
+    (told_later words self old refl count c.requires.office c.requires.inboxes c.accept.new.self c.pop.new.self boxes_one (g.M.Mail.actor c.args.mail.now) c.requires.mail first popped c.pass.new.self mid refl upper ports rooms)
+    c.in_default-pop-2.ensures.missed c.pass-2.ensures.mail.2
 
 pub returns-in_err-note-clause-sights : goal.returns-in_err-note-clause-sights
 returns-in_err-note-clause-sights g c =

@@ -1,12 +1,12 @@
 use Rattle.std.proofs.Common.{◌≡◌, ℕ, length, Option, Some, None, MatchOption, refl, sym, ap, ◌∙◌, subst}
 use Rattle.std.specs.Bool.{⊤}
-use Rattle.mq_talk.specs.Mails.{inbox_in}
+use Rattle.mq_talk.specs.Mails.{Boxes, inbox_in, missed_by}
 use Rattle.mq_talk.specs.declared.note.Note.{Note}
 use Rattle.mq_talk.specs.declared.place.Parcel.{Parcel}
 use Rattle.mq_machine.specs.Acting.{PumpSight}
 use Rattle.mq_pump.specs.Holds.{CanGo, CanSend, pump_sight}
 use Rattle.mq_pump.specs.Pushes.{Pushes}
-use Rattle.mq_pump.specs.Sends.{NetSeen, net_seen, SendGives}
+use Rattle.mq_pump.specs.Sends.{NetSeen, net_seen, SendGives, missed_behind}
 use Rattle.mq_pump.proofs.Pushing.{pushed}
 use Rattle.mq_pump.proofs.Stepping.{sent, stands_for, nothing_to, none_of, received_by}
 use Rattle.mq_pump.proofs.pump.Pump.step.Goals as goal
@@ -80,3 +80,11 @@ returns-clause-stands g c =
     let rest = c.receive.ensures.rest in
     stands_for q (subst (λ (w : ℕ). MatchOption q.to_push ⊤ (CanGo w)) (sym (ap (λ p. p.workers) rest)) c.receive.ensures.left)
     (subst (λ (o : Option Parcel). MatchOption o ⊤ CanSend) (sym (ap (λ p. p.to_send) rest)) c.send.ensures.left) c.receive.ensures.room
+
+pub returns-clause-asked : goal.returns-clause-asked
+returns-clause-asked g c s is none quiet =
+    let told : Option Boxes = (g.M.Mail.boxes c.args.mail.now).told in
+    let missed = g.M.Mail.missed c.args.mail.now in
+    let nothing : c.send.result ≡ None = none_of c.send.result (λ note said. c.in_default-send.not-Some note said) in
+    c.send.ensures.missed ∙ ap (λ (o : Option Parcel). missed_behind o c.send.result told missed) (sym is.to_send ∙ none)
+    ∙ ap (λ (said : Option Note). missed_by said told missed) nothing
