@@ -1,5 +1,5 @@
 #!/usr/bin/python3
-"""Writes the table of sessions that the tests of mq_client read (crates/mq_client/src/sessions.rt).
+"""Writes the table of sessions that the tests of mq_client read (crates/mq_cores_tests/src/client/sessions.rt).
 
 The proxy is the server of Python's h2 (Debian's python3-h2): what the client owes is given to it, which has to take it
 without an error and read the fields of the request and the payloads out of it, and its bytes are fed. What the client owes and
@@ -182,6 +182,6 @@ HEAD = ("//! Sessions with the server of Python's h2 as a proxy: its bytes and w
 if __name__ == "__main__":
     for session in SESSIONS:
         session()
-    target = pathlib.Path(__file__).parent.parent / "crates/mq_client/src/sessions.rt"
+    target = pathlib.Path(__file__).parent.parent / "crates/mq_cores_tests/src/client/sessions.rt"
     target.write_text(written(HEAD, LINES))
     print("%d sessions, %d lines" % (len(SESSIONS), len(LINES)))

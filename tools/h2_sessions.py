@@ -1,5 +1,5 @@
 #!/usr/bin/python3
-"""Writes the table of sessions that the tests of mq_h2 read (crates/mq_h2/src/sessions.rt).
+"""Writes the table of sessions that the tests of mq_h2 read (crates/mq_cores_tests/src/h2/sessions.rt).
 
 The client is that of Python's h2 (Debian's python3-h2): its bytes are fed, and what the server owes is given to it,
 which has to take it without an error and say what is expected here. What the server owes stands in this file, by RFC
@@ -251,6 +251,6 @@ def written(head, table):
 if __name__ == "__main__":
     for session in SESSIONS:
         session()
-    target = pathlib.Path(__file__).parent.parent / "crates/mq_h2/src/sessions.rt"
+    target = pathlib.Path(__file__).parent.parent / "crates/mq_cores_tests/src/h2/sessions.rt"
     target.write_text(written(HEAD, LINES))
     print("%d sessions, %d lines" % (len(SESSIONS), len(LINES)))

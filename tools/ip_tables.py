@@ -1,5 +1,5 @@
 #!/usr/bin/python3
-"""Writes the table of packets that the tests of mq_iphdr read (crates/mq_iphdr/src/table.rt).
+"""Writes the table of packets that the tests of mq_iphdr read (crates/mq_formats_tests/src/iphdr/table.rt).
 
 The packets, what their headers say, and the packets behind the next hop come from scapy (Debian's python3-scapy), which
 counts lengths and checksums by its own code. A packet with a fault is one of scapy's with the bytes changed that the row
@@ -181,6 +181,6 @@ def written():
 if __name__ == "__main__":
     rows_of_version_4()
     rows_of_version_6()
-    target = pathlib.Path(__file__).parent.parent / "crates/mq_iphdr/src/table.rt"
+    target = pathlib.Path(__file__).parent.parent / "crates/mq_formats_tests/src/iphdr/table.rt"
     target.write_text(written())
     print("%d taken, %d refused" % (len(TAKEN), len(REFUSED)))

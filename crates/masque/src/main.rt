@@ -1,6 +1,9 @@
 //! Replays scripts against a proxy for tunnels over HTTP, and prints what it does.
 #![tactic(auto)]
 
+#[cfg(test)]
+mod tests;
+
 use mq_top::program;
 use std::process::ExitCode;
 

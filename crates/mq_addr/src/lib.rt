@@ -28,6 +28,3 @@ pub use range::{Flow, Range, allows, in_range, is_inside, is_range, ranges_meet}
 pub use size::has_its_size;
 pub use span::span_of;
 pub use text::Text;
-
-#[cfg(test)]
-mod tests;

@@ -16,7 +16,7 @@ fn a_book_has_a_configuration_that_may_be_one(rt: HostRuntime) -> Result<(), Fai
     for row in &CONFIGS {
         let (may, words) = cut(row)?;
         let config = config_of(rt.alloc(), words)?;
-        assert_eq!(rt; is_config(rt.alloc(), &config)?, may == "yes", "{row}");
+        assert!(rt; is_config(rt.alloc(), &config)? == (may == "yes"), "{row}");
     }
     Ok(())
 }

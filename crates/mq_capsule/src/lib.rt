@@ -17,6 +17,3 @@ pub use laws::{
 };
 pub use reader::Reader;
 pub use write::{write_control, write_datagram};
-
-#[cfg(test)]
-mod tests;

@@ -32,12 +32,3 @@ pub use laws::{
     data_is_within_its_windows, nothing_follows, reads_in_any_cutting, told_once,
     what_is_put_is_framed, what_is_told_is_the_data_stream,
 };
-
-#[cfg(test)]
-mod calls;
-#[cfg(test)]
-mod http2_tests;
-#[cfg(test)]
-mod sessions;
-#[cfg(test)]
-mod tests;

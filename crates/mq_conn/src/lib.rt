@@ -20,6 +20,3 @@ mod want;
 
 pub use conn::Conn;
 pub use want::Want;
-
-#[cfg(test)]
-mod tests;

@@ -25,6 +25,3 @@ pub use laws::{
 pub use reader::FrameReader;
 pub use short::{acknowledgement_text, end_text, goaway_text, pong_text, reset_text, window_text};
 pub use write::{write_data, write_frame, write_headers};
-
-#[cfg(test)]
-mod tests;

@@ -327,7 +327,7 @@ fn what_ends_a_stream(rt: HostRuntime) -> Result<(), Fail> {
         // an error of the connection: DATA on a stream that was never begun
         ("000001000000000009aa", "fault 1\n"),
     ];
-    for (hexed, want) in rows {
+    for &(hexed, want) in &rows {
         let text = asked_behind(rt.alloc(), hexed)?;
         is(&rt, text.as_str(), want);
     }
@@ -364,7 +364,7 @@ fn requests_by_their_meaning(rt: HostRuntime) -> Result<(), Fail> {
         // a method alone is malformed, and has no tunnel
         ("00000101040000000182", "1 reset 1\n"),
     ];
-    for (hexed, want) in rows {
+    for &(hexed, want) in &rows {
         let text = asked_at_first(rt.alloc(), hexed)?;
         is(&rt, text.as_str(), want);
     }
@@ -493,7 +493,7 @@ fn other_requests_of_http1_are_refused(rt: HostRuntime) -> Result<(), Fail> {
         ("PRI * HTTP/1.1\r\n\r\n", "0 refuse 400 0\n"),
         ("GET / HTTP/1.1\r\nHost: a\r\n\r\n", "0 refuse 501 0\n"),
     ];
-    for (head, want) in rows {
+    for &(head, want) in &rows {
         for cut in 0..head.len() {
             let (before, after) = head.as_bytes().split_at(cut);
             is_refused(&rt, rt.alloc(), before, after, want)?;
@@ -595,7 +595,7 @@ fn requests_for_ip_packets(rt: HostRuntime) -> Result<(), Fail> {
         // a path of tunnels for UDP
         ("/u/192.0.2.6/443", "refuse 404 0"),
     ];
-    for (path, want) in rows {
+    for &(path, want) in &rows {
         let text = asked_by_http1(alloc, &setup, path)?;
         is_row(&rt, text.as_str(), "0 ", want);
         let text = asked_by_http2(alloc, &setup, path)?;

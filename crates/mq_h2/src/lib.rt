@@ -27,12 +27,3 @@ pub use laws::{
     one_read, reads_stand_apart, what_is_owed_is_read_back, what_is_put_is_whole_frames,
     what_is_told_is_held,
 };
-
-#[cfg(test)]
-mod calls;
-#[cfg(test)]
-mod hostile;
-#[cfg(test)]
-mod sessions;
-#[cfg(test)]
-mod tests;

@@ -21,6 +21,3 @@ pub use laws::{head_stands, head_waits, one_answer, reader_waits, refusal_stays,
 pub use mq_addr::Kind;
 pub use reader::HeadReader;
 pub use step::HeadStep;
-
-#[cfg(test)]
-mod tests;

@@ -14,8 +14,6 @@ mod receive;
 mod seats;
 mod send;
 mod tell;
-#[cfg(test)]
-mod tests;
 mod went;
 mod write;
 

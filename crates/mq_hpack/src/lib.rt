@@ -22,8 +22,3 @@ pub use field::{Field, Text};
 pub use laws::{
     has_one_reading, is_no_longer, is_one_text, is_read_back, is_read_too_large, is_readable,
 };
-
-#[cfg(test)]
-mod decoder_tests;
-#[cfg(test)]
-mod encoder_tests;

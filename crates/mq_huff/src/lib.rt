@@ -8,8 +8,6 @@ mod fault;
 mod laws;
 mod size;
 mod steps;
-#[cfg(test)]
-mod tests;
 
 pub use decoding::decode;
 pub use encoding::encode;

@@ -15,6 +15,3 @@ pub use fault::CapsFault;
 pub use laws::{is_read_back, is_written_again};
 pub use read::{read_assign, read_request, read_routes};
 pub use write::{write_assign, write_request, write_routes};
-
-#[cfg(test)]
-mod tests;

@@ -15,8 +15,3 @@ pub use hop::{HopLimit, onward, taken_onward};
 pub use host::echo;
 pub use mq_addr::{HeaderFault, IpView};
 pub use packet::check;
-
-#[cfg(test)]
-mod table;
-#[cfg(test)]
-mod tests;

@@ -18,6 +18,3 @@ pub use item::item_act;
 pub use laws::answers_can_be_told;
 pub use number::next_number;
 pub use tunnel::IpTunnel;
-
-#[cfg(test)]
-mod tests;

@@ -19,8 +19,6 @@ mod refusing;
 mod room;
 mod sink;
 mod source;
-#[cfg(test)]
-mod tests;
 
 pub use acceptor::MemAcceptor;
 pub use link::MemLink;

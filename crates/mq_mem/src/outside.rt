@@ -1,5 +1,5 @@
 //! Everything that is outside, in memory.
-ghost use Rattle.std.specs.Prelude.{◌≡◌, ℕ, length, IfOk};
+ghost use Rattle.std.specs.Prelude.{◌≡◌, ℕ, length, None, [], IfOk};
 ghost use Rattle.mq_mem.specs.Calls.{no_calls};
 ghost use Rattle.mq_mem.specs.Outsides.{AreNew, AreUnbound, AreUnused, Around, no_faults};
 
@@ -94,6 +94,24 @@ impl MemOutside {
             link_faults: 0,
             backs: Vec::with_capacity(alloc, room)?,
         })
+    }
+
+    /// Nobody can be dialled, and no link comes: there is no acceptor, and no call fails by a number. Takes no memory.
+    pub fn nowhere(alloc: Global) -> MemOutside
+        ensures { result ≡ record { acceptor = None; dialled = []; calls = no_calls []; faults = no_faults } }
+    {
+        MemOutside {
+            alloc,
+            acceptor: None,
+            dialled: VecDeque::new(alloc),
+            ports: VecDeque::new(alloc),
+            nets: VecDeque::new(alloc),
+            calls: Calls::new(Seq::from_vec(Vec::new(alloc))),
+            accept_faults: 0,
+            dial_faults: 0,
+            link_faults: 0,
+            backs: Vec::new(alloc),
+        }
     }
 
     /// The links that were handed back, in order, of which there is room for as many as could be handed out.

@@ -212,10 +212,10 @@ fn an_open_that_is_refused_memory_ends_its_connection(rt: HostRuntime) -> Result
         (1, SECOND_STARVED, 1),
         (2, SERVED, 2),
     ];
-    for (refused, want, entries) in rows {
+    for &(refused, want, entries) in &rows {
         let mut office = office(rt.alloc(), refused)?;
         let gave = played(rt.alloc(), &mut office)?;
-        assert_eq!(rt; gave.as_slice(), want.as_slice(), "call {refused}");
+        assert!(rt; gave.as_slice() == want.as_slice(), "call {refused}");
         assert_eq!(rt; office.book().count(), entries);
         assert_eq!(rt; office.made(), 2);
     }

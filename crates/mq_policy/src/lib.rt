@@ -14,6 +14,3 @@ pub use decision::Decision;
 pub use laws::one_decision;
 pub use policy::Policy;
 pub use rule::Rule;
-
-#[cfg(test)]
-mod tests;

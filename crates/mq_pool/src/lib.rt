@@ -5,8 +5,3 @@ mod pool;
 mod search;
 
 pub use pool::least_free;
-
-#[cfg(test)]
-mod table;
-#[cfg(test)]
-mod tests;

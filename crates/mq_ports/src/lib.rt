@@ -4,8 +4,6 @@
 
 mod datagrams;
 mod table;
-#[cfg(test)]
-mod tests;
 
 pub use datagrams::{Datagrams, MOST_DATAGRAM};
 pub use table::PortTable;

@@ -7,8 +7,6 @@ mod push;
 mod ready;
 mod receive;
 mod send;
-#[cfg(test)]
-mod tests;
 
 pub use pump::Pump;
 pub use ready::NetReady;

@@ -9,8 +9,3 @@ mod put;
 
 pub use list::RouteList;
 pub use order::is_ordered;
-
-#[cfg(test)]
-mod table;
-#[cfg(test)]
-mod tests;

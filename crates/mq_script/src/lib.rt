@@ -33,6 +33,3 @@ pub use laws::packets_are_taken;
 pub use line::parse_line;
 pub use print::{print_bad_line, print_bytes, print_count, print_idle, print_more, print_note};
 pub use settings::Settings;
-
-#[cfg(test)]
-mod tests;

@@ -7,8 +7,6 @@ mod receiving;
 mod stream;
 mod streams;
 mod table;
-#[cfg(test)]
-mod tests;
 
 pub use answers::{Began, Counted, Granted, Over};
 pub use streams::{Streams, consumed_within_what_came, few_are_live, no_window_is_passed};

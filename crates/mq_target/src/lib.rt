@@ -23,6 +23,3 @@ pub use name::Name;
 pub use target::{Area, Host, Matched, Target};
 pub use template::Template;
 pub use values::host_of;
-
-#[cfg(test)]
-mod tests;

@@ -3,8 +3,6 @@
 
 mod number;
 mod parts;
-#[cfg(test)]
-mod tests;
 
 pub use number::{parse_digits, parse_number, reads_one};
 pub use parts::{cut, cut_once, place};

@@ -1,12 +1,8 @@
 //! The program: its words, standard input and standard output.
-ghost use Rattle.std.specs.Prelude.{◌≡◌, []};
-
 use crate::command::{USAGE, run};
 use crate::standard::{StandardSink, StandardSource};
 use crate::status::Status;
-use mq_mem::{MemAcceptor, MemOutside};
-use mq_wire::{NoMemory, Seq};
-use std::alloc::Global;
+use mq_mem::MemOutside;
 use std::process::ExitCode;
 use std::sync::Wait;
 use std::{env, io};
@@ -28,26 +24,6 @@ fn unread(fault: &io::Error) -> u8 {
     }
 }
 
-/// A list without an item.
-fn none<T: Drop>(alloc: Global) -> Seq<T>
-    ensures { result ≡ [] }
-{
-    Seq::from_vec(Vec::new(alloc))
-}
-
-/// An outside in which nobody can be dialled, and from which no link comes.
-fn nowhere(alloc: Global) -> Result<MemOutside, NoMemory> {
-    let acceptor = MemAcceptor::new(none(alloc), none(alloc))?;
-    MemOutside::new(
-        alloc,
-        acceptor,
-        none(alloc),
-        none(alloc),
-        none(alloc),
-        none(alloc),
-    )
-}
-
 /// Does what the words of the command line say, from standard input to standard output, and answers the exit status. A client
 /// waits by `waits`; no proxy can be dialled yet.
 pub fn program(rt: &HostRuntime, waits: &impl Wait) -> ExitCode {
@@ -55,9 +31,8 @@ pub fn program(rt: &HostRuntime, waits: &impl Wait) -> ExitCode {
         Ok(words) => words,
         Err(fault) => return ExitCode::from(unread(&fault)),
     };
-    let Ok(mut outside) = nowhere(rt.alloc()) else {
-        return ExitCode::from(Status::NoMemory.code());
-    };
+    // No proxy can be dialled yet.
+    let mut outside = MemOutside::nowhere(rt.alloc());
     let mut source = StandardSource::new(rt.stdin());
     let mut sink = StandardSink::new(rt.stdout());
     ExitCode::from(run(

@@ -17,8 +17,6 @@ mod standard;
 mod status;
 mod steps;
 mod tally;
-#[cfg(test)]
-mod tests;
 mod told;
 mod turns;
 

@@ -7,8 +7,6 @@ mod input;
 mod outcome;
 mod reading;
 mod talk;
-#[cfg(test)]
-mod tests;
 
 pub use asked::Asked;
 pub use outcome::Outcome;

@@ -4,8 +4,6 @@
 mod bytes;
 mod laws;
 mod seq;
-#[cfg(test)]
-mod tests;
 mod varint;
 
 pub use bytes::Bytes;

@@ -7,6 +7,3 @@ mod words;
 
 pub use command::{Command, UdpWords};
 pub use words::{asks_once, read_words};
-
-#[cfg(test)]
-mod tests;

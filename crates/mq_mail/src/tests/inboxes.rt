@@ -354,7 +354,7 @@ fn deliver<R: Threads + Wait + Abort + Sync>(
 
 #[test]
 fn two_threads_push_and_one_pops(rt: HostRuntime) -> Result<(), Fail> {
-    for (capacity, left) in [(1, 0), (1, 1), (2, 0), (16, 10), (256, 256), (2_000, 7)] {
+    for &(capacity, left) in &[(1, 0), (1, 1), (2, 0), (16, 10), (256, 256), (2_000, 7)] {
         for _ in 0..50 {
             deliver(&rt, rt.alloc(), capacity, left)?;
         }

@@ -1,0 +1,13 @@
+//! Tests of the objects in memory, of actors and of the client, from outside.
+#![tactic(auto)]
+
+#[cfg(test)]
+mod held;
+#[cfg(test)]
+mod mem;
+#[cfg(test)]
+mod ports;
+#[cfg(test)]
+mod pump;
+#[cfg(test)]
+mod udp;

@@ -1,0 +1,165 @@
+//! Steps of a pump over a network, an office and inboxes in memory. The packet is one that another program's checksum says is right.
+
+ghost use Rattle.std.specs.Prelude.{◌≡◌, ◌<◌, [], length, IfOk, IfSome};
+ghost use Rattle.mq_talk.specs.Mails.{IsParcel};
+ghost use Rattle.mq_talk.specs.Offices.{IsSound};
+ghost use Rattle.mq_mem.specs.Offices.{seen_of};
+ghost use Rattle.mq_machine.specs.State as machine;
+ghost use Rattle.mq_pump.specs.Holds.{IsPump};
+
+use mq_iphdr::check;
+use mq_mem::{MemNet, PlainMail, PlainOffice};
+use mq_pump::Pump;
+use mq_talk::{Cause, Config, From, Mail, Note, Origin, Parcel, Place};
+use mq_wire::{Bytes, NoMemory, Seq};
+use std::alloc::Global;
+use std::test::Fail;
+
+/// A UDP packet from 192.0.2.1 to 198.51.100.9.
+const PACKET: &[u8] =
+    b"\x45\x00\x00\x15\x00\x00\x00\x00\x40\x11\x8e\x9a\xc0\x00\x02\x01\xc6\x33\x64\x09\xaa";
+
+/// The same with one byte more.
+const LONG: &[u8] =
+    b"\x45\x00\x00\x16\x00\x00\x00\x00\x40\x11\x8e\x99\xc0\x00\x02\x01\xc6\x33\x64\x09\xaa\xaa";
+
+fn bytes(alloc: Global, text: &[u8]) -> Result<Bytes, NoMemory>
+    ensures { IfOk result (λ b. b ≡ text.now) }
+{
+    let list = Vec::from_slice(alloc, text)?;
+    Ok(Bytes::from_vec(list))
+}
+
+fn nothing<T: Drop>(alloc: Global) -> Seq<T>
+    ensures { result ≡ [] }
+{
+    Seq::from_vec(Vec::new(alloc))
+}
+
+/// The pump of a network from which these packets come, beside one worker.
+fn pump_of(alloc: Global, packets: &[&[u8]], mtu: u32, fails: &[u64]) -> Result<Pump<MemNet>, Fail>
+    ensures stands { IfOk result (λ pump. (s : machine.Pump) × IsPump pump s) }
+    ensures workers { IfOk result (λ pump. pump.workers ≡ 1) }
+{
+    let fails = Seq::from_vec(Vec::from_slice(alloc, fails)?);
+    let mut net = MemNet::new(nothing(alloc), None, fails)?;
+    for packet in packets {
+        if packet.len() <= 65_535 {
+            net.arrive(bytes(alloc, packet)?)?;
+        }
+    }
+    Ok(Pump::new(alloc, net, 1, mtu)?)
+}
+
+/// An office whose book is empty, and gives nothing.
+fn empty_office(alloc: Global) -> Result<PlainOffice, Fail>
+    ensures workers { IfOk result (λ o. o.book.config.workers ≡ 1) }
+    ensures actor { IfOk result (λ o. o.actor ≡ 0) }
+    ensures sound { IfOk result (λ o. IsSound (seen_of o)) }
+{
+    let config = Config {
+        pool: nothing(alloc),
+        reach: nothing(alloc),
+        routes: nothing(alloc),
+        history: 8,
+        workers: 1,
+    };
+    Ok(PlainOffice::of(alloc, config)?)
+}
+
+/// The inboxes of the worker and of the pump, which is served.
+fn mail_of(alloc: Global) -> Result<PlainMail, NoMemory>
+    ensures { IfOk result (λ m. (length m.boxes ≡ 2) × (m.actor ≡ 1)) }
+{
+    let mut mail = PlainMail::new(alloc, 2)?;
+    mail.turn_to(1);
+    Ok(mail)
+}
+
+/// A parcel from the tunnel.
+fn parcel_of(alloc: Global) -> Result<Option<Parcel>, NoMemory>
+    ensures { IfOk result (λ parcel. IfSome parcel IsParcel) }
+{
+    let packet = bytes(alloc, PACKET)?;
+    if check(packet.as_slice()).is_err() {
+        return Ok(None);
+    }
+    Ok(Some(Parcel {
+        from: Origin::Tunnel(0),
+        n: 5,
+        to: Place::Net,
+        packet,
+    }))
+}
+
+/// A parcel of the tunnel goes to the pump's inbox.
+fn put(alloc: Global, mail: &mut PlainMail) -> Result<(), NoMemory>
+    requires { (length mail.old.boxes ≡ 2) × (mail.old.actor ≡ 1) }
+    ensures { (length mail.new.boxes ≡ 2) × (mail.new.actor ≡ 1) }
+{
+    if let Some(parcel) = parcel_of(alloc)? {
+        let _ = mail.push(1, parcel);
+    }
+    Ok(())
+}
+
+/// The number and the cause of a packet of the network that is dropped.
+fn dropped(note: &Option<Note>) -> Option<(u64, Cause)> {
+    match note {
+        Some(
+            Note::Dropped {
+                from: From::Net,
+                n,
+                cause,
+            },
+        ) => Some((*n, *cause)),
+        _ => None,
+    }
+}
+
+#[test]
+fn a_parcel_goes_to_the_network(rt: HostRuntime) -> Result<(), Fail> {
+    let mut pump = pump_of(rt.alloc(), &[], 1500, &[])?;
+    let mut office = empty_office(rt.alloc())?;
+    let mut mail = mail_of(rt.alloc())?;
+    put(rt.alloc(), &mut mail)?;
+    put(rt.alloc(), &mut mail)?;
+    let note = pump.step(&mut office, &mut mail)?;
+    assert!(rt;
+        matches!(&note, Some(Note::Sent { from: From::Tunnel(0), n: 5, packet }) if packet.as_slice() == PACKET)
+    );
+    pump.net().fail_next();
+    let note = pump.step(&mut office, &mut mail)?;
+    assert!(rt;
+        matches!(
+            &note,
+            Some(Note::Dropped {
+                from: From::Tunnel(0),
+                n: 5,
+                cause: Cause::Port
+            })
+        )
+    );
+    assert!(rt; pump.step(&mut office, &mut mail)?.is_none());
+    Ok(())
+}
+
+#[test]
+fn a_packet_is_dropped_for_the_first_cause(rt: HostRuntime) -> Result<(), Fail> {
+    let packets = [PACKET.split_at(20).0, LONG, PACKET];
+    let mut pump = pump_of(rt.alloc(), &packets, 21, &[0])?;
+    let mut office = empty_office(rt.alloc())?;
+    let mut mail = mail_of(rt.alloc())?;
+    // The first receive fails.
+    assert!(rt; pump.step(&mut office, &mut mail)?.is_none());
+    let note = pump.step(&mut office, &mut mail)?;
+    assert_eq!(rt; dropped(&note), Some((0, Cause::BadHeader)));
+    let note = pump.step(&mut office, &mut mail)?;
+    assert_eq!(rt; dropped(&note), Some((1, Cause::TooLong)));
+    let note = pump.step(&mut office, &mut mail)?;
+    assert_eq!(rt; dropped(&note), Some((2, Cause::NoRoute)));
+    assert!(rt; pump.step(&mut office, &mut mail)?.is_none());
+    let _ = pump.net_at();
+    let _ = pump.close();
+    Ok(())
+}
