@@ -137,7 +137,7 @@ starves_boxes old sh (Of n) reached answer new after x = heard_boxes reached.ask
 -- ---- one inbox
 
 -- behind a write to one of them
-set_box : (boxes : List (List Parcel)) (i j : ℕ) (box : List Parcel) → (box_at (slice_set boxes i box) j ≡ box_at boxes j) ⊎ ((i ≡ j) × (box_at (slice_set boxes i box) j ≡ box))
+pub set_box : (boxes : List (List Parcel)) (i j : ℕ) (box : List Parcel) → (box_at (slice_set boxes i box) j ≡ box_at boxes j) ⊎ ((i ≡ j) × (box_at (slice_set boxes i box) j ≡ box))
 set_box [] zero j box = inl refl
 set_box [] (suc i) j box = inl refl
 set_box (b ∷ boxes) zero zero box = inr (refl, refl)

@@ -12,6 +12,7 @@ use Rattle.mq_talk.specs.declared.place.Origin.{Origin}
 use Rattle.mq_talk.specs.declared.place.Origin.TheVariants as origin
 use Rattle.mq_talk.specs.declared.place.Parcel.{Parcel}
 use Rattle.mq_talk.specs.declared.place.Place.{Place}
+use Rattle.mq_talk.specs.declared.place.Place.TheVariants as place
 use Rattle.mq_talk.specs.Mails.{box_at, with_parcel}
 use Rattle.mq_machine.specs.declared.act.StreamAct.TheVariants as stream
 use Rattle.mq_machine.specs.declared.event.Event.{Event}
@@ -33,6 +34,7 @@ use Rattle.mq_runs.proofs.Behind.{AllAsked, AllAlone, taken_more, taken_now, all
 use Rattle.mq_runs.proofs.Boxes.{starves_boxes, pushed_box, popped_box, happen_boxes}
 use Rattle.mq_runs.proofs.Bridge.{run_append}
 use Rattle.mq_runs.proofs.Conns.{any_setup, happen_have}
+use Rattle.mq_runs.proofs.Filling.{Filled, filled_at, front_place}
 use Rattle.mq_runs.proofs.Flight.{Key}
 use Rattle.mq_runs.proofs.Nexts.{next_is}
 use Rattle.mq_runs.proofs.Passing.{pushed_passed}
@@ -89,7 +91,6 @@ module _ (plan : Plan) where
   queued_more ms m from n tunnel packet x = record {
     here = x.here;
     number = x.number;
-    actor = x.actor;
     pushed = x.pushed;
     taken = taken_more plan ms m x.here (WorkerOf x.number) _ x.taken;
     was = x.was;
@@ -168,7 +169,7 @@ module _ (plan : Plan) where
   abbrev pub Passes : List Moment → State → Type 0
   Passes ms s = (tunnel n : ℕ) (to : Place) (packet : List ℕ) → IsNext s tunnel (stream.Push n to packet) → TunnelPassed plan ms tunnel n to packet
 
-  module _ (ms : List Moment) (s : State) (run : Run (state_of plan) ms s) (passes : Passes ms s) (h : Traced ms s) where
+  module _ (ms : List Moment) (s : State) (run : Run (state_of plan) ms s) (filled : Filled plan.workers ms s) (passes : Passes ms s) (h : Traced ms s) where
     gets_of : (number : ℕ) (said : Note) (worker : Worker) → slice_get s.workers number ≡ Some worker → (conn : ℕ) (held : Held) → held_of worker conn ≡ Some held
         → (p : Port) (datagram : List ℕ) (others : List (List ℕ)) (t : Tunnel) → port_of held.ports p.tunnel ≡ Some p → p.arrived ≡ datagram ∷ others → tunnel_of held.conn p.tunnel ≡ Some t
         → said ≡ note.Queued (source.Port p.tunnel) p.received t.id → CameAs plan (ms ++ Noted (WorkerOf number) said ∷ []) t.id (source.Port p.tunnel) p.received datagram
@@ -192,17 +193,16 @@ module _ (plan : Plan) where
           },
         )
 
-    pops_of : (number : ℕ) (said : Note) (worker : Worker) → Pops (CameAs plan (ms ++ Noted (WorkerOf number) said ∷ [])) worker s.shared said
-    pops_of number said worker parcel rest id actor packet at to on told =
+    pops_of : (number : ℕ) (said : Note) (worker : Worker) → slice_get s.workers number ≡ Some worker → Pops (CameAs plan (ms ++ Noted (WorkerOf number) said ∷ [])) worker s.shared said
+    pops_of number said worker works parcel rest id actor packet at to on told =
         let was = first_has_it (Boxed ms) s.shared.boxes worker.id parcel rest at h.boxes in
         came_of (ms ++ Noted (WorkerOf number) said ∷ []) parcel.from parcel.n id packet
         (record {
           here = s;
           number = number;
-          actor = actor;
           pushed = parcel.packet;
           taken = taken_now plan ms s (WorkerOf number) said (note.Queued (source_of parcel.from) parcel.n id) told run;
-          was = subst (λ (p : Place). WentOn plan ms parcel.from parcel.n p parcel.packet) to was;
+          was = subst (λ (p : Place). WentOn plan ms parcel.from parcel.n p parcel.packet) (to ∙ ap (place.Tunnel id) (front_place plan.workers ms s number worker parcel rest id actor filled works at to)) was;
           goes_on = on;
         })
 
@@ -296,16 +296,16 @@ module _ (plan : Plan) where
 
   -- ---- a step
 
-  turn_traced : (ms : List Moment) (s t : State) (actor : Actor) (said : Note) → Run (state_of plan) ms s → Passes ms s → AllAsked s → AllAlone s → Traced ms s → Turn s actor said t → Traced (ms ++ Noted actor said ∷ []) t
-  turn_traced ms s t (WorkerOf number) said run passes asked alone h x =
+  turn_traced : (ms : List Moment) (s t : State) (actor : Actor) (said : Note) → Run (state_of plan) ms s → Filled plan.workers ms s → Passes ms s → AllAsked s → AllAlone s → Traced ms s → Turn s actor said t → Traced (ms ++ Noted actor said ∷ []) t
+  turn_traced ms s t (WorkerOf number) said run filled passes asked alone h x =
       let m = Noted (WorkerOf number) said in
       let w = x.worker in
       let asked_w = each_at (λ (w : Worker). AllByRecursion (λ (g : Held). Asked w.setup.mtu g.conn) w.conns) s.workers number w asked x.at in
       let alone_w = each_at (λ (w : Worker). AllByRecursion (λ (g : Held). Alone g.conn.tunnels) w.conns) s.workers number w alone x.at in
       let well_w = each_at (WorkerWell (CameAs plan ms)) s.workers number w h.waits x.at in
-      let boxes = seat_have ms s run passes h number said w x.shared x.at asked_w (seat_pushes w s.shared x.turn.seat x.answer said x.next x.shared x.turn.next) in
+      let boxes = seat_have ms s run filled passes h number said w x.shared x.at asked_w (seat_pushes w s.shared x.turn.seat x.answer said x.next x.shared x.turn.next) in
       let did = seat_well (CameAs plan ms) (CameAs plan (ms ++ m ∷ [])) (came_more ms m) w s.shared x.turn.seat x.answer said x.next x.shared (λ g among. all_among (λ (g : Held). Alone g.conn.tunnels) w.conns g alone_w among)
-      (gets_of ms s run passes h number said w x.at) (pops_of ms s run passes h number said w) well_w x.turn.next in
+      (gets_of ms s run filled passes h number said w x.at) (pops_of ms s run filled passes h number said w x.at) well_w x.turn.next in
       let more = traced_more ms m s h in
       let P : Shared → Type 0 = λ sh. Traced (ms ++ m ∷ []) (record s { workers = slice_set s.workers number x.next; shared = sh }) in
       let made : P (record x.shared { orders = x.after.orders }) = record {
@@ -315,14 +315,14 @@ module _ (plan : Plan) where
         waits = each_set (WorkerWell (CameAs plan (ms ++ m ∷ []))) s.workers number x.next more.waits did.0;
       } in
       subst (Traced (ms ++ m ∷ [])) (sym x.new_is) (subst P (sym x.after_is) made)
-  turn_traced ms s t ThePump said run passes asked alone h x =
+  turn_traced ms s t ThePump said run filled passes asked alone h x =
       let m = Noted ThePump said in
       let did = pump_does s.pump s.shared x.turn.try (said, x.pump, x.shared) x.turn.is in
       let more = traced_more ms m s h in
       let made : Traced (ms ++ m ∷ []) (record s { pump = x.pump; shared = x.shared }) = record {
-        boxes = pump_have ms s run passes h said x.pump x.shared did.boxes;
-        push = pump_push ms s run passes h said x.pump x.shared did.push;
-        send = pump_send ms s run passes h said x.pump did.send;
+        boxes = pump_have ms s run filled passes h said x.pump x.shared did.boxes;
+        push = pump_push ms s run filled passes h said x.pump x.shared did.push;
+        send = pump_send ms s run filled passes h said x.pump did.send;
         waits = more.waits;
       } in
       subst (Traced (ms ++ m ∷ [])) (sym x.new_is) made
@@ -374,10 +374,10 @@ module _ (plan : Plan) where
         waits = happen_have (any_setup (λ (c : Conn). AllWell (CameAs plan ms) c.tunnels)) s e h.waits;
       }
 
-  goes_traced : (ms : List Moment) (s t : State) (m : Moment) → Run (state_of plan) ms s → Passes ms s → AllAsked s → AllAlone s → Traced ms s → Goes s m t → Traced (ms ++ m ∷ []) t
-  goes_traced ms s t (Happened e) run passes asked alone h x = subst (Traced (ms ++ Happened e ∷ [])) (sym x.1) (happen_traced (ms ++ Happened e ∷ []) s e (traced_more ms (Happened e) s h))
-  goes_traced ms s t (Noted actor said) run passes asked alone h x = turn_traced ms s t actor said run passes asked alone h x
-  goes_traced ms s t (Refused actor reached) run passes asked alone h x = silent_traced ms s t actor reached h x
+  goes_traced : (ms : List Moment) (s t : State) (m : Moment) → Run (state_of plan) ms s → Filled plan.workers ms s → Passes ms s → AllAsked s → AllAlone s → Traced ms s → Goes s m t → Traced (ms ++ m ∷ []) t
+  goes_traced ms s t (Happened e) run filled passes asked alone h x = subst (Traced (ms ++ Happened e ∷ [])) (sym x.1) (happen_traced (ms ++ Happened e ∷ []) s e (traced_more ms (Happened e) s h))
+  goes_traced ms s t (Noted actor said) run filled passes asked alone h x = turn_traced ms s t actor said run filled passes asked alone h x
+  goes_traced ms s t (Refused actor reached) run filled passes asked alone h x = silent_traced ms s t actor reached h x
 
   -- ---- runs
 
@@ -395,7 +395,7 @@ module _ (limits : IsWithinLimits) (stays : StaysLawful) (k : Key) (plan : Plan)
   run_traced : (before ms : List Moment) (s t : State) → Run (state_of plan) before s → Traced plan before s → Run s ms t → Traced plan (before ++ ms) t
   run_traced before [] s t run h x = rw append-nil (subst (Traced plan before) (sym x) h)
   run_traced before (m ∷ ms) s t run h x =
-      let here = goes_traced plan before s x.0 m run (passes_at before s run) (asked_at limits stays k plan before s run) (alone_at limits stays k plan before s run) h x.1 in
+      let here = goes_traced plan before s x.0 m run (filled_at limits stays k plan before s run) (passes_at before s run) (asked_at limits stays k plan before s run) (alone_at limits stays k plan before s run) h x.1 in
       let on = run_append before (m ∷ []) (state_of plan) s x.0 run (x.0, x.1, refl) in
       let later = run_traced (before ++ m ∷ []) ms x.0 t on here x.2 in
       subst (λ (l : List Moment). Traced plan l t) (append_assoc before (m ∷ []) ms) later
@@ -415,7 +415,7 @@ module _ (limits : IsWithinLimits) (stays : StaysLawful) (k : Key) (plan : Plan)
       let alone_w = each_at (λ (w : Worker). AllByRecursion (λ (g : Held). Alone g.conn.tunnels) w.conns) here.workers number w (alone_at limits stays k plan before here run) x.at in
       let well_w = each_at (WorkerWell (CameAs plan before)) here.workers number w h.waits x.at in
       (seat_well (CameAs plan before) (CameAs plan (before ++ m ∷ [])) (came_more plan before m) w here.shared x.turn.seat x.answer said x.next x.shared (λ g among. all_among (λ (g : Held). Alone g.conn.tunnels) w.conns g alone_w among)
-      (gets_of plan before here run (passes_at before here run) h number said w x.at) (pops_of plan before here run (passes_at before here run) h number said w) well_w x.turn.next).1
+      (gets_of plan before here run (filled_at limits stays k plan before here run) (passes_at before here run) h number said w x.at) (pops_of plan before here run (filled_at limits stays k plan before here run) (passes_at before here run) h number said w x.at) well_w x.turn.next).1
 
   pub sent_came : (before : List Moment) (here next : State) (from : From) (n : ℕ) (packet : List ℕ) → Run (state_of plan) before here → Turn here ThePump (note.Sent from n packet) next
       → (first : Origin) × (to : Place) × (from ≡ source_of first) × WentOn plan before first n to packet
@@ -423,7 +423,7 @@ module _ (limits : IsWithinLimits) (stays : StaysLawful) (k : Key) (plan : Plan)
       let h = traced_at before here run in
       let did = (pump_does here.pump here.shared x.turn.try (note.Sent from n packet, x.pump, x.shared) x.turn.is).sends in
       let parcel = did.0 in
-      let was = has_boxed plan before here run (passes_at before here run) h parcel did.1 in
+      let was = has_boxed plan before here run (filled_at limits stays k plan before here run) (passes_at before here run) h parcel did.1 in
       let P : ℕ → List ℕ → Type 0 = λ i bytes. WentOn plan before parcel.from i parcel.to bytes in
       (parcel.from, parcel.to, did.2, subst (λ bytes. P n bytes) (sym did.4) (subst (λ i. P i parcel.packet) (sym did.3) was))
 

@@ -40,3 +40,10 @@ mod Sending
 mod Sends
 mod SentOrder
 mod Putting
+mod Saying
+mod Filling
+mod Handing
+mod Onlys
+mod Lasting
+mod Closings
+mod Lasts

@@ -34,7 +34,7 @@ pushed_note parcel = note.PushedNote (source_of parcel.from) parcel.n parcel.to
 
 -- ---- a connection's step
 
-done_push : (c : Conn) (n : ℕ) (to : Place) (packet : List ℕ) (f : InFront c (stream.Push n to packet)) (d : Note × Conn) → done c (Pushed true) ≡ Some d → d.0 ≡ note.PushedNote (source.Tunnel f.t.id) n to
+pub done_push : (c : Conn) (n : ℕ) (to : Place) (packet : List ℕ) (f : InFront c (stream.Push n to packet)) (d : Note × Conn) → done c (Pushed true) ≡ Some d → d.0 ≡ note.PushedNote (source.Tunnel f.t.id) n to
 done_push c n to packet f d e =
     let now : Conn = record c { due = f.others } in
     let by : done_by c c.ending (Pushed true) ≡ Some (note.PushedNote (source.Tunnel f.t.id) n to, now) =

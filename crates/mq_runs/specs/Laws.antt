@@ -1,17 +1,18 @@
 -- What is so in every run.
-use Rattle.std.specs.Prelude.{◌≡◌, ℕ, ◌≤◌, List, ◌++◌, Some}
-use Rattle.std.specs.List.{AllByRecursion}
+use Rattle.std.specs.Prelude.{◌≡◌, ℕ, ◌<◌, ◌≤◌, List, ◌++◌, length, map, slice_get, Some}
+use Rattle.std.specs.List.{AllByRecursion, flat_map}
 use Rattle.mq_runs.specs.Order.{delivered_of, sent_of, IsRising}
 use Rattle.mq_play.specs.Play.{Fate, SomeStop, Stage, opening, opened, PlaysLine, Plays}
 use Rattle.mq_play.specs.declared.plan.Plan.{Plan}
 use Rattle.mq_talk.specs.declared.note.Note.{Note}
-use Rattle.mq_machine.specs.State.{State}
+use Rattle.mq_machine.specs.State.{Tunnel, Held, Worker, State, held_of, tunnel_of}
 use Rattle.mq_machine.specs.Turn.{Actor, WorkerOf, ThePump, source_of}
 use Rattle.mq_talk.specs.declared.note.From.{From}
 use Rattle.mq_talk.specs.declared.note.From.TheVariants as source
 use Rattle.mq_machine.specs.declared.act.StreamAct.TheVariants as stream
 use Rattle.mq_runs.specs.Payloads.{IsNext}
 use Rattle.mq_talk.specs.declared.note.Note.TheVariants as note
+use Rattle.mq_talk.specs.declared.note.Why.{Why}
 use Rattle.mq_talk.specs.declared.place.Cause.{Cause}
 use Rattle.mq_talk.specs.declared.place.Origin.{Origin}
 use Rattle.mq_talk.specs.declared.place.Origin.TheVariants as origin
@@ -19,9 +20,12 @@ use Rattle.mq_talk.specs.declared.place.Parcel.{Parcel}
 use Rattle.mq_talk.specs.declared.place.Place.{Place}
 use Rattle.mq_play.specs.Events.{state_of}
 use Rattle.mq_runs.specs.Causes.{Holds}
+use Rattle.mq_talk.specs.Mails.{box_at}
 use Rattle.mq_runs.specs.Ends.{ends_of, IsCounted}
+use Rattle.mq_runs.specs.Inboxes.{parcel_name, held_names, pushed_by, left_by, sent_or_failed_by, passed_by, pushed_or_full_by}
 use Rattle.mq_runs.specs.Pushed.{NetPassed, TunnelPassed, WentOn, CameAs}
 use Rattle.mq_runs.specs.Runs.{Moment, Noted, Goes, Run, notes_of, IsRunOf, Comes}
+use Rattle.mq_runs.specs.Queues.{waiting_names, queued_in, delivered_in}
 use Rattle.mq_runs.specs.Written.{IsTrueOf}
 
 -- What lines print from the opening of a script on is what a run prints, which leads to the state that they lead to. So it is
@@ -83,3 +87,33 @@ HeldAsItPassed = (plan : Plan) (before : List Moment) (here : State) (parcel : P
 abbrev pub PushedAsItPassed : Type 0
 PushedAsItPassed = (plan : Plan) (before : List Moment) (here : State) (tunnel n : ℕ) (to : Place) (packet : List ℕ)
     → Run (state_of plan) before here → IsNext here tunnel (stream.Push n to packet) → TunnelPassed plan before tunnel n to packet
+
+-- Of each inbox: what was pushed there in these moments is, in order, what left it and what is in it. What left the pump's was sent,
+-- or dropped as the network failed, but for a parcel that the pump holds for sending.
+pub record HasAllPushed (plan : Plan) (moments : List Moment) (last : State) : Type 0 where
+  pub of_worker : (i : ℕ) → i < plan.workers → flat_map (pushed_by plan.workers i) moments ≡ flat_map (left_by i) moments ++ map parcel_name (box_at last.shared.boxes i)
+  pub of_pump : flat_map (pushed_by plan.workers plan.workers) moments
+      ≡ flat_map sent_or_failed_by moments ++ (held_names last.pump.to_send ++ map parcel_name (box_at last.shared.boxes plan.workers))
+
+-- No inbox loses a packet, or lets one overtake another.
+abbrev pub InboxesLoseNone : Type 0
+InboxesLoseNone = (plan : Plan) (moments : List Moment) (last : State) → Run (state_of plan) moments last → HasAllPushed plan moments last
+
+-- The pump loses no packet that the network gave and that passed: those are, in order, what it pushed, or dropped as an inbox was
+-- full, and what it holds for pushing.
+abbrev pub PumpLosesNone : Type 0
+PumpLosesNone = (plan : Plan) (moments : List Moment) (last : State) → Run (state_of plan) moments last
+    → flat_map passed_by moments ≡ flat_map pushed_or_full_by moments ++ held_names last.pump.to_push
+
+-- No live tunnel loses a packet, or lets one overtake another: what came to wait there is, in order, what it delivered and what
+-- waits there.
+abbrev pub TunnelsLoseNone : Type 0
+TunnelsLoseNone = (plan : Plan) (moments : List Moment) (last : State) (number : ℕ) (worker : Worker) (conn : ℕ) (held : Held) (tunnel : ℕ) (t : Tunnel)
+    → Run (state_of plan) moments last → slice_get last.workers number ≡ Some worker → held_of worker conn ≡ Some held → tunnel_of held.conn tunnel ≡ Some t
+    → flat_map (queued_in tunnel) (notes_of moments) ≡ flat_map (delivered_in tunnel) (notes_of moments) ++ waiting_names t.waiting
+
+-- A tunnel that closes says how many of the packets that came to wait there it didn't deliver: the last of them.
+abbrev pub ClosedSaysTheRest : Type 0
+ClosedSaysTheRest = (plan : Plan) (before : List Moment) (here next : State) (actor : Actor) (tunnel : ℕ) (reason : Why) (left : ℕ)
+    → Run (state_of plan) before here → Goes here (Noted actor (note.Closed tunnel reason left)) next
+    → (rest : List (From × ℕ)) × (flat_map (queued_in tunnel) (notes_of before) ≡ flat_map (delivered_in tunnel) (notes_of before) ++ rest) × (left ≡ length rest)

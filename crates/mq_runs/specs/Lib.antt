@@ -5,4 +5,6 @@ pub mod Pushed
 pub mod Causes
 pub mod Ends
 pub mod Order
+pub mod Inboxes
+pub mod Queues
 pub mod Laws

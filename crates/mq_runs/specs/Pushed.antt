@@ -70,15 +70,14 @@ pub record WentOn (plan : Plan) (moments : List Moment) (from : Origin) (n : ℕ
   pub pushed : WasPushed plan moments from n to packet
   pub passed : HasPassed plan pushed.taken.before from n to packet
 
--- The packet with its origin and number came to wait in the tunnel. Before that a packet was pushed to this tunnel, of which it is
--- what goes on: its hop limit is lowered by one, and its checksum with it.
+-- The packet with its origin and number came to wait in the tunnel. Before that a packet was pushed to this tunnel, by way of the
+-- worker that took it from its inbox, of which it is what goes on: its hop limit is lowered by one, and its checksum with it.
 pub record WasQueued (plan : Plan) (moments : List Moment) (from : Origin) (n tunnel : ℕ) (packet : List ℕ) : Type 0 where
   pub here : State
   pub number : ℕ
-  pub actor : ℕ
   pub pushed : List ℕ
   pub taken : WasTaken plan moments here (WorkerOf number) (note.Queued (source_of from) n tunnel)
-  pub was : WentOn plan taken.before from n (place.Tunnel tunnel actor) pushed
+  pub was : WentOn plan taken.before from n (place.Tunnel tunnel number) pushed
   pub goes_on : onward pushed ≡ Some packet
 
 -- the port of the tunnel gave the datagram with this number, and it came to wait in the tunnel

@@ -1,5 +1,5 @@
 //! Laws of runs, each the contract of a function without a body.
-ghost use Rattle.mq_runs.specs.Laws.{CausesHeld, DeliveredAsItCame, DeliveredInOrder, HeldAsItPassed, IsARun, JudgedOnWhatWasWritten, NoTwoEnds, PushedAsItPassed, PutAsItCame, SentAsPushed, SentInOrder};
+ghost use Rattle.mq_runs.specs.Laws.{CausesHeld, ClosedSaysTheRest, DeliveredAsItCame, DeliveredInOrder, HeldAsItPassed, InboxesLoseNone, IsARun, JudgedOnWhatWasWritten, NoTwoEnds, PumpLosesNone, PushedAsItPassed, PutAsItCame, SentAsPushed, SentInOrder, TunnelsLoseNone};
 
 use mq_capsule::{is_read_once, is_readable, is_within_limits};
 use mq_machine::stays_lawful;
@@ -90,6 +90,41 @@ pub fn held_as_it_passed()
 /// What a tunnel has to push passed, to its place.
 pub fn pushed_as_it_passed()
     ensures { PushedAsItPassed }
+{
+    is_within_limits();
+    stays_lawful();
+    is_readable();
+    is_read_once();
+}
+
+/// No inbox loses a packet, or lets one overtake another.
+pub fn inboxes_lose_none()
+    ensures { InboxesLoseNone }
+{
+    is_within_limits();
+    stays_lawful();
+    is_readable();
+    is_read_once();
+}
+
+/// The pump loses no packet that the network gave and that passed.
+pub fn pump_loses_none()
+    ensures { PumpLosesNone }
+{}
+
+/// No live tunnel loses a packet, or lets one overtake another.
+pub fn tunnels_lose_none()
+    ensures { TunnelsLoseNone }
+{
+    is_within_limits();
+    stays_lawful();
+    is_readable();
+    is_read_once();
+}
+
+/// A tunnel that closes says how many of the packets that came to wait there it didn't deliver: the last of them.
+pub fn closed_says_the_rest()
+    ensures { ClosedSaysTheRest }
 {
     is_within_limits();
     stays_lawful();
