@@ -16,7 +16,8 @@ mod soak;
 mod udp;
 
 use mq_mem::{MemOutside, MemSink, MemSource};
-use mq_top::{StandardSink, StandardSource, Status, replay, run};
+use mq_replay::{StandardSink, StandardSource, Status, replay};
+use mq_top::run;
 use mq_wire::{Bytes, NoMemory, Seq};
 use packets::{SESSION, SESSION_PRINTS};
 use rows::{

@@ -3,13 +3,13 @@ use Rattle.std.proofs.Common.{◌≡◌, ℕ, List, [], Option, Some, None, Matc
 use Rattle.std.specs.Prelude.{String}
 use Rattle.std.specs.Global.{Global}
 use Rattle.mq_output.specs.Joined.{adds_none}
-use Rattle.mq_top.proofs.Ending.{gives_none}
-use Rattle.mq_top.proofs.Reading.{nothing_yet}
+use Rattle.mq_replay.proofs.Ending.{gives_none}
+use Rattle.mq_replay.proofs.Reading.{nothing_yet}
 use Rattle.mq_top.specs.Asking.{Asks}
 use Rattle.mq_top.specs.Generates.{Generates}
-use Rattle.mq_top.specs.Replay.{Replayed}
+use Rattle.mq_replay.specs.Replay.{Replayed}
 use Rattle.mq_top.specs.Soaking.{Soaks}
-use Rattle.mq_top.specs.declared.status.Status.TheVariants as status
+use Rattle.mq_replay.specs.declared.status.Status.TheVariants as status
 use Rattle.mq_udp.specs.Udp.{Seen}
 use Rattle.mq_udp.specs.declared.outcome.Outcome.TheVariants as outcome
 use Rattle.mq_words.specs.Words.{AsksFor}

@@ -4,10 +4,10 @@ use Rattle.std.specs.List.{AllByRecursion}
 use Rattle.std.proofs.lemmas.List.{length-append}
 use Rattle.mq_play.specs.Laws.{AllNoted, NoneSilent}
 use Rattle.mq_play.specs.Play.{Fate, Noted, Silent, Stage, opening, IsWrong}
-use Rattle.mq_top.proofs.Reading.{plays_more}
+use Rattle.mq_replay.proofs.Reading.{plays_more}
 use Rattle.mq_top.specs.Joined.{counted_none, counted_more}
-use Rattle.mq_top.specs.Listening.{IsNoted}
-use Rattle.mq_top.specs.Playing.{LineTo}
+use Rattle.mq_replay.specs.Listening.{IsNoted}
+use Rattle.mq_replay.specs.Playing.{LineTo}
 use Rattle.mq_drawn.specs.Laws.{HasNoBadLine}
 use Rattle.mq_script.specs.Generated.{generated}
 use Rattle.mq_script.specs.Left.{GivesLine}
@@ -15,7 +15,7 @@ use Rattle.mq_output.specs.Printing.{StopCounts}
 use Rattle.mq_top.specs.Soaking.{IsBadAt, IsCounted, IsSoaked, IsSoaking, SoaksAll, SoaksOn}
 use Rattle.mq_top.specs.Tallies.{Counts, Counted, no_counts}
 use Rattle.mq_top.specs.declared.soaking.GeneratedPlay.{GeneratedPlay}
-use Rattle.mq_top.specs.declared.stage.Stage as held
+use Rattle.mq_replay.specs.declared.stage.Stage as held
 use Rattle.mq_output.specs.declared.stop.Stop.{Stop}
 use Rattle.mq_output.specs.declared.stop.Stop.TheVariants as stop
 

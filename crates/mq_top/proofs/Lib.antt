@@ -1,12 +1,3 @@
-pub mod Shown
-pub mod Spoken
-pub mod Onward
-pub mod Round
-pub mod Opening
-pub mod Playing
-pub mod Cutting
-pub mod Reading
-pub mod Ending
 pub mod Generating
 pub mod Asked
 pub mod Tallying

@@ -4,8 +4,8 @@ use Rattle.mq_play.specs.Script.{IsFrontOf, text_of}
 use Rattle.mq_play.specs.Text.{newline}
 use Rattle.mq_script.specs.Generated.{generated}
 use Rattle.mq_output.specs.Printing.{Adds}
-use Rattle.mq_top.specs.declared.status.Status.{Status}
-use Rattle.mq_top.specs.declared.status.Status.TheVariants as status
+use Rattle.mq_replay.specs.declared.status.Status.{Status}
+use Rattle.mq_replay.specs.declared.status.Status.TheVariants as status
 use Rattle.mq_output.specs.declared.stop.Stop.{Stop}
 use Rattle.mq_output.specs.declared.stop.Stop.TheVariants.{BadLine, WriteFault, NoMemory}
 

@@ -1,12 +1,5 @@
-pub mod Telling
-pub mod Stages
-pub mod Listening
-pub mod Playing
-pub mod Reading
-pub mod Replay
 pub mod Generates
 pub mod Tallies
 pub mod Joined
 pub mod Soaking
 pub mod Asking
-pub mod Standard

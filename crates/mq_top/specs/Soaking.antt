@@ -7,13 +7,13 @@ use Rattle.mq_play.specs.Script.{IsFrontOf}
 use Rattle.mq_script.specs.Counting.{count_line}
 use Rattle.mq_script.specs.Generated.{generated}
 use Rattle.mq_output.specs.Printing.{Adds}
-use Rattle.mq_top.specs.Stages.{IsStage}
+use Rattle.mq_replay.specs.Stages.{IsStage}
 use Rattle.mq_top.specs.Tallies.{Counts, Counted, no_counts, counts_text}
 use Rattle.mq_top.specs.declared.soaking.GeneratedPlay.{GeneratedPlay}
 use Rattle.mq_output.specs.declared.stop.Stop.{Stop}
 use Rattle.mq_output.specs.declared.stop.Stop.TheVariants as stop
-use Rattle.mq_top.specs.declared.status.Status.{Status}
-use Rattle.mq_top.specs.declared.status.Status.TheVariants.{Done, ReadFault, WriteFault, BadScript, NoMemory}
+use Rattle.mq_replay.specs.declared.status.Status.{Status}
+use Rattle.mq_replay.specs.declared.status.Status.TheVariants.{Done, ReadFault, WriteFault, BadScript, NoMemory}
 
 -- The lines were played, and what that prints has these counts. Each step gave its note, and no connection ended for want of
 -- memory.

@@ -1,8 +1,7 @@
 //! The program: its words, standard input and standard output.
 use crate::command::{USAGE, run};
-use crate::standard::{StandardSink, StandardSource};
-use crate::status::Status;
 use mq_mem::MemOutside;
+use mq_replay::{StandardSink, StandardSource, Status};
 use std::process::ExitCode;
 use std::sync::Wait;
 use std::{env, io};

@@ -2,11 +2,11 @@
 ghost use Rattle.std.specs.Prelude.{◌≡◌, ℕ, List, []};
 ghost use Rattle.mq_top.specs.Generates.{Generates, LineShown, LinesWritten};
 ghost use Rattle.mq_output.specs.Printing.{Prints, StopCounts, Takes};
-ghost use Rattle.mq_top.specs.Replay.{SinkCounts};
+ghost use Rattle.mq_replay.specs.Replay.{SinkCounts};
 
-use crate::status::Status;
 use mq_output::{Output, Stop};
 use mq_outside::Sink;
+use mq_replay::Status;
 use mq_script::Generator;
 use std::alloc::Global;
 

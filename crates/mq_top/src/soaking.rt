@@ -3,18 +3,15 @@ ghost use Rattle.std.specs.Prelude.{◌≡◌, ◌<◌, ◌≤◌, ◌++◌, ℕ
 ghost use Rattle.mq_play.specs.Play as spec;
 ghost use Rattle.mq_play.specs.Play.{opened};
 ghost use Rattle.mq_script.specs.Generated.{generated};
-ghost use Rattle.mq_top.specs.Replay.{SinkCounts};
+ghost use Rattle.mq_replay.specs.Replay.{SinkCounts};
 ghost use Rattle.mq_top.specs.Soaking.{IsSoaking, Soaks, SoaksAll, SoaksOn, SumsTo, summary_text};
-ghost use Rattle.mq_top.specs.Stages.{IsStage};
+ghost use Rattle.mq_replay.specs.Stages.{IsStage};
 
-use crate::play::play_line;
-use crate::session::LINE_LIMIT;
-use crate::stage::Stage;
-use crate::status::Status;
 use crate::tally::Tally;
 use mq_drawn::no_line_is_bad;
 use mq_output::{Output, Stop};
 use mq_outside::Sink;
+use mq_replay::{LINE_LIMIT, Stage, Status, play_line};
 use mq_script::{Generator, print_count, print_more};
 use mq_wire::NoMemory;
 use std::alloc::Global;

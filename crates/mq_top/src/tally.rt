@@ -2,8 +2,8 @@
 ghost use Rattle.std.specs.Prelude.{◌≡◌, ◌+◌, ◌++◌, OnOk, OnErr};
 ghost use Rattle.mq_top.specs.Tallies.{counts_text, is_starved_note, no_counts, with_note};
 
-use crate::listener::Listener;
 use mq_output::Stop;
+use mq_replay::Listener;
 use mq_script::print_count;
 use mq_talk::{End, Note};
 use mq_wire::NoMemory;
@@ -101,7 +101,7 @@ impl Tally {
 
 /// A step that is refused memory stops the play, and so does a connection that ends for want of it.
 impl Listener for Tally {
-    ghost use Rattle.mq_top.specs.Listening.{IsNoted};
+    ghost use Rattle.mq_replay.specs.Listening.{IsNoted};
     ghost use Rattle.mq_top.specs.Tallies.{Counted};
     ghost use Rattle.mq_top.specs.Joined.{counted_none, counted_more};
 

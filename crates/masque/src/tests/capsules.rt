@@ -1,7 +1,7 @@
 //! The data stream of a tunnel.
 
 use super::roomy;
-use mq_top::Status;
+use mq_replay::Status;
 use std::alloc::{AllocError, Global};
 use std::test::Fail;
 

@@ -2,7 +2,7 @@
 
 use super::{NEVER, does, roomy, words_of};
 use mq_mem::{MemOutside, MemSink, MemSource};
-use mq_top::Status;
+use mq_replay::Status;
 use mq_wire::{Bytes, NoMemory, Seq};
 use std::alloc::Global;
 use std::sync::Wait;

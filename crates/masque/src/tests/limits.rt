@@ -1,7 +1,7 @@
 //! The limits of a line and of a script.
 
 use super::{NEVER, PLAIN, Way, replayed};
-use mq_top::Status;
+use mq_replay::Status;
 use std::alloc::{AllocError, Global};
 use std::test::Fail;
 

@@ -2,7 +2,7 @@
 
 use super::rows::{TUNNEL, TUNNEL_PRINTS};
 use super::{PLAIN, replayed};
-use mq_top::Status;
+use mq_replay::Status;
 use std::alloc::{AllocError, Global};
 use std::test::Fail;
 

@@ -1,7 +1,7 @@
 //! Replays for many: several links and workers, both directions, and steps of all actors.
 
 use super::roomy;
-use mq_top::Status;
+use mq_replay::Status;
 use std::test::Fail;
 
 /// Two clients of two workers.

@@ -1,7 +1,7 @@
 //! Packets that come from the network, while no tunnel is for IP packets. The header checksums are another program's.
 
 use super::{PLAIN, replayed};
-use mq_top::Status;
+use mq_replay::Status;
 use std::alloc::{AllocError, Global};
 use std::test::Fail;
 

@@ -1,7 +1,7 @@
 //! Tunnels for IP packets. What is printed is worked out by another program (tools/ip_examples.py checks it, packet for packet).
 
 use super::{PLAIN, replayed};
-use mq_top::Status;
+use mq_replay::Status;
 use std::test::Fail;
 
 /// Two clients on two workers send packets to each other, and one says where its tunnel leads.

@@ -1,7 +1,7 @@
 //! Requests, and the settings and bind that decide them.
 
 use super::{PLAIN, replayed};
-use mq_top::Status;
+use mq_replay::Status;
 use std::alloc::{AllocError, Global};
 use std::test::Fail;
 

@@ -3,7 +3,7 @@ use Rattle.mq_top.proofs.Asked.{asks_none, gen_parts, generates_none, read_none,
 use Rattle.mq_top.specs.Asking.{Asks}
 use Rattle.mq_top.specs.Generates.{Generates}
 use Rattle.mq_top.specs.Soaking.{Soaks}
-use Rattle.mq_top.specs.declared.status.Status.TheVariants as status
+use Rattle.mq_replay.specs.declared.status.Status.TheVariants as status
 use Rattle.mq_udp.specs.Udp.{seen_of}
 use Rattle.mq_udp.specs.declared.outcome.Outcome.TheVariants as outcome
 use Rattle.mq_words.specs.declared.command.Command.TheVariants as ask

@@ -1,7 +1,7 @@
 use Rattle.std.proofs.Common.{◌++◌, [], refl, ◌∙◌}
 use Rattle.std.proofs.lemmas.Result.{err_from_is_err_and}
 use Rattle.mq_play.specs.Script.{text_of}
-use Rattle.mq_top.proofs.Ending.{from_none}
+use Rattle.mq_replay.proofs.Ending.{from_none}
 use Rattle.mq_top.proofs.Generating.{lines_all, lines_flushed, lines_more, lines_stopped}
 use Rattle.mq_output.proofs.Shown.{prints_flushed}
 use Rattle.mq_output.specs.Joined.{prints_more, prints_none}

@@ -1,8 +1,8 @@
 use Rattle.std.proofs.Common.{◌≡◌, ℕ, List, Ok, Err, true, refl, subst, rules}
 use Rattle.std.proofs.lemmas.Result.{err_from_is_err_and}
 use Rattle.mq_top.proofs.Counting.{given_line, shorter_by, soaks_line, soaks_stopped}
-use Rattle.mq_top.specs.Listening.{IsNoted}
-use Rattle.mq_top.specs.Playing.{LineTo}
+use Rattle.mq_replay.specs.Listening.{IsNoted}
+use Rattle.mq_replay.specs.Playing.{LineTo}
 use Rattle.mq_top.proofs.soaking.GeneratedPlay.play_next.Goals as goal
 
 pub returns-clause-goes : goal.returns-clause-goes

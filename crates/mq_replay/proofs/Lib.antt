@@ -1,0 +1,9 @@
+pub mod Shown
+pub mod Spoken
+pub mod Onward
+pub mod Round
+pub mod Opening
+pub mod Playing
+pub mod Cutting
+pub mod Reading
+pub mod Ending
