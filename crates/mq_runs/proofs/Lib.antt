@@ -1,4 +1,5 @@
 mod Bridge
+mod Bringing
 mod Walks
 mod Wells
 mod Pushes
@@ -46,4 +47,7 @@ mod Handing
 mod Onlys
 mod Lasting
 mod Closings
+mod Ups
+mod Readings
+mod Turning
 mod Lasts

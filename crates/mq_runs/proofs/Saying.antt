@@ -78,19 +78,19 @@ is_taken (Pushed true) = true
 is_taken answer = false
 
 -- what is wrong with a payload that is dropped as it is read is none of the causes of an inbox
-not_gone : (mtu : ℕ) (i : Item) → IsWrong mtu i cause.Gone → ⊥
+pub not_gone : (mtu : ℕ) (i : Item) → IsWrong mtu i cause.Gone → ⊥
 not_gone mtu (item.Datagram context payload) wrong = wrong
 not_gone mtu (item.TooLongDatagram context size) wrong = wrong
 not_gone mtu (item.Control kind value) wrong = wrong
 not_gone mtu (item.Bad fault) wrong = wrong
 
-not_limit : (mtu : ℕ) (i : Item) → IsWrong mtu i cause.HopLimit → ⊥
+pub not_limit : (mtu : ℕ) (i : Item) → IsWrong mtu i cause.HopLimit → ⊥
 not_limit mtu (item.Datagram context payload) wrong = wrong
 not_limit mtu (item.TooLongDatagram context size) wrong = wrong
 not_limit mtu (item.Control kind value) wrong = wrong
 not_limit mtu (item.Bad fault) wrong = wrong
 
-not_full : (mtu : ℕ) (i : Item) → IsWrong mtu i cause.QueueFull → ⊥
+pub not_full : (mtu : ℕ) (i : Item) → IsWrong mtu i cause.QueueFull → ⊥
 not_full mtu (item.Datagram context payload) wrong = wrong
 not_full mtu (item.TooLongDatagram context size) wrong = wrong
 not_full mtu (item.Control kind value) wrong = wrong

@@ -1,11 +1,12 @@
 -- What is so in every run.
-use Rattle.std.specs.Prelude.{◌≡◌, ℕ, ◌<◌, ◌≤◌, List, ◌++◌, length, map, slice_get, Some}
-use Rattle.std.specs.List.{AllByRecursion, flat_map}
+use Rattle.std.specs.Prelude.{◌≡◌, ◌⊎◌, ℕ, ◌<◌, ◌≤◌, true, List, ◌++◌, length, map, slice_get, Some, None}
+use Rattle.std.specs.List.{AllByRecursion, flat_map, list_any}
 use Rattle.mq_runs.specs.Order.{delivered_of, sent_of, IsRising}
 use Rattle.mq_play.specs.Play.{Fate, SomeStop, Stage, opening, opened, PlaysLine, Plays}
 use Rattle.mq_play.specs.declared.plan.Plan.{Plan}
 use Rattle.mq_talk.specs.declared.note.Note.{Note}
-use Rattle.mq_machine.specs.State.{Tunnel, Held, Worker, State, held_of, tunnel_of}
+use Rattle.mq_machine.specs.Reading.{has_values, payload_count, stream_of}
+use Rattle.mq_machine.specs.State.{Stream, Tunnel, Held, Worker, State, kind_of, held_of, tunnel_of}
 use Rattle.mq_machine.specs.Turn.{Actor, WorkerOf, ThePump, source_of}
 use Rattle.mq_talk.specs.declared.note.From.{From}
 use Rattle.mq_talk.specs.declared.note.From.TheVariants as source
@@ -19,6 +20,9 @@ use Rattle.mq_talk.specs.declared.place.Origin.TheVariants as origin
 use Rattle.mq_talk.specs.declared.place.Parcel.{Parcel}
 use Rattle.mq_talk.specs.declared.place.Place.{Place}
 use Rattle.mq_play.specs.Events.{state_of}
+use Rattle.mq_capsule.specs.declared.item.Item.{Item}
+use Rattle.mq_capsule.specs.Items.{ItemsOf}
+use Rattle.mq_runs.specs.Asking.{acted_by, is_due, closes, is_behind_close}
 use Rattle.mq_runs.specs.Causes.{Holds}
 use Rattle.mq_talk.specs.Mails.{box_at}
 use Rattle.mq_runs.specs.Ends.{ends_of, IsCounted}
@@ -87,6 +91,15 @@ HeldAsItPassed = (plan : Plan) (before : List Moment) (here : State) (parcel : P
 abbrev pub PushedAsItPassed : Type 0
 PushedAsItPassed = (plan : Plan) (before : List Moment) (here : State) (tunnel n : ℕ) (to : Place) (packet : List ℕ)
     → Run (state_of plan) before here → IsNext here tunnel (stream.Push n to packet) → TunnelPassed plan before tunnel n to packet
+
+-- No payload that was read is passed over: as long as its tunnel is live and its connection isn't ending, it was sent to its port,
+-- pushed or dropped, or it is due to be, or an item up to it asks for the close of the tunnel and a close is due.
+abbrev pub NoneIsPassedOver : Type 0
+NoneIsPassedOver = (plan : Plan) (moments : List Moment) (last : State) (number : ℕ) (worker : Worker) (conn : ℕ) (held : Held) (tunnel : ℕ) (t : Tunnel) (data_stream : Stream) (items : List Item) (n : ℕ)
+    → Run (state_of plan) moments last → slice_get last.workers number ≡ Some worker → held_of worker conn ≡ Some held → tunnel_of held.conn tunnel ≡ Some t → held.conn.ending ≡ None
+    → stream_of held.conn.streams t.stream ≡ Some data_stream → ItemsOf (has_values data_stream.goal) data_stream.bytes items → n < payload_count items
+    → (list_any (acted_by tunnel n) moments ≡ true) ⊎ ((list_any (is_due t.stream n) held.conn.due ≡ true)
+    ⊎ ((list_any (closes t.stream) held.conn.due ≡ true) × (is_behind_close (kind_of data_stream.goal) n 0 items ≡ true)))
 
 -- Of each inbox: what was pushed there in these moments is, in order, what left it and what is in it. What left the pump's was sent,
 -- or dropped as the network failed, but for a parcel that the pump holds for sending.

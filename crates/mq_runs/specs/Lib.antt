@@ -5,6 +5,7 @@ pub mod Pushed
 pub mod Causes
 pub mod Ends
 pub mod Order
+pub mod Asking
 pub mod Inboxes
 pub mod Queues
 pub mod Laws

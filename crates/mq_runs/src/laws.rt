@@ -1,7 +1,7 @@
 //! Laws of runs, each the contract of a function without a body.
-ghost use Rattle.mq_runs.specs.Laws.{CausesHeld, ClosedSaysTheRest, DeliveredAsItCame, DeliveredInOrder, HeldAsItPassed, InboxesLoseNone, IsARun, JudgedOnWhatWasWritten, NoTwoEnds, PumpLosesNone, PushedAsItPassed, PutAsItCame, SentAsPushed, SentInOrder, TunnelsLoseNone};
+ghost use Rattle.mq_runs.specs.Laws.{CausesHeld, ClosedSaysTheRest, DeliveredAsItCame, DeliveredInOrder, HeldAsItPassed, InboxesLoseNone, IsARun, JudgedOnWhatWasWritten, NoTwoEnds, NoneIsPassedOver, PumpLosesNone, PushedAsItPassed, PutAsItCame, SentAsPushed, SentInOrder, TunnelsLoseNone};
 
-use mq_capsule::{is_read_once, is_readable, is_within_limits};
+use mq_capsule::{is_read_once, is_readable, is_within_limits, says_nothing};
 use mq_machine::stays_lawful;
 
 /// What lines print is what a run prints.
@@ -95,6 +95,17 @@ pub fn pushed_as_it_passed()
     stays_lawful();
     is_readable();
     is_read_once();
+}
+
+/// No payload that was read of a live tunnel is passed over.
+pub fn none_is_passed_over()
+    ensures { NoneIsPassedOver }
+{
+    is_within_limits();
+    stays_lawful();
+    is_readable();
+    is_read_once();
+    says_nothing();
 }
 
 /// No inbox loses a packet, or lets one overtake another.
