@@ -92,8 +92,9 @@ abbrev pub PushedAsItPassed : Type 0
 PushedAsItPassed = (plan : Plan) (before : List Moment) (here : State) (tunnel n : ℕ) (to : Place) (packet : List ℕ)
     → Run (state_of plan) before here → IsNext here tunnel (stream.Push n to packet) → TunnelPassed plan before tunnel n to packet
 
--- No payload that was read is passed over: as long as its tunnel is live and its connection isn't ending, it was sent to its port,
--- pushed or dropped, or it is due to be, or an item up to it asks for the close of the tunnel and a close is due.
+-- No payload that was read is passed over: as long as its tunnel is live, and its connection has the data stream and isn't ending,
+-- it was sent to its port, pushed or dropped, or it is due to be, or an item up to it asks for the close of the tunnel and a close
+-- is due.
 abbrev pub NoneIsPassedOver : Type 0
 NoneIsPassedOver = (plan : Plan) (moments : List Moment) (last : State) (number : ℕ) (worker : Worker) (conn : ℕ) (held : Held) (tunnel : ℕ) (t : Tunnel) (data_stream : Stream) (items : List Item) (n : ℕ)
     → Run (state_of plan) moments last → slice_get last.workers number ≡ Some worker → held_of worker conn ≡ Some held → tunnel_of held.conn tunnel ≡ Some t → held.conn.ending ≡ None
