@@ -19,9 +19,8 @@ use Rattle.mq_machine.specs.declared.act.StreamAct.TheVariants as stream
 use Rattle.mq_machine.specs.declared.act.Due.{Due}
 use Rattle.mq_machine.specs.declared.act.Due.TheVariants as due
 use Rattle.mq_machine.specs.declared.setup.Setup.{Setup}
-use Rattle.mq_machine.specs.Done.{before, done, waits}
+use Rattle.mq_machine.specs.Done.{before, done}
 use Rattle.mq_machine.specs.Lawful.{Alone, Numbered, has_on, IsLawful, AreNumbered, StaysLawful}
-use Rattle.mq_machine.specs.Putting.{first_of}
 use Rattle.mq_machine.specs.Reading.{BytesAsk, is_close, has_values, payload_count, stream_of}
 use Rattle.mq_machine.specs.Settle.{settle}
 use Rattle.mq_machine.specs.Shared.{ports_after}
@@ -49,7 +48,7 @@ use Rattle.mq_runs.proofs.Readings.{took_step}
 use Rattle.mq_runs.proofs.Shifting.{all_among}
 use Rattle.mq_runs.proofs.Sums.{total, total_append}
 use Rattle.mq_runs.proofs.Took.{from_on, asks_all, to_come}
-use Rattle.mq_runs.proofs.Ups.{who, closes_on, closing, coming, up, gain, Lifts, lifts_same, lifts_on, settle_lifts, StepAt, lifts_at, lifts_step, done_step}
+use Rattle.mq_runs.proofs.Ups.{who, waits_who, first_none, closes_on, closing, coming, up, gain, Lifts, lifts_same, lifts_on, settle_lifts, StepAt, lifts_at, lifts_step, done_step}
 use Rattle.mq_runs.proofs.Walks.{HandlesHeld, try_walk, map_was, found_passes}
 use Rattle.mq_runs.proofs.Workers.{FoundAmong, among_in}
 
@@ -106,19 +105,6 @@ module _ (k : Key) (closers : Bool) (extra : Stream → ℕ) (nothing : (control
     set_who : (on stream : ℕ) (ws : List Waiting) (ts : List Tunnel) → who (set_waiting stream ws ts) on ≡ who ts on
     set_who on stream ws [] = refl
     set_who on stream ws (t ∷ ts) = set_by (t.stream == stream) on stream ws t ts (set_who on stream ws ts)
-
-    waits_by : (b : Bool) (on id : ℕ) (w : Waiting) (t : Tunnel) (ts : List Tunnel) → who (waits id w ts) on ≡ who ts on → who (cond b (record t { waiting = t.waiting ++ w ∷ [] } ∷ ts) (t ∷ waits id w ts)) on ≡ who (t ∷ ts) on
-    waits_by true on id w t ts rest = refl
-    waits_by false on id w t ts rest = ap (λ o. cond (t.stream == on) (Some t.id) o) rest
-
-    waits_who : (on id : ℕ) (w : Waiting) (ts : List Tunnel) → who (waits id w ts) on ≡ who ts on
-    waits_who on id w [] = refl
-    waits_who on id w (t ∷ ts) = waits_by (t.id == id) on id w t ts (waits_who on id w ts)
-
-    first_none : (e f : Option _) → first_of e f ≡ None → e ≡ None
-    first_none None f h = refl
-    first_none (Some why) None h = h
-    first_none (Some why) (Some later) h = absurd cc
 
     abbrev LiftsIn : Conn → Option (Note × Conn) → Type 0
     LiftsIn c None = Unit {0}

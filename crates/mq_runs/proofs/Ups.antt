@@ -57,6 +57,15 @@ pub found_who : (ts : List Tunnel) (on : ℕ) (t : Tunnel) → find (λ (t : Tun
 found_who [] on t e = absurd cc
 found_who (u ∷ ts) on t e = found_by (u.stream == on) t u (find (λ (t : Tunnel). t.stream == on) ts) (who ts on) e (λ e. found_who ts on t e)
 
+-- what waits in it changes no tunnel's stream or number
+waits_by : (b : Bool) (on id : ℕ) (w : Waiting) (t : Tunnel) (ts : List Tunnel) → who (waits id w ts) on ≡ who ts on → who (cond b (record t { waiting = t.waiting ++ w ∷ [] } ∷ ts) (t ∷ waits id w ts)) on ≡ who (t ∷ ts) on
+waits_by true on id w t ts rest = refl
+waits_by false on id w t ts rest = ap (λ o. cond (t.stream == on) (Some t.id) o) rest
+
+pub waits_who : (on id : ℕ) (w : Waiting) (ts : List Tunnel) → who (waits id w ts) on ≡ who ts on
+waits_who on id w [] = refl
+waits_who on id w (t ∷ ts) = waits_by (t.id == id) on id w t ts (waits_who on id w ts)
+
 -- where closes count
 abbrev pub close_act : Bool → StreamAct → ℕ
 close_act closers a = cond (is_close a) (cond closers 1 0) 0
@@ -75,7 +84,7 @@ closing closers on ds = total (closes_on closers on) ds
 
 -- ---- ends
 
-first_none : (e f : Option End) → first_of e f ≡ None → e ≡ None
+pub first_none : (e f : Option End) → first_of e f ≡ None → e ≡ None
 first_none None f h = refl
 first_none (Some why) None h = h
 first_none (Some why) (Some later) h = absurd cc
@@ -358,14 +367,6 @@ module _ (k : Key) where
       drop_gain mtu id n cause.HopLimit i wrong = absurd (not_limit mtu i wrong)
       drop_gain mtu id n cause.QueueFull i wrong = absurd (not_full mtu i wrong)
 
-      waits_by : (b : Bool) (i : ℕ) (w : Waiting) (t : Tunnel) (ts : List Tunnel) → who (waits i w ts) on ≡ who ts on → who (cond b (record t { waiting = t.waiting ++ w ∷ [] } ∷ ts) (t ∷ waits i w ts)) on ≡ who (t ∷ ts) on
-      waits_by true i w t ts rest = refl
-      waits_by false i w t ts rest = ap (λ o. cond (t.stream == on) (Some t.id) o) rest
-
-      waits_who : (i : ℕ) (w : Waiting) (ts : List Tunnel) → who (waits i w ts) on ≡ who ts on
-      waits_who i w [] = refl
-      waits_who i w (t ∷ ts) = waits_by (t.id == i) i w t ts (waits_who i w ts)
-
       append_by : (b : Bool) (t new : Tunnel) (ts : List Tunnel) → (who (ts ++ new ∷ []) on ≡ who ts on) ⊎ (who ts on ≡ None) → (cond b (Some t.id) (who (ts ++ new ∷ []) on) ≡ cond b (Some t.id) (who ts on)) ⊎ (cond b (Some t.id) (who ts on) ≡ None)
       append_by true t new ts rest = inl refl
       append_by false t new ts rest = rest
@@ -412,14 +413,7 @@ module _ (k : Key) where
         stream_step (stream.Assign asked) (Replied (reply.Assigned list at)) is of =
             step_lifts c left (with_waiting t.id (value 1 (assign_value list)) left) (note.Assigned t.id at list) on
             (skipped (due.Do (act.OfStream id (stream.Assign asked))) rest (note.Assigned t.id at list) is (none_cond (id == on)) (none_cond (id == on)))
-            (record { ends = λ e. e; streams = λ e. refl; same = λ o. waits_any t.id (value 1 (assign_value list)) c.tunnels o; more = λ e o. omega arith })
-          where
-            waits_any : (i : ℕ) (w : Waiting) (ts : List Tunnel) (o : ℕ) → who (waits i w ts) o ≡ who ts o
-            waits_any i w [] o = refl
-            waits_any i w (t ∷ ts) o = any_by (t.id == i) (waits_any i w ts o) where
-              any_by : (b : Bool) → who (waits i w ts) o ≡ who ts o → who (cond b (record t { waiting = t.waiting ++ w ∷ [] } ∷ ts) (t ∷ waits i w ts)) o ≡ who (t ∷ ts) o
-              any_by true rest = refl
-              any_by false rest = ap (λ p. cond (t.stream == o) (Some t.id) p) rest
+            (record { ends = λ e. e; streams = λ e. refl; same = λ o. waits_who o t.id (value 1 (assign_value list)) c.tunnels; more = λ e o. omega arith })
         stream_step (stream.Assign asked) (Replied reply.Closed) is of = closed_at id (stream.Assign asked) rest t why.Full _ is serves numbered
         stream_step (stream.Advertise ranges) (Replied (reply.Accepted accepts at)) is of = skipped (due.Do (act.OfStream id (stream.Advertise ranges))) rest (note.Advertised t.id at accepts) is (none_cond (id == on)) (none_cond (id == on))
         stream_step (stream.Advertise ranges) (Replied reply.Closed) is of = closed_at id (stream.Advertise ranges) rest t why.Full _ is serves numbered
