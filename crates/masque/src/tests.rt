@@ -31,6 +31,7 @@ use rows::{
 };
 use std::alloc::Global;
 use std::collections::VecDeque;
+use std::process::Abort;
 use std::sync::Wait;
 use std::test::Fail;
 
@@ -80,24 +81,38 @@ fn does(
     run(rt, alloc, words, source, sink, outside)
 }
 
-/// Replays a script into a sink with room for much. Answers the status, and what the sink took.
-fn roomy(alloc: Global, script: &[u8]) -> Result<(Status, Vec<u8>), NoMemory> {
-    let contents = Bytes::from_vec(Vec::from_slice(alloc, script)?);
-    let mut source = MemSource::new(contents, Seq::from_vec(Vec::new(alloc)))?;
-    let mut sink = MemSink::new(alloc, 200_000, Seq::from_vec(Vec::new(alloc)))?;
-    let status = replay(alloc, &mut source, &mut sink);
-    Ok((status, Vec::from_slice(alloc, sink.taken())?))
-}
-
 /// Replays a script. Answers the status, and what the sink took.
 fn replayed(alloc: Global, script: &[u8], way: &Way) -> Result<(Status, Vec<u8>), NoMemory> {
     let contents = Bytes::from_vec(Vec::from_slice(alloc, script)?);
     let reads = Seq::from_vec(vec![in alloc; way.fail_read]?);
     let writes = Seq::from_vec(vec![in alloc; way.fail_write]?);
     let mut source = MemSource::new(contents, reads)?.in_pieces(way.read);
-    let mut sink = MemSink::new(alloc, 10_000, writes)?.in_pieces(way.written);
+    let mut sink = MemSink::new(alloc, 200_000, writes)?.in_pieces(way.written);
     let status = replay(alloc, &mut source, &mut sink);
     Ok((status, Vec::from_slice(alloc, sink.taken())?))
+}
+
+/// Replays a script. It has to end so, and to print this.
+fn prints(
+    rt: &impl Abort,
+    alloc: Global,
+    script: &[u8],
+    way: &Way,
+    want: Status,
+    text: &[u8],
+) -> Result<(), Fail> {
+    let (status, out) = replayed(alloc, script, way)?;
+    assert_eq!(rt; out.as_slice(), text);
+    assert_eq!(rt; status, want);
+    Ok(())
+}
+
+/// Replays a good script. What it prints has to end so.
+fn ends(rt: &impl Abort, alloc: Global, script: &[u8], text: &[u8]) -> Result<(), Fail> {
+    let (status, out) = replayed(alloc, script, &PLAIN)?;
+    assert!(rt; out.as_slice().ends_with(text));
+    assert_eq!(rt; status, Status::Done);
+    Ok(())
 }
 
 #[test]
@@ -133,9 +148,7 @@ fn rows_print_what_they_should(rt: HostRuntime) -> Result<(), Fail> {
         ),
     ];
     for &(script, want, text) in &cases {
-        let (status, out) = replayed(rt.alloc(), script, &PLAIN)?;
-        assert_eq!(rt; out.as_slice(), text);
-        assert_eq!(rt; status, want);
+        prints(&rt, rt.alloc(), script, &PLAIN, want, text)?;
     }
     Ok(())
 }
@@ -150,9 +163,7 @@ fn any_cutting_prints_the_same(rt: HostRuntime) -> Result<(), Fail> {
                 fail_write: NEVER,
                 written,
             };
-            let (status, out) = replayed(rt.alloc(), REFUSED, &way)?;
-            assert!(rt; out.as_slice() == REFUSED_PRINTS, "reads of {read} bytes");
-            assert_eq!(rt; status, Status::Done);
+            prints(&rt, rt.alloc(), REFUSED, &way, Status::Done, REFUSED_PRINTS)?;
         }
     }
     Ok(())

@@ -6,6 +6,8 @@ mod held;
 #[cfg(test)]
 mod mem;
 #[cfg(test)]
+mod plain;
+#[cfg(test)]
 mod ports;
 #[cfg(test)]
 mod pump;

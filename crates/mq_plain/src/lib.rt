@@ -8,8 +8,6 @@ mod port;
 mod ports;
 mod quiet;
 mod step;
-#[cfg(test)]
-mod tests;
 mod tunnels;
 
 pub use link::{LinkEvent, PlainLink};

@@ -21,7 +21,8 @@ use Rattle.mq_plain.specs.Served.{Plain, Serves}
 use Rattle.mq_world.specs.declared.told.Told.{Told as ToldBy}
 use Rattle.mq_world.specs.declared.workers.Workers.{Workers}
 use Rattle.mq_plain.specs.Taking.{shared_of}
-use Rattle.mq_world.specs.Worlds.{told_of, AreServed, IsWorld}
+use Rattle.mq_world.specs.Worlds.{told_of, AreServed, DoRest, IsWorld}
+use Rattle.mq_world.proofs.Resting.{none_said}
 
 -- ---- the inboxes
 
@@ -68,10 +69,10 @@ unsent workers = record { boxes = empty_boxes (workers + 1); actor = 0 }
 abbrev sharing : OfficeOf → MailOf → Bool → Shared
 sharing office mail fails = shared_of (record { office = office; mail = mail; bind_fails = fails })
 
-pub stands_new : (plan : Plan) (world : Workers) (count : ℕ) → IsPlan plan → world.links.items ≡ [] → world.office ≡ unwritten plan.book → world.mail ≡ unsent plan.workers → world.bind_fails ≡ false → count ≡ plan.workers
+pub stands_new : (plan : Plan) (world : Workers) (count : ℕ) → IsPlan plan → world.links.items ≡ [] → world.office ≡ unwritten plan.book → world.mail ≡ unsent plan.workers → world.bind_fails ≡ false → world.rests.items ≡ replicate plan.workers false → count ≡ plan.workers
     → world.pump.net ≡ new_sim plan.hosts → world.pump.workers ≡ plan.workers → IsPump world.pump (record { mtu = plan.setup.mtu; to_push = None; to_send = None; net = new_net [] })
     → AreNew (seen_of (unwritten plan.book)) (unsent plan.workers).boxes plan.setup world.workers.items count → IsWorld world (state_of plan)
-stands_new plan world count is_plan links office mail fails end net beside new_pump are =
+stands_new plan world count is_plan links office mail fails rests end net beside new_pump are =
     let workers : world.office.book.config.workers ≡ plan.workers = ap (λ (o : OfficeOf). o.book.config.workers) office ∙ is_plan.book.workers_are in
     let served : AreServed [] (seen_of (unwritten plan.book)) (unsent plan.workers).boxes 0 world.workers.items (new_workers plan.setup plan.workers) =
     subst (λ (n : ℕ). AreServed [] (seen_of (unwritten plan.book)) (unsent plan.workers).boxes 0 world.workers.items (new_workers plan.setup n)) end are.served in
@@ -90,4 +91,5 @@ stands_new plan world count is_plan links office mail fails end net beside new_p
       config = subst IsConfig (sym (ap (λ (o : OfficeOf). o.book.config) office)) is_plan.book.config;
       pump = record { stands = pump_is; net = sym (ap (λ (n : Sim). holds_of n) net); workers_are = beside ∙ sym workers };
       offered = All-nil (λ (t : Told). t.worker < length world.workers.items);
+      rests = subst (λ (said : List Bool). DoRest said world.workers.items) (sym (rests ∙ ap (λ (n : ℕ). replicate n false) (sym (are.size ∙ end)))) (none_said world.workers.items);
     }

@@ -1,6 +1,7 @@
 -- One of the workers of a world changes, as all do by one rule that leaves the others as they are.
-use Rattle.std.proofs.Common.{◌≡◌, ◌≢◌, ℕ, zero, suc, ◌+◌, ◌<◌, ◌≤◌, List, [], ◌∷◌, map, All, slice_get, slice_set, Some, refl, sym, ap, subst, ◌∙◌, arith}
+use Rattle.std.proofs.Common.{◌≡◌, ◌≢◌, ℕ, zero, suc, ◌+◌, ◌<◌, ◌≤◌, List, [], ◌∷◌, map, All, slice_get, slice_set, Some, refl, sym, ap, subst, ◌∙◌, arith, Bool, false}
 use Rattle.std.specs.Vec.{with_item}
+use Rattle.std.specs.Global.{Vec}
 use Rattle.mq_talk.specs.Mails.{Boxes}
 use Rattle.mq_talk.specs.Offices.{Seen}
 use Rattle.mq_machine.specs.State.{Told, Worker, State}
@@ -9,6 +10,7 @@ use Rattle.mq_actor.proofs.Others.{set_length}
 use Rattle.mq_plain.specs.Served.{Plain, Serves}
 use Rattle.mq_world.specs.declared.workers.Workers.{Workers}
 use Rattle.mq_world.specs.Worlds.{AreServed, IsWorld}
+use Rattle.mq_world.proofs.Resting.{woken}
 
 module _ (links : List Told) (seen : Seen) (boxes : Boxes) (k : ℕ) (f : Worker → Worker)
     (still : (n : ℕ) (a : Plain) (w : Worker) → n ≢ k → Serves links seen boxes n a w → Serves links seen boxes n a (f w)) where
@@ -34,12 +36,12 @@ module _ (links : List Told) (seen : Seen) (boxes : Boxes) (k : ℕ) (f : Worker
       let next : k ≡ suc from + j = omega (arith, is) in
       (still from y w (λ e. omega (arith, e, is)) are.0, served_there (suc from) j actors ws a b next at are.1 does)
 
-pub stands_changed : (old : Workers) (s : State) → IsWorld old s → (k : ℕ) (f : Worker → Worker)
+pub stands_changed : (old : Workers) (s : State) → IsWorld old s → (k : ℕ) (f : Worker → Worker) (rests : Vec Bool) → rests.items ≡ slice_set old.rests.items k false
     → ((n : ℕ) (a : Plain) (w : Worker) → n ≢ k → Serves s.links (seen_of old.office) old.mail.boxes n a w → Serves s.links (seen_of old.office) old.mail.boxes n a (f w))
     → (a b : Plain) → slice_get old.workers.items k ≡ Some a
     → ((w : Worker) → Serves s.links (seen_of old.office) old.mail.boxes k a w → Serves s.links (seen_of old.office) old.mail.boxes k b (f w))
-    → IsWorld (record old { workers = with_item old.workers k b }) (record s { workers = map f s.workers })
-stands_changed old s is k f still a b at does = record {
+    → IsWorld (record old { workers = with_item old.workers k b; rests = rests }) (record s { workers = map f s.workers })
+stands_changed old s is k f rests awake still a b at does = record {
   links = is.links;
   workers = served_there s.links (seen_of old.office) old.mail.boxes k f still 0 k old.workers.items s.workers a b (omega arith) at is.workers does;
   shared = is.shared;
@@ -49,15 +51,16 @@ stands_changed old s is k f still a b at does = record {
   config = is.config;
   pump = is.pump;
   offered = subst (λ (n : ℕ). All (λ (t : Told). t.worker < n) s.links) (sym (set_length old.workers.items k b)) is.offered;
+  rests = woken old.rests.items rests.items old.workers.items k b is.rests awake;
 }
 
 -- and so do all where none of them changes
-pub stands_still : (old : Workers) (s : State) → IsWorld old s → (k : ℕ) (a b : Plain) → slice_get old.workers.items k ≡ Some a
+pub stands_still : (old : Workers) (s : State) → IsWorld old s → (k : ℕ) (rests : Vec Bool) → rests.items ≡ slice_set old.rests.items k false → (a b : Plain) → slice_get old.workers.items k ≡ Some a
     → ((w : Worker) → Serves s.links (seen_of old.office) old.mail.boxes k a w → Serves s.links (seen_of old.office) old.mail.boxes k b w)
-    → IsWorld (record old { workers = with_item old.workers k b }) s
-stands_still old s is k a b at does =
-    subst (λ (ws : List Worker). IsWorld (record old { workers = with_item old.workers k b }) (record s { workers = ws })) (map_same s.workers)
-    (stands_changed old s is k (λ w. w) (λ n x w ne served. served) a b at does) where
+    → IsWorld (record old { workers = with_item old.workers k b; rests = rests }) s
+stands_still old s is k rests awake a b at does =
+    subst (λ (ws : List Worker). IsWorld (record old { workers = with_item old.workers k b; rests = rests }) (record s { workers = ws })) (map_same s.workers)
+    (stands_changed old s is k (λ w. w) rests awake (λ n x w ne served. served) a b at does) where
       map_same : (ws : List Worker) → map (λ (w : Worker). w) ws ≡ ws
       map_same [] = refl
       map_same (w ∷ ws) = ap (λ (xs : List Worker). w ∷ xs) (map_same ws)

@@ -1,7 +1,8 @@
 -- What comes from outside, as an event of the machine.
-use Rattle.std.proofs.Common.{◌≡◌, ℕ, zero, suc, ◌<◌, ◌≤◌, Bool, true, false, not, List, [], ◌∷◌, length, map, slice_get, Option, Some, refl, sym, ap, subst, ◌∙◌, arith}
+use Rattle.std.proofs.Common.{◌≡◌, ℕ, zero, suc, ◌<◌, ◌≤◌, Bool, true, false, not, List, [], ◌∷◌, length, map, slice_get, slice_set, Option, Some, refl, sym, ap, subst, ◌∙◌, arith}
 use Rattle.std.specs.Prelude.{nat_lt, take}
 use Rattle.std.specs.Vec.{with_item}
+use Rattle.std.specs.Global.{Vec}
 use Rattle.std.proofs.lemmas.Bool.{leb-false}
 use Rattle.std.proofs.lemmas.Option.{slice_get_within, get_or_from_slice_get}
 use Rattle.mq_book.specs.Journal.{Journal}
@@ -68,11 +69,11 @@ opener_within config book t e legal at opens =
     may_within config (take t book) e.actor e.call opens (subst (λ (x : Entry). MayCall config (take t book) x.actor x.call) is f.may)
 
 module _ (old : Workers) (s : State) (is : IsWorld old s) (tunnel k : ℕ) (e : Entry) (at_e : slice_get old.office.book.history tunnel ≡ Some e) (by : e.actor ≡ k) where
-  pub stands_ported : (change : Port → Port) (a b : Plain) → slice_get old.workers.items k ≡ Some a
+  pub stands_ported : (change : Port → Port) (rests : Vec Bool) → rests.items ≡ slice_set old.rests.items k false → (a b : Plain) → slice_get old.workers.items k ≡ Some a
       → ((w : Worker) → Serves s.links (seen_of old.office) old.mail.boxes k a w → Serves s.links (seen_of old.office) old.mail.boxes k b (with_held_ports tunnel change w))
-      → IsWorld (record old { workers = with_item old.workers k b }) (with_port tunnel change s)
-  stands_ported change a b at does =
-      stands_changed old s is k (with_held_ports tunnel change)
+      → IsWorld (record old { workers = with_item old.workers k b; rests = rests }) (with_port tunnel change s)
+  stands_ported change rests awake a b at does =
+      stands_changed old s is k (with_held_ports tunnel change) rests awake
       (λ n x w ne served. subst (λ (v : Worker). Serves s.links (seen_of old.office) old.mail.boxes n x v)
       (sym (still_elsewhere tunnel change s.links (seen_of old.office) old.mail.boxes n x w served e at_e (λ same. ne (sym same ∙ by)))) served)
       a b at does

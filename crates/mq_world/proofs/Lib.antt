@@ -1,5 +1,6 @@
 pub mod Sharing
 pub mod Worlds
+pub mod Resting
 pub mod Each
 pub mod Stepping
 pub mod Beginning

@@ -19,6 +19,7 @@ use Rattle.mq_plain.proofs.Offering.{serves_more}
 use Rattle.mq_world.specs.declared.told.Told.{Told as ToldBy}
 use Rattle.mq_world.specs.declared.workers.Workers.{Workers}
 use Rattle.mq_world.specs.Worlds.{told_of, AreServed, IsWorld}
+use Rattle.mq_world.proofs.Resting.{woken}
 use Rattle.mq_world.proofs.Worlds.{served_at}
 
 module _ (links : List Told) (t : Told) (seen : Seen) (boxes : Boxes) (k : ℕ) where
@@ -68,11 +69,11 @@ module _ (old : Workers) (s : State) (is : IsWorld old s) where
         All-weaker (IsOf s.links (0 + k)) (λ other. other ≢ length old.links.items)
         (λ other of e. let less = slice_get_within s.links other of.said of.at in omega (arith, less, links_many, e)) (numbers_in a.ring) f.2.own
 
-    pub stands_offered : (now : Workers) (b : Plain) → now.links.items ≡ old.links.items ++ record { worker = k; is_ended = false } ∷ []
+    pub stands_offered : (now : Workers) (b : Plain) → now.links.items ≡ old.links.items ++ record { worker = k; is_ended = false } ∷ [] → now.rests.items ≡ slice_set old.rests.items k false
         → ((w : Worker) → Serves s.links (seen_of old.office) old.mail.boxes k a w
         → Serves (s.links ++ record { worker = k; is_ended = false } ∷ []) (seen_of old.office) old.mail.boxes k b (with_offer (length s.links) new_link w))
-        → IsWorld (record old { links = now.links; workers = with_item old.workers k b }) (happen s (Conn k))
-    stands_offered now b more does =
+        → IsWorld (record old { links = now.links; workers = with_item old.workers k b; rests = now.rests }) (happen s (Conn k))
+    stands_offered now b more awake does =
         let t : Told = record { worker = k; is_ended = false } in
         let within : k < length old.workers.items = slice_get_within old.workers.items k a at in
         let size = set_length old.workers.items k b in
@@ -88,6 +89,7 @@ module _ (old : Workers) (s : State) (is : IsWorld old s) where
           offered = subst (λ (n : ℕ). All (λ (u : Told). u.worker < n) (s.links ++ t ∷ [])) (sym size)
               (All-append (λ (u : Told). u.worker < length old.workers.items) s.links (t ∷ []) is.offered
               (All-cons (λ (u : Told). u.worker < length old.workers.items) t [] within (All-nil (λ (u : Told). u.worker < length old.workers.items))));
+          rests = woken old.rests.items now.rests.items old.workers.items k b is.rests awake;
         }
 
   -- there is such a worker, and a place
@@ -108,6 +110,7 @@ module _ (old : Workers) (s : State) (is : IsWorld old s) where
     config = is.config;
     pump = is.pump;
     offered = is.offered;
+    rests = is.rests;
   }
 
 pub placed : (n actor : ℕ) (full : Bool) → (nat_le n actor || full) ≡ false → actor < n

@@ -240,6 +240,7 @@ module _ (old : Workers) (s : State) (is : IsWorld old s) (k : ℕ) (at : k ≡ 
         config = subst IsConfig (sym config) is.config;
         pump = record { stands = is_pump; net = net; workers_are = beside ∙ is.pump.workers_are ∙ sym workers };
         offered = is.offered;
+        rests = is.rests;
       }
 
   -- it took its turn

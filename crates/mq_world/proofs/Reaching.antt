@@ -1,8 +1,9 @@
 -- What comes to a link reaches the worker to which it was offered, and no other.
-use Rattle.std.proofs.Common.{◌≡◌, ◌≢◌, ℕ, zero, suc, ◌<◌, ◌==◌, Bool, List, [], ◌∷◌, ◌++◌, length, map, All, find, slice_get, Some, None, refl, sym, ap, subst, ◌∙◌}
+use Rattle.std.proofs.Common.{◌≡◌, ◌≢◌, ℕ, zero, suc, ◌<◌, ◌==◌, Bool, false, List, [], ◌∷◌, ◌++◌, length, map, All, find, slice_get, slice_set, Some, None, refl, sym, ap, subst, ◌∙◌}
 use Rattle.std.specs.Prelude.{nat_lt}
 use Rattle.std.specs.Option.{option_map}
 use Rattle.std.specs.Vec.{with_item}
+use Rattle.std.specs.Global.{Vec}
 use Rattle.std.proofs.lemmas.Bool.{ne_eqb}
 use Rattle.std.proofs.lemmas.List.Elements.{All-cons, All-head, All-tail, All-nil, All-weaker}
 use Rattle.mq_talk.specs.Mails.{Boxes}
@@ -80,12 +81,12 @@ module _ (old : Workers) (s : State) (is : IsWorld old s) (conn k : ℕ) (told :
   pub reached : k < length old.workers.items
   reached = let f = said in subst (λ (n : ℕ). n < length old.workers.items) f.2 (at_all (λ (t : Told). t.worker < length old.workers.items) s.links conn f.0 is.offered f.1)
 
-  pub stands_reached : (a b : Plain) (change : Link → Link) → slice_get old.workers.items k ≡ Some a
+  pub stands_reached : (rests : Vec Bool) → rests.items ≡ slice_set old.rests.items k false → (a b : Plain) (change : Link → Link) → slice_get old.workers.items k ≡ Some a
       → ((w : Worker) → Serves s.links (seen_of old.office) old.mail.boxes k a w → Serves s.links (seen_of old.office) old.mail.boxes k b (at_worker conn change w))
-      → IsWorld (record old { workers = with_item old.workers k b }) (at_link conn change s)
-  stands_reached a b change at does =
+      → IsWorld (record old { workers = with_item old.workers k b; rests = rests }) (at_link conn change s)
+  stands_reached rests awake a b change at does =
       let f = said in
-      stands_changed old s is k (at_worker conn change)
+      stands_changed old s is k (at_worker conn change) rests awake
       (λ n x w ne served. one_else s.links conn f.0 f.1 (seen_of old.office) old.mail.boxes change n x w (λ same. ne (sym same ∙ f.2)) served) a b at does
 
 pub links_long : (old : Workers) (s : State) → IsWorld old s → (conn : ℕ) (b : Bool) → nat_lt conn (length old.links.items) ≡ b → nat_lt conn (length s.links) ≡ b

@@ -81,6 +81,7 @@ module _ (old : Workers) (s : State) (is : IsWorld old s) (conn : ℕ) (t : Told
     config = is.config;
     pump = is.pump;
     offered = workers_ended (length old.workers.items) s.links conn is.offered;
+    rests = is.rests;
   }
 
   -- its worker is the same

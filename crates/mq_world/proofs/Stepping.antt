@@ -1,7 +1,8 @@
 -- What a step of one of its workers makes of a world.
-use Rattle.std.proofs.Common.{◌≡◌, ℕ, zero, suc, ◌+◌, ◌<◌, ◌≤◌, false, List, [], ◌∷◌, length, All, slice_get, slice_set, Option, Some, None, Result, Ok, Err, refl, sym, ap, subst, ◌∙◌, arith}
+use Rattle.std.proofs.Common.{◌≡◌, ℕ, zero, suc, ◌+◌, ◌<◌, ◌≤◌, Bool, false, List, [], ◌∷◌, length, All, slice_get, slice_set, Option, Some, None, Result, Ok, Err, refl, sym, ap, subst, ◌∙◌, arith}
 use Rattle.std.specs.Prelude.{unwrap_or, is_some, option_and_then}
 use Rattle.std.specs.Vec.{with_item}
+use Rattle.std.specs.Global.{Vec}
 use Rattle.std.specs.Prelude.{get_or}
 use Rattle.std.proofs.lemmas.Option.{slice_get-get_or}
 use Rattle.mq_wire.specs.declared.NoMemory.{NoMemory}
@@ -22,6 +23,7 @@ use Rattle.mq_world.specs.declared.workers.Workers.{Workers}
 use Rattle.mq_plain.specs.Served.{Plain, Serves}
 use Rattle.mq_plain.specs.Taking.{Common, shared_of, Leads, Gives, Took}
 use Rattle.mq_world.specs.Worlds.{IsWorld, ActorGives}
+use Rattle.mq_world.proofs.Resting.{woken}
 use Rattle.mq_world.proofs.Sharing.{seat_keeps, starved_keeps}
 use Rattle.mq_world.proofs.Worlds.{served_turned, served_at, served_set}
 
@@ -77,13 +79,13 @@ module _ (old : Workers) (s : State) (is : IsWorld old s) (k : ℕ) (less : k < 
       subst (λ (m : MailOf). Took s.links k (record { office = record old.office { actor = k }; mail = m; bind_fails = old.bind_fails }) new b w result) mail_is
       (subst (λ (o : OfficeOf). Took s.links k (record { office = o; mail = mail; bind_fails = old.bind_fails }) new b w result) office_is took)
 
-  module _ (new : Common) (b : Plain) (result : Result (Option Note) NoMemory) (w : Worker) (at : slice_get s.workers k ≡ Some w) (named : w.id ≡ k)
+  module _ (new : Common) (rests : Vec Bool) (awake : rests.items ≡ slice_set old.rests.items k false) (b : Plain) (result : Result (Option Note) NoMemory) (w : Worker) (at : slice_get s.workers k ≡ Some w) (named : w.id ≡ k)
       (took : Took s.links k (turned old k) new b w result) where
     abbrev after : State
     after = record s { workers = slice_set s.workers k took.t; shared = shared_of new }
 
     abbrev behind : Workers
-    behind = record old { workers = with_item old.workers k b; office = new.office; mail = new.mail; bind_fails = new.bind_fails }
+    behind = record old { workers = with_item old.workers k b; office = new.office; mail = new.mail; bind_fails = new.bind_fails; rests = rests }
 
     stands : IsWorld behind after
     stands =
@@ -100,6 +102,7 @@ module _ (old : Workers) (s : State) (is : IsWorld old s) (k : ℕ) (less : k < 
           config = subst IsConfig (sym took.config) is.config;
           pump = record { stands = is.pump.stands; net = is.pump.net; workers_are = is.pump.workers_are ∙ sym workers };
           offered = subst (λ (n : ℕ). All (λ (t : Told). t.worker < n) s.links) (sym (set_length old.workers.items k b)) is.offered;
+          rests = woken old.rests.items rests.items old.workers.items k b is.rests awake;
         }
 
     box_is : (box : List Parcel) → slice_get old.mail.boxes w.id ≡ Some box → box ≡ box_at old.mail.boxes w.id

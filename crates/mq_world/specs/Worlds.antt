@@ -13,7 +13,7 @@ use Rattle.mq_machine.specs.declared.event.Event.{Event}
 use Rattle.mq_machine.specs.declared.event.Event.TheVariants as event
 use Rattle.mq_machine.specs.State.{Link, Told, Worker, Pump, State}
 use Rattle.mq_machine.specs.Silent.{Reached, SilentTurn}
-use Rattle.mq_machine.specs.Turn.{Actor, WorkerOf, ThePump, Turn, Quiet}
+use Rattle.mq_machine.specs.Turn.{Actor, WorkerOf, ThePump, Turn, Quiet, turn_of}
 use Rattle.mq_mem.specs.Offices.{seen_of}
 use Rattle.mq_net.specs.Sims.{Sim, holds_of}
 use Rattle.mq_pump.specs.declared.pump.Pump.{Pump as PumpBy}
@@ -41,6 +41,17 @@ AreServed links seen boxes from [] (w ∷ ws) = ⊥
 AreServed links seen boxes from (a ∷ actors) [] = ⊥
 AreServed links seen boxes from (a ∷ actors) (w ∷ ws) = Serves links seen boxes from a w × AreServed links seen boxes (suc from) actors ws
 
+-- whichever worker of the machine it stands for has no turn while its inbox is empty
+abbrev pub Rests : Plain → Type 0
+Rests a = (links : List Told) (seen : Seen) (boxes : Boxes) (number : ℕ) (w : Worker) → Serves links seen boxes number a w → turn_of w [] ≡ None
+
+-- those of which it is said do so
+abbrev pub DoRest : List Bool → List Plain → Type 0
+DoRest [] [] = ⊤
+DoRest [] (a ∷ actors) = ⊥
+DoRest (said ∷ rests) [] = ⊥
+DoRest (said ∷ rests) (a ∷ actors) = (said ≡ true → Rests a) × DoRest rests actors
+
 -- what they share
 abbrev pub common_of : Workers → Common
 common_of world = record { office = world.office; mail = world.mail; bind_fails = world.bind_fails }
@@ -63,6 +74,7 @@ pub record IsWorld (world : Workers) (s : State) : Type 0 where
   pub pump : IsPumpOf world.office.book.config.workers world.pump s.pump
   -- each link was offered to one of them
   pub offered : All (λ (t : Told). t.worker < length world.workers.items) s.links
+  pub rests : DoRest world.rests.items world.workers.items
 
 -- ---- what happens
 

@@ -2,6 +2,7 @@
 #![tactic(auto)]
 
 mod pump;
+mod rests;
 mod stepped;
 mod told;
 mod tunnel;

@@ -13,6 +13,7 @@ ghost use Rattle.mq_plain.specs.Coming.{changed};
 ghost use Rattle.mq_world.specs.declared.stepped.WorldFault.TheVariants as fault;
 ghost use Rattle.mq_world.specs.Worlds.{Happens, IsWorld, LinkHappens, StepGives, ActorGives, stepped_by, told_of};
 
+use crate::rests::mark;
 use crate::stepped::{Stepped, WorldFault};
 use crate::told::Told;
 use crate::tunnel::opener_of;
@@ -45,6 +46,9 @@ pub struct Workers {
     pub mail: PlainMail,
     /// Whether the next bind is to fail, whichever worker tries it.
     pub bind_fails: bool,
+    /// By their numbers, which workers had no step but for what waits in their inbox when they were last looked at, and
+    /// nothing else came to since.
+    pub rests: Vec<bool>,
 }
 
 impl Workers {
@@ -71,6 +75,7 @@ impl Workers {
             let worker = Plain::new(alloc, number, own, ports)?;
             workers.push(worker)?;
         }
+        let rests = vec![in alloc; false; count as usize]?;
         Ok(Workers {
             alloc,
             links: Vec::new(alloc),
@@ -79,6 +84,7 @@ impl Workers {
             office,
             mail,
             bind_fails: false,
+            rests,
         })
     }
 
@@ -107,6 +113,7 @@ impl Workers {
         let Ok(()) = self.links.push(told) else {
             return Err(WorldFault::NoMemory);
         };
+        mark(&mut self.rests, actor as usize, false);
         let worker = &mut self.workers[actor as usize];
         match offer(self.alloc, worker, number as u32) {
             Ok(()) => Ok(()),
@@ -135,6 +142,7 @@ impl Workers {
         ensures { (s : machine.State) → IsWorld self.old s → LinkHappens (IsWorld self.new) s conn (changed event) result }
     {
         let place = self.worker_of(conn)?;
+        mark(&mut self.rests, place, false);
         let worker = &mut self.workers[place];
         change(worker, conn, event);
         Ok(())
@@ -147,6 +155,7 @@ impl Workers {
     {
         let place = self.worker_of(conn)?;
         self.links[conn as usize].is_ended = true;
+        mark(&mut self.rests, place, false);
         let worker = &mut self.workers[place];
         change(worker, conn, LinkEvent::End);
         Ok(())
@@ -177,6 +186,7 @@ impl Workers {
         ensures { (s : machine.State) → IsWorld self.old s → Happens (IsWorld self.new) s (Piece conn bytes) result }
     {
         let place = self.worker_before_end(conn)?;
+        mark(&mut self.rests, place, false);
         let worker = &mut self.workers[place];
         match piece(worker, conn, bytes) {
             Ok(()) => Ok(()),
@@ -193,6 +203,7 @@ impl Workers {
         ensures { (s : machine.State) → IsWorld self.old s → Happens (IsWorld self.new) s (Datagram tunnel datagram) result }
     {
         let place = opener_of(self.office.book().history(), tunnel)?;
+        mark(&mut self.rests, place, false);
         let worker = &mut self.workers[place];
         match arrive(worker, tunnel, datagram) {
             Ok(()) => Ok(()),
@@ -206,6 +217,7 @@ impl Workers {
         ensures { (s : machine.State) → IsWorld self.old s → Happens (IsWorld self.new) s (FailPort tunnel) result }
     {
         let place = opener_of(self.office.book().history(), tunnel)?;
+        mark(&mut self.rests, place, false);
         let worker = &mut self.workers[place];
         fail_send(worker, tunnel);
         Ok(())
@@ -250,8 +262,24 @@ impl Workers {
         Ok(stepped(self.step(actor)))
     }
 
-    /// The worker of this number takes a step.
+    /// The worker of this number takes a step. One that rests isn't asked, and one that has no step is asked whether it rests.
     fn step(&mut self, number: u32) -> Result<Option<Note>, NoMemory>
+        requires stands { (s : machine.State) × IsWorld self.old s }
+        requires number { number < length self.old.workers.items }
+        ensures { (s : machine.State) → IsWorld self.old s → (t : machine.State) × IsWorld self.new t × ActorGives s (WorkerOf number) result t }
+    {
+        if self.is_at_rest(number) {
+            return Ok(None);
+        }
+        let given = self.turn(number);
+        if let Ok(None) = given {
+            self.look(number);
+        }
+        given
+    }
+
+    /// The worker of this number is asked for a step.
+    fn turn(&mut self, number: u32) -> Result<Option<Note>, NoMemory>
         requires stands { (s : machine.State) × IsWorld self.old s }
         requires number { number < length self.old.workers.items }
         ensures { (s : machine.State) → IsWorld self.old s → (t : machine.State) × IsWorld self.new t × ActorGives s (WorkerOf number) result t }
@@ -259,6 +287,7 @@ impl Workers {
         self.is_sound();
         self.office.turn_to(number);
         self.mail.turn_to(number);
+        mark(&mut self.rests, number as usize, false);
         let worker = &mut self.workers[number as usize];
         take(
             self.alloc,

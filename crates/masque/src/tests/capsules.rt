@@ -1,7 +1,6 @@
 //! The data stream of a tunnel.
 
-use super::roomy;
-use mq_replay::Status;
+use super::ends;
 use std::alloc::{AllocError, Global};
 use std::test::Fail;
 
@@ -100,9 +99,7 @@ fn capsules_are_served(rt: HostRuntime) -> Result<(), Fail> {
     ];
     for &(address, lines, want) in &cases {
         let script = streamed(rt.alloc(), address, lines)?;
-        let (status, out) = roomy(rt.alloc(), script.as_slice())?;
-        assert_eq!(rt; status, Status::Done);
-        assert!(rt; out.as_slice().ends_with(want), "{want:?}");
+        ends(&rt, rt.alloc(), script.as_slice(), want)?;
     }
     Ok(())
 }

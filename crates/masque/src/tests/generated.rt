@@ -1,6 +1,6 @@
 //! The word `gen`: scripts are printed.
 
-use super::{NEVER, does, roomy, words_of};
+use super::{NEVER, PLAIN, does, replayed, words_of};
 use mq_mem::{MemOutside, MemSink, MemSource};
 use mq_replay::Status;
 use mq_wire::{Bytes, NoMemory, Seq};
@@ -61,7 +61,7 @@ fn a_seed_and_a_count_make_a_script(rt: HostRuntime) -> Result<(), Fail> {
 #[test]
 fn a_printed_script_is_played(rt: HostRuntime) -> Result<(), Fail> {
     let (_, script) = done(&rt, rt.alloc(), &["gen", "7", "1"], 1_000, NEVER, u32::MAX)?;
-    let (status, _) = roomy(rt.alloc(), script.as_slice())?;
+    let (status, _) = replayed(rt.alloc(), script.as_slice(), &PLAIN)?;
     assert_eq!(rt; status, Status::Done);
     Ok(())
 }

@@ -1,6 +1,6 @@
 //! The limits of a line and of a script.
 
-use super::{NEVER, PLAIN, Way, replayed};
+use super::{NEVER, PLAIN, Way, prints};
 use mq_replay::Status;
 use std::alloc::{AllocError, Global};
 use std::test::Fail;
@@ -26,13 +26,9 @@ fn a_line_has_at_most_200000_bytes(rt: HostRuntime) -> Result<(), Fail> {
                 written: u32::MAX,
             };
             let mut script = comment(rt.alloc(), length)?;
-            let (status, out) = replayed(rt.alloc(), script.as_slice(), &way)?;
-            assert!(rt; out.as_slice() == text, "{length} bytes");
-            assert_eq!(rt; status, want);
+            prints(&rt, rt.alloc(), script.as_slice(), &way, want, text)?;
             script.push(b'\n')?;
-            let (status, out) = replayed(rt.alloc(), script.as_slice(), &way)?;
-            assert!(rt; out.as_slice() == text, "{length} bytes and a newline");
-            assert_eq!(rt; status, want);
+            prints(&rt, rt.alloc(), script.as_slice(), &way, want, text)?;
         }
     }
     Ok(())
@@ -53,18 +49,14 @@ fn long_script(alloc: Global, last: usize) -> Result<Vec<u8>, AllocError> {
 #[test]
 fn byte_67108865_makes_its_line_bad(rt: HostRuntime) -> Result<(), Fail> {
     let script = long_script(rt.alloc(), 108_530)?;
-    let (status, out) = replayed(rt.alloc(), script.as_slice(), &PLAIN)?;
-    assert_eq!(rt; status, Status::BadScript);
-    assert_eq!(rt; out.as_slice(), b"bad line 336\n".as_slice());
-    Ok(())
+    let want = b"bad line 336\n".as_slice();
+    prints(&rt, rt.alloc(), script.as_slice(), &PLAIN, Status::BadScript, want)
 }
 
 #[test]
 fn byte_67108865_may_be_a_newline(rt: HostRuntime) -> Result<(), Fail> {
     let mut script = long_script(rt.alloc(), 108_529)?;
     script.push(b'\n')?;
-    let (status, out) = replayed(rt.alloc(), script.as_slice(), &PLAIN)?;
-    assert_eq!(rt; status, Status::BadScript);
-    assert_eq!(rt; out.as_slice(), b"bad line 336\n".as_slice());
-    Ok(())
+    let want = b"bad line 336\n".as_slice();
+    prints(&rt, rt.alloc(), script.as_slice(), &PLAIN, Status::BadScript, want)
 }

@@ -1,7 +1,7 @@
 //! Lines that print nothing, and lines that are bad, at each limit.
 
 use super::rows::{TUNNEL, TUNNEL_PRINTS};
-use super::{PLAIN, replayed};
+use super::{PLAIN, prints, replayed};
 use mq_replay::Status;
 use std::alloc::{AllocError, Global};
 use std::test::Fail;
@@ -112,9 +112,7 @@ const BAD: [(&[u8], &[u8]); 64] = [
 #[test]
 fn good_lines_print_nothing(rt: HostRuntime) -> Result<(), Fail> {
     for &script in &GOOD {
-        let (status, out) = replayed(rt.alloc(), script, &PLAIN)?;
-        assert_eq!(rt; out.as_slice(), b"".as_slice());
-        assert_eq!(rt; status, Status::Done);
+        prints(&rt, rt.alloc(), script, &PLAIN, Status::Done, b"")?;
     }
     Ok(())
 }
@@ -125,9 +123,7 @@ fn bad_lines_are_told_by_number(rt: HostRuntime) -> Result<(), Fail> {
         let mut want = Vec::from_slice(rt.alloc(), b"bad line ".as_slice())?;
         want.extend_from_slice(number)?;
         want.push(b'\n')?;
-        let (status, out) = replayed(rt.alloc(), script, &PLAIN)?;
-        assert_eq!(rt; out.as_slice(), want.as_slice());
-        assert_eq!(rt; status, Status::BadScript);
+        prints(&rt, rt.alloc(), script, &PLAIN, Status::BadScript, want.as_slice())?;
     }
     Ok(())
 }
@@ -162,13 +158,9 @@ fn settings_of_a_form_are_bounded(rt: HostRuntime) -> Result<(), Fail> {
     ];
     for &(parts, most, want) in &cases {
         let script = many(rt.alloc(), parts, most)?;
-        let (status, out) = replayed(rt.alloc(), script.as_slice(), &PLAIN)?;
-        assert_eq!(rt; out.as_slice(), b"".as_slice());
-        assert_eq!(rt; status, Status::Done);
+        prints(&rt, rt.alloc(), script.as_slice(), &PLAIN, Status::Done, b"")?;
         let script = many(rt.alloc(), parts, most + 1)?;
-        let (status, out) = replayed(rt.alloc(), script.as_slice(), &PLAIN)?;
-        assert_eq!(rt; out.as_slice(), want);
-        assert_eq!(rt; status, Status::BadScript);
+        prints(&rt, rt.alloc(), script.as_slice(), &PLAIN, Status::BadScript, want)?;
     }
     Ok(())
 }

@@ -1,6 +1,6 @@
 //! Replays for many: several links and workers, both directions, and steps of all actors.
 
-use super::roomy;
+use super::{PLAIN, prints};
 use mq_replay::Status;
 use std::test::Fail;
 
@@ -49,10 +49,8 @@ fn many_are_served(rt: HostRuntime) -> Result<(), Fail> {
             b"accepted 0 0\nfinished 0\nmore\nended 0 Done\n",
         ),
     ];
-    for &(script, prints) in &cases {
-        let (status, shown) = roomy(rt.alloc(), script)?;
-        assert_eq!(rt; shown.as_slice(), prints);
-        assert_eq!(rt; status, Status::Done);
+    for &(script, want) in &cases {
+        prints(&rt, rt.alloc(), script, &PLAIN, Status::Done, want)?;
     }
     Ok(())
 }

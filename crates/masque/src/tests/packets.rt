@@ -1,6 +1,6 @@
 //! Tunnels for IP packets. What is printed is worked out by another program (tools/ip_examples.py checks it, packet for packet).
 
-use super::{PLAIN, replayed};
+use super::{PLAIN, prints};
 use mq_replay::Status;
 use std::test::Fail;
 
@@ -57,9 +57,7 @@ fn packets_go_between_tunnels_and_the_network(rt: HostRuntime) -> Result<(), Fai
         (HISTORY, HISTORY_PRINTS),
     ];
     for &(script, want) in &cases {
-        let (status, out) = replayed(rt.alloc(), script, &PLAIN)?;
-        assert_eq!(rt; out.as_slice(), want);
-        assert_eq!(rt; status, Status::Done);
+        prints(&rt, rt.alloc(), script, &PLAIN, Status::Done, want)?;
     }
     Ok(())
 }

@@ -1,6 +1,6 @@
 //! Requests, and the settings and bind that decide them.
 
-use super::{PLAIN, replayed};
+use super::{PLAIN, ends, prints};
 use mq_replay::Status;
 use std::alloc::{AllocError, Global};
 use std::test::Fail;
@@ -71,9 +71,7 @@ fn paths_are_judged(rt: HostRuntime) -> Result<(), Fail> {
     ];
     for &(path, want) in &cases {
         let script = asked(rt.alloc(), b"conn 0\n", path)?;
-        let (status, out) = replayed(rt.alloc(), script.as_slice(), &PLAIN)?;
-        assert_eq!(rt; status, Status::Done);
-        assert_eq!(rt; out.as_slice().ends_with(want), true);
+        ends(&rt, rt.alloc(), script.as_slice(), want)?;
     }
     Ok(())
 }
@@ -154,9 +152,7 @@ fn settings_decide(rt: HostRuntime) -> Result<(), Fail> {
     ];
     for &(settings, path, want) in &cases {
         let script = configured(rt.alloc(), settings, path)?;
-        let (status, out) = replayed(rt.alloc(), script.as_slice(), &PLAIN)?;
-        assert_eq!(rt; status, Status::Done);
-        assert_eq!(rt; out.as_slice().ends_with(want), true);
+        ends(&rt, rt.alloc(), script.as_slice(), want)?;
     }
     Ok(())
 }
@@ -193,16 +189,12 @@ fn sixty_four_names_and_256_rules_are_taken(rt: HostRuntime) -> Result<(), Fail>
     let settings = full_settings(rt.alloc(), 64, 256)?;
     for &(path, want) in &cases {
         let script = configured(rt.alloc(), settings.as_slice(), path)?;
-        let (status, out) = replayed(rt.alloc(), script.as_slice(), &PLAIN)?;
-        assert_eq!(rt; status, Status::Done);
-        assert_eq!(rt; out.as_slice().ends_with(want), true);
+        ends(&rt, rt.alloc(), script.as_slice(), want)?;
     }
     let past: [(u32, u32, &[u8]); 2] = [(65, 1, b"bad line 65\n"), (0, 257, b"bad line 257\n")];
     for &(names, rules, want) in &past {
         let script = full_settings(rt.alloc(), names, rules)?;
-        let (status, out) = replayed(rt.alloc(), script.as_slice(), &PLAIN)?;
-        assert_eq!(rt; out.as_slice(), want);
-        assert_eq!(rt; status, Status::BadScript);
+        prints(&rt, rt.alloc(), script.as_slice(), &PLAIN, Status::BadScript, want)?;
     }
     Ok(())
 }
@@ -221,9 +213,7 @@ fn settings_stand_first(rt: HostRuntime) -> Result<(), Fail> {
         (b"deny udp 192.0.2.1/24 1 65535\n", b"bad line 1\n"),
     ];
     for &(script, want) in &cases {
-        let (status, out) = replayed(rt.alloc(), script, &PLAIN)?;
-        assert_eq!(rt; out.as_slice(), want);
-        assert_eq!(rt; status, Status::BadScript);
+        prints(&rt, rt.alloc(), script, &PLAIN, Status::BadScript, want)?;
     }
     Ok(())
 }
@@ -254,9 +244,7 @@ fn a_bind_fails_where_that_was_said(rt: HostRuntime) -> Result<(), Fail> {
     ];
     for &(lines, path, want) in &cases {
         let script = asked(rt.alloc(), lines, path)?;
-        let (status, out) = replayed(rt.alloc(), script.as_slice(), &PLAIN)?;
-        assert_eq!(rt; status, Status::Done);
-        assert_eq!(rt; out.as_slice().ends_with(want), true);
+        ends(&rt, rt.alloc(), script.as_slice(), want)?;
     }
     Ok(())
 }

@@ -13,7 +13,7 @@ returns-in-Ok c = λ s is.
     let f = opener old s is c.args.tunnel k c.book.result.now c.history.result.now c.book.ensures c.history.ensures.value c.history.ensures.legal e.0 e.1 e.2 e.3 in
     let at = read_at old.workers.items k c.index_mut-worker.result.now f.less c.index_mut-worker.ensures.value in (
       f.opens,
-      stands_ported old s is c.args.tunnel k f.e f.at f.by (with_datagram c.args.datagram) c.index_mut-worker.result.now c.arrive.new.worker at
+      stands_ported old s is c.args.tunnel k f.e f.at f.by (with_datagram c.args.datagram) c.mark.new.rests c.mark.ensures c.index_mut-worker.result.now c.arrive.new.worker at
           (λ w x. c.in-Ok.ensures.serves s.links (seen_of old.office) old.mail.boxes k w x),
     )
 
@@ -24,4 +24,4 @@ returns-in-Err c = λ s is.
     let e = c.in_ok-place.ensures.ok in
     let f = opener old s is c.args.tunnel k c.book.result.now c.history.result.now c.book.ensures c.history.ensures.value c.history.ensures.legal e.0 e.1 e.2 e.3 in
     let at = read_at old.workers.items k c.index_mut-worker.result.now f.less c.index_mut-worker.ensures.value in
-    (tt, stands_still old s is k c.index_mut-worker.result.now c.arrive.new.worker at (λ w x. c.in-Err.ensures.err s.links (seen_of old.office) old.mail.boxes k w x))
+    (tt, stands_still old s is k c.mark.new.rests c.mark.ensures c.index_mut-worker.result.now c.arrive.new.worker at (λ w x. c.in-Err.ensures.err s.links (seen_of old.office) old.mail.boxes k w x))

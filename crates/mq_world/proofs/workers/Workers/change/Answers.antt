@@ -15,7 +15,7 @@ returns c = λ s is.
     let less = reached c.args.self.now s is c.args.conn c.in_ok-place.place c.in_ok-place.ensures.told in
     let at = read_at c.args.self.now.workers.items c.in_ok-place.place c.index_mut-worker.result.now less c.index_mut-worker.ensures.value in (
       links_long c.args.self.now s is c.args.conn true c.in_ok-place.ensures.ok,
-      stands_reached c.args.self.now s is c.args.conn c.in_ok-place.place c.in_ok-place.ensures.told c.index_mut-worker.result.now c.change.new.worker
+      stands_reached c.args.self.now s is c.args.conn c.in_ok-place.place c.in_ok-place.ensures.told c.mark.new.rests c.mark.ensures c.index_mut-worker.result.now c.change.new.worker
           (changed c.args.event) at
           (λ w x. c.change.ensures s.links (seen_of c.args.self.now.office) c.args.self.now.mail.boxes c.in_ok-place.place w x),
     )

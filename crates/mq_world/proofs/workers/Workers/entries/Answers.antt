@@ -1,4 +1,4 @@
-use Rattle.std.proofs.Common.{ℕ, List, length, sym, ap, ◌∙◌}
+use Rattle.std.proofs.Common.{length, sym, ap, ◌∙◌}
 use Rattle.mq_machine.specs.State.{Shared}
 use Rattle.mq_world.proofs.workers.Workers.entries.Goals as goal
 

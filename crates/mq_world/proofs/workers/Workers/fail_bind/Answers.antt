@@ -13,4 +13,5 @@ returns c = λ s is. record {
   config = is.config;
   pump = is.pump;
   offered = is.offered;
+  rests = is.rests;
 }

@@ -12,6 +12,6 @@ returns c = λ s is.
     let f = opener old s is c.args.tunnel k c.book.result.now c.history.result.now c.book.ensures c.history.ensures.value c.history.ensures.legal e.0 e.1 e.2 e.3 in
     let at = read_at old.workers.items k c.index_mut-worker.result.now f.less c.index_mut-worker.ensures.value in (
       f.opens,
-      stands_ported old s is c.args.tunnel k f.e f.at f.by send_failing c.index_mut-worker.result.now c.fail_send.new.worker at
+      stands_ported old s is c.args.tunnel k f.e f.at f.by send_failing c.mark.new.rests c.mark.ensures c.index_mut-worker.result.now c.fail_send.new.worker at
           (λ w x. c.fail_send.ensures s.links (seen_of old.office) old.mail.boxes k w x),
     )

@@ -25,7 +25,7 @@ returns c = λ s is.
     let now = said old s is conn t at_told in
     let state = heard old s is conn t at_told in (
       ap not (links_long old s is conn true c.in_ok-place.ensures.ok),
-      stands_reached now state (stands_said old s is conn t at_told) conn k (still_told old s is conn t at_told k c.in_ok-place.ensures.told) c.index_mut-worker.result.now c.change.new.worker
+      stands_reached now state (stands_said old s is conn t at_told) conn k (still_told old s is conn t at_told k c.in_ok-place.ensures.told) c.mark.new.rests c.mark.ensures c.index_mut-worker.result.now c.change.new.worker
           (λ (l : machine.Link). record l { is_ended = true }) at
           (λ w x. c.change.ensures state.links (seen_of old.office) old.mail.boxes k w x),
     )

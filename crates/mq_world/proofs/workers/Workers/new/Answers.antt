@@ -32,5 +32,5 @@ pub returns : goal.returns
 returns c =
     let end : c.loop-number.number ≡ c.args.plan.workers = omega (arith, c.loop-number-test.false, c.loop-number.auto.number-end) in
     let pump = c.in_ok-pump.ensures in
-    stands_new c.args.plan _ c.loop-number.number c.requires c.new-4.ensures.items c.in_ok-office.ensures c.in_ok-mail.ensures refl end
+    stands_new c.args.plan _ c.loop-number.number c.requires c.new-4.ensures.items c.in_ok-office.ensures c.in_ok-mail.ensures refl (c.in_ok-rests.ensures.items_if_clones_equal (λ y e. cc)) end
     (pump.is.0 ∙ c.in_ok-net.ensures ∙ ap (λ (hosts : List Addr). new_sim hosts) c.as_slice.ensures) pump.is.1 pump.stands c.loop-number.invariant

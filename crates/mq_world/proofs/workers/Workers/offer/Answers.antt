@@ -33,7 +33,7 @@ returns-in-Ok-offer c = λ s is.
     let at = read_at old.workers.items k c.index_mut-worker.result.now less c.index_mut-worker.ensures.value in
     let next : c.len-number.result ≡ length s.links = c.len-number.ensures ∙ old.links.ok.0 ∙ sym (links_many old s is) in (
       missing_same old s is k ∙ none,
-      stands_offered old s is k c.index_mut-worker.result.now at (record old { links = c.push.new.self }) c.offer.new.worker c.in-Ok.ensures.items
+      stands_offered old s is k c.index_mut-worker.result.now at (record old { links = c.push.new.self; rests = c.mark.new.rests }) c.offer.new.worker c.in-Ok.ensures.items c.mark.ensures
           (λ w x. subst (λ (n : ℕ). Serves (s.links ++ record { worker = k; is_ended = false } ∷ []) (seen_of old.office) old.mail.boxes k c.offer.new.worker (with_offer n new_link w)) next
           (c.in-Ok-offer.ensures.serves s.links (seen_of old.office) old.mail.boxes k w next x)),
     )
@@ -49,8 +49,8 @@ returns-in-Err c = λ s is.
     let same : c.truncate.new.self.items ≡ old.links.items =
     c.truncate.ensures.items ∙ ap (λ (n : ℕ). take n c.push.new.self.items) size ∙ ap (λ (ts : List ToldBy). take (length old.links.items) ts) c.in-Ok.ensures.items
     ∙ take-append_seam old.links.items (told ∷ []) in
-    let still : Workers = record old { workers = with_item old.workers k c.offer.new.worker } in (
+    let still : Workers = record old { workers = with_item old.workers k c.offer.new.worker; rests = c.mark.new.rests } in (
       tt,
-      relinked still s (stands_still old s is k c.index_mut-worker.result.now c.offer.new.worker at (λ w x. c.in-Err.ensures.err s.links (seen_of old.office) old.mail.boxes k w x))
+      relinked still s (stands_still old s is k c.mark.new.rests c.mark.ensures c.index_mut-worker.result.now c.offer.new.worker at (λ w x. c.in-Err.ensures.err s.links (seen_of old.office) old.mail.boxes k w x))
           (record still { links = c.truncate.new.self }) same,
     )

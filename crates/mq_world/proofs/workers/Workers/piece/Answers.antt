@@ -19,7 +19,7 @@ returns-in-Ok c = λ s is.
     let told = c.in_ok-place.ensures.told in
     let at = read_at old.workers.items k c.index_mut-worker.result.now (reached old s is c.args.conn k told) c.index_mut-worker.ensures.value in (
       ended_in old s is c.args.conn false c.in_ok-place.ensures.ok,
-      stands_reached old s is c.args.conn k told c.index_mut-worker.result.now c.piece.new.worker (with_piece c.args.bytes) at
+      stands_reached old s is c.args.conn k told c.mark.new.rests c.mark.ensures c.index_mut-worker.result.now c.piece.new.worker (with_piece c.args.bytes) at
           (λ w x. c.in-Ok.ensures.serves s.links (seen_of old.office) old.mail.boxes k w x),
     )
 
@@ -28,4 +28,4 @@ returns-in-Err c = λ s is.
     let old = c.args.self.now in
     let k = c.in_ok-place.place in
     let at = read_at old.workers.items k c.index_mut-worker.result.now (reached old s is c.args.conn k c.in_ok-place.ensures.told) c.index_mut-worker.ensures.value in
-    (tt, stands_still old s is k c.index_mut-worker.result.now c.piece.new.worker at (λ w x. c.in-Err.ensures.err s.links (seen_of old.office) old.mail.boxes k w x))
+    (tt, stands_still old s is k c.mark.new.rests c.mark.ensures c.index_mut-worker.result.now c.piece.new.worker at (λ w x. c.in-Err.ensures.err s.links (seen_of old.office) old.mail.boxes k w x))

@@ -1,4 +1,4 @@
-use Rattle.std.proofs.Common.{Some, sym, ap, subst, ◌∙◌, arith}
+use Rattle.std.proofs.Common.{sym, ap, subst, ◌∙◌, arith}
 use Rattle.mq_machine.specs.Acting.{PumpSteps}
 use Rattle.mq_mem.specs.Mails.{Mail as MailOf, shown}
 use Rattle.mq_mem.specs.Offices.{Office as OfficeOf, seen_of}

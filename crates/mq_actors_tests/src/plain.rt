@@ -12,7 +12,7 @@ ghost use Rattle.mq_actor.specs.Steps.{sight};
 ghost use Rattle.mq_mail.specs.Posts.{new_key};
 ghost use Rattle.mq_plain.specs.Served.{Serves, words};
 
-use crate::{Plain, PlainPorts, offer, piece};
+use mq_plain::{Plain, PlainPorts, offer, piece};
 use mq_addr::Kind;
 use mq_book::Config;
 use mq_machine::Setup;

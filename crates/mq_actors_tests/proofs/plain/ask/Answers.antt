@@ -1,4 +1,4 @@
-use Rattle.mq_plain.proofs.tests.ask.Goals as goal
+use Rattle.mq_actors_tests.proofs.plain.ask.Goals as goal
 
 pub returns : goal.returns
 returns c = λ links seen boxes w next serves.

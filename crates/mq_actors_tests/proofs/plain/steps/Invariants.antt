@@ -6,7 +6,7 @@ use Rattle.mq_mem.specs.Offices.{seen_of}
 use Rattle.mq_actor.specs.Holds.{IsWorker}
 use Rattle.mq_actor.specs.Steps.{sight}
 use Rattle.mq_plain.specs.Served.{words}
-use Rattle.mq_plain.proofs.tests.steps.Given as goal
+use Rattle.mq_actors_tests.proofs.plain.steps.Given as goal
 
 abbrev pub invariant-loop : goal.invariant-loop
 invariant-loop g l = record {

@@ -3,7 +3,7 @@ use Rattle.mq_machine.specs.declared.setup.Setup.{Setup}
 use Rattle.mq_mem.specs.Mails.{Mail as MailOf}
 use Rattle.mq_mem.specs.Offices.{seen_of}
 use Rattle.mq_plain.proofs.Serving.{nowhere}
-use Rattle.mq_plain.proofs.tests.played.Goals as goal
+use Rattle.mq_actors_tests.proofs.plain.played.Goals as goal
 
 pub steps-requires-clause-known : goal.steps-requires-clause-known
 steps-requires-clause-known c =

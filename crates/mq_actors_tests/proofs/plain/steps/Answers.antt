@@ -1,6 +1,6 @@
 use Rattle.std.proofs.Common.{◌≡◌, ℕ, ◌+◌, sym, ap, ◌∙◌}
 use Rattle.mq_machine.specs.declared.setup.Setup.{Setup}
-use Rattle.mq_plain.proofs.tests.steps.Goals as goal
+use Rattle.mq_actors_tests.proofs.plain.steps.Goals as goal
 
 -- the pump's number is how many workers the office knows
 pub step-requires-clause-inboxes : goal.step-requires-clause-inboxes

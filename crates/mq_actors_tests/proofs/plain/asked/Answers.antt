@@ -9,7 +9,7 @@ use Rattle.mq_actor.specs.Ended.{numbers_in}
 use Rattle.mq_actor.specs.Holds.{IsWorker}
 use Rattle.mq_plain.specs.Served.{words, Plain, IsOf, Serves}
 use Rattle.mq_plain.proofs.Begun.{begins, numbers}
-use Rattle.mq_plain.proofs.tests.asked.Goals as goal
+use Rattle.mq_actors_tests.proofs.plain.asked.Goals as goal
 
 -- a link of the only worker
 abbrev own_link : Told

@@ -3,7 +3,7 @@ use Rattle.mq_machine.specs.declared.setup.Setup.{Setup}
 use Rattle.mq_mem.specs.Offices.{seen_of}
 use Rattle.mq_mail.specs.Posts.{KeyOf}
 use Rattle.mq_plain.proofs.Serving.{nowhere}
-use Rattle.mq_plain.proofs.tests.played_shared.Goals as goal
+use Rattle.mq_actors_tests.proofs.plain.played_shared.Goals as goal
 
 -- The mail tells no inboxes: the worker is as beside two that are empty.
 pub steps-requires-clause-known : goal.steps-requires-clause-known
