@@ -21,7 +21,7 @@ use Rattle.mq_plain.specs.Served.{Plain, Serves}
 use Rattle.mq_world.specs.declared.told.Told.{Told as ToldBy}
 use Rattle.mq_world.specs.declared.workers.Workers.{Workers}
 use Rattle.mq_plain.specs.Taking.{shared_of}
-use Rattle.mq_world.specs.Worlds.{told_of, AreServed, DoRest, IsWorld}
+use Rattle.mq_world.specs.Worlds.{told_of, AreNew, AreServed, DoRest, IsWorld}
 use Rattle.mq_world.proofs.Resting.{none_said}
 
 -- ---- the inboxes
@@ -40,11 +40,6 @@ served_push links seen boxes from (b ∷ actors) [] a w are x = absurd are
 served_push links seen boxes from (b ∷ actors) (v ∷ ws) a w are x =
     let same : from + suc (length actors) ≡ suc from + length actors = omega arith in
     (are.0, served_push links seen boxes (suc from) actors ws a w are.1 (subst (λ (n : ℕ). Serves links seen boxes n a w) same x))
-
--- so many workers were made
-pub record AreNew (seen : Seen) (boxes : Boxes) (setup : Setup) (actors : List Plain) (count : ℕ) : Type 0 where
-  pub size : length actors ≡ count
-  pub served : AreServed [] seen boxes 0 actors (new_workers setup count)
 
 pub one_more : (seen : Seen) (boxes : Boxes) (setup : Setup) (actors after : List Plain) (count : ℕ) (a : Plain) → AreNew seen boxes setup actors count → Serves [] seen boxes count a (new_worker count setup)
     → after ≡ actors ++ a ∷ [] → AreNew seen boxes setup after (count + 1)

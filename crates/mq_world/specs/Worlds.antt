@@ -11,6 +11,7 @@ use Rattle.mq_talk.specs.Mails.{Boxes}
 use Rattle.mq_talk.specs.Offices.{Seen}
 use Rattle.mq_machine.specs.declared.event.Event.{Event}
 use Rattle.mq_machine.specs.declared.event.Event.TheVariants as event
+use Rattle.mq_machine.specs.declared.setup.Setup.{Setup}
 use Rattle.mq_machine.specs.State.{Link, Told, Worker, Pump, State}
 use Rattle.mq_machine.specs.Silent.{Reached, SilentTurn}
 use Rattle.mq_machine.specs.Turn.{Actor, WorkerOf, ThePump, Turn, Quiet, turn_of}
@@ -18,7 +19,7 @@ use Rattle.mq_mem.specs.Offices.{seen_of}
 use Rattle.mq_net.specs.Sims.{Sim, holds_of}
 use Rattle.mq_pump.specs.declared.pump.Pump.{Pump as PumpBy}
 use Rattle.mq_pump.specs.Holds.{IsPump}
-use Rattle.mq_play.specs.Events.{at_link, happen, has_link, is_missing}
+use Rattle.mq_play.specs.Events.{at_link, happen, has_link, is_missing, new_workers}
 use Rattle.mq_play.specs.Lines.{most_packet, most_payload}
 use Rattle.mq_plain.specs.Served.{Plain, Serves}
 use Rattle.mq_plain.specs.Taking.{Common, shared_of}
@@ -51,6 +52,17 @@ DoRest [] [] = ⊤
 DoRest [] (a ∷ actors) = ⊥
 DoRest (said ∷ rests) [] = ⊥
 DoRest (said ∷ rests) (a ∷ actors) = (said ≡ true → Rests a) × DoRest rests actors
+
+-- a book in which nothing is written, the inboxes of its workers and the pump, and what a worker is set up with
+pub record IsBegun (seen : Seen) (boxes : Boxes) (setup : Setup) : Type 0 where
+  pub written : seen.entries ≡ []
+  pub inboxes : length boxes ≡ seen.config.workers + 1
+  pub pump : setup.pump ≡ seen.config.workers
+
+-- so many workers, to which nothing happened yet
+pub record AreNew (seen : Seen) (boxes : Boxes) (setup : Setup) (actors : List Plain) (count : ℕ) : Type 0 where
+  pub size : length actors ≡ count
+  pub served : AreServed [] seen boxes 0 actors (new_workers setup count)
 
 -- what they share
 abbrev pub common_of : Workers → Common

@@ -1,7 +1,9 @@
 //! All actors, what was said of links, and what the actors share.
-ghost use Rattle.std.specs.Prelude.{◌≡◌, ◌<◌, ◌≤◌, ◌||◌, true, false, not, length, map, nat_le, nat_lt, slice_get, Some, Err, IfOk, OnOk, OnErr};
+ghost use Rattle.std.specs.Prelude.{◌≡◌, ◌+◌, ◌<◌, ◌≤◌, ◌||◌, true, false, not, length, map, nat_le, nat_lt, slice_get, Some, Err, IfOk, OnOk, OnErr};
 ghost use Rattle.std.specs.List.{list_any};
 ghost use Rattle.std.specs.Option.{option_map};
+ghost use Rattle.mq_talk.specs.Mails.{Boxes};
+ghost use Rattle.mq_talk.specs.Offices.{Seen};
 ghost use Rattle.mq_machine.specs.State as machine;
 ghost use Rattle.mq_machine.specs.declared.event.Event.TheVariants.{Conn, Datagram, End, FailBind, FailPort, Piece, Step};
 ghost use Rattle.mq_machine.specs.Turn.{WorkerOf, has_turn};
@@ -11,12 +13,13 @@ ghost use Rattle.mq_play.specs.Play.{actors_of};
 ghost use Rattle.mq_play.specs.Settings.{IsPlan};
 ghost use Rattle.mq_plain.specs.Coming.{changed};
 ghost use Rattle.mq_world.specs.declared.stepped.WorldFault.TheVariants as fault;
-ghost use Rattle.mq_world.specs.Worlds.{Happens, IsWorld, LinkHappens, StepGives, ActorGives, stepped_by, told_of};
+ghost use Rattle.mq_world.specs.Worlds.{AreNew, Happens, IsBegun, IsWorld, LinkHappens, StepGives, ActorGives, stepped_by, told_of};
 
 use crate::rests::mark;
 use crate::stepped::{Stepped, WorldFault};
 use crate::told::Told;
 use crate::tunnel::opener_of;
+use mq_machine::Setup;
 use mq_mem::{PlainMail, PlainOffice};
 use mq_net::SimNet;
 use mq_plain::{
@@ -51,6 +54,34 @@ pub struct Workers {
     pub rests: Vec<bool>,
 }
 
+/// One more worker, to which nothing happened yet: its number is the next.
+fn add_worker(
+    alloc: Global,
+    setup: &Setup,
+    number: u32,
+    workers: &mut Vec<Plain>,
+) -> Result<(), NoMemory>
+    ensures { OnOk result ((seen : Seen) (boxes : Boxes) → IsBegun seen boxes setup.now → number < seen.config.workers → AreNew seen boxes setup.now workers.old.items number
+        → AreNew seen boxes setup.now workers.new.items (number + 1)) }
+{
+    let ports = PlainPorts::new(alloc)?;
+    let own = setup.copy(alloc)?;
+    let worker = Plain::new(alloc, number, own, ports)?;
+    workers.push(worker)?;
+    Ok(())
+}
+
+/// So many workers, numbered from 0, to which nothing happened yet.
+fn workers_of(alloc: Global, count: u32, setup: &Setup) -> Result<Vec<Plain>, NoMemory>
+    ensures { IfOk result (λ workers. (seen : Seen) (boxes : Boxes) → IsBegun seen boxes setup.now → count ≡ seen.config.workers → AreNew seen boxes setup.now workers.items count) }
+{
+    let mut workers = Vec::with_capacity(alloc, count as usize)?;
+    for number in 0..count {
+        add_worker(alloc, setup, number, &mut workers)?;
+    }
+    Ok(workers)
+}
+
 impl Workers {
     /// The actors of a plan, to which nothing happened yet: the workers have no links, nothing came from the network, and the
     /// book and the inboxes are empty.
@@ -64,18 +95,12 @@ impl Workers {
             book,
             hosts,
         } = plan;
+        let rests = vec![in alloc; false; count as usize]?;
+        let mail = PlainMail::new(alloc, count + 1)?;
+        let office = PlainOffice::of(alloc, book)?;
         let net = SimNet::new(alloc, hosts.as_slice())?;
         let pump = Pump::new(alloc, net, count, setup.mtu)?;
-        let office = PlainOffice::of(alloc, book)?;
-        let mail = PlainMail::new(alloc, count + 1)?;
-        let mut workers = Vec::with_capacity(alloc, count as usize)?;
-        for number in 0..count {
-            let ports = PlainPorts::new(alloc)?;
-            let own = setup.copy(alloc)?;
-            let worker = Plain::new(alloc, number, own, ports)?;
-            workers.push(worker)?;
-        }
-        let rests = vec![in alloc; false; count as usize]?;
+        let workers = workers_of(alloc, count, &setup)?;
         Ok(Workers {
             alloc,
             links: Vec::new(alloc),
