@@ -12,12 +12,12 @@ ghost use Rattle.mq_actor.specs.Steps.{sight};
 ghost use Rattle.mq_mail.specs.Posts.{new_key};
 ghost use Rattle.mq_plain.specs.Served.{Serves, words};
 
-use mq_plain::{Plain, PlainPorts, offer, piece};
 use mq_addr::Kind;
 use mq_book::Config;
 use mq_machine::Setup;
 use mq_mail::{MailKey, Post, matrix};
 use mq_mem::{PlainMail, PlainOffice, RefusingOffice};
+use mq_plain::{Plain, PlainPorts, offer, piece};
 use mq_policy::Policy;
 use mq_talk::{End, Mail, Note};
 use mq_target::Template;

@@ -50,7 +50,14 @@ fn long_script(alloc: Global, last: usize) -> Result<Vec<u8>, AllocError> {
 fn byte_67108865_makes_its_line_bad(rt: HostRuntime) -> Result<(), Fail> {
     let script = long_script(rt.alloc(), 108_530)?;
     let want = b"bad line 336\n".as_slice();
-    prints(&rt, rt.alloc(), script.as_slice(), &PLAIN, Status::BadScript, want)
+    prints(
+        &rt,
+        rt.alloc(),
+        script.as_slice(),
+        &PLAIN,
+        Status::BadScript,
+        want,
+    )
 }
 
 #[test]
@@ -58,5 +65,12 @@ fn byte_67108865_may_be_a_newline(rt: HostRuntime) -> Result<(), Fail> {
     let mut script = long_script(rt.alloc(), 108_529)?;
     script.push(b'\n')?;
     let want = b"bad line 336\n".as_slice();
-    prints(&rt, rt.alloc(), script.as_slice(), &PLAIN, Status::BadScript, want)
+    prints(
+        &rt,
+        rt.alloc(),
+        script.as_slice(),
+        &PLAIN,
+        Status::BadScript,
+        want,
+    )
 }

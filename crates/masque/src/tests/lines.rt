@@ -123,7 +123,14 @@ fn bad_lines_are_told_by_number(rt: HostRuntime) -> Result<(), Fail> {
         let mut want = Vec::from_slice(rt.alloc(), b"bad line ".as_slice())?;
         want.extend_from_slice(number)?;
         want.push(b'\n')?;
-        prints(&rt, rt.alloc(), script, &PLAIN, Status::BadScript, want.as_slice())?;
+        prints(
+            &rt,
+            rt.alloc(),
+            script,
+            &PLAIN,
+            Status::BadScript,
+            want.as_slice(),
+        )?;
     }
     Ok(())
 }
@@ -158,9 +165,23 @@ fn settings_of_a_form_are_bounded(rt: HostRuntime) -> Result<(), Fail> {
     ];
     for &(parts, most, want) in &cases {
         let script = many(rt.alloc(), parts, most)?;
-        prints(&rt, rt.alloc(), script.as_slice(), &PLAIN, Status::Done, b"")?;
+        prints(
+            &rt,
+            rt.alloc(),
+            script.as_slice(),
+            &PLAIN,
+            Status::Done,
+            b"",
+        )?;
         let script = many(rt.alloc(), parts, most + 1)?;
-        prints(&rt, rt.alloc(), script.as_slice(), &PLAIN, Status::BadScript, want)?;
+        prints(
+            &rt,
+            rt.alloc(),
+            script.as_slice(),
+            &PLAIN,
+            Status::BadScript,
+            want,
+        )?;
     }
     Ok(())
 }

@@ -194,7 +194,14 @@ fn sixty_four_names_and_256_rules_are_taken(rt: HostRuntime) -> Result<(), Fail>
     let past: [(u32, u32, &[u8]); 2] = [(65, 1, b"bad line 65\n"), (0, 257, b"bad line 257\n")];
     for &(names, rules, want) in &past {
         let script = full_settings(rt.alloc(), names, rules)?;
-        prints(&rt, rt.alloc(), script.as_slice(), &PLAIN, Status::BadScript, want)?;
+        prints(
+            &rt,
+            rt.alloc(),
+            script.as_slice(),
+            &PLAIN,
+            Status::BadScript,
+            want,
+        )?;
     }
     Ok(())
 }
