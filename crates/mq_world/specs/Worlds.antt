@@ -44,7 +44,8 @@ AreServed links seen boxes from (a ∷ actors) (w ∷ ws) = Serves links seen bo
 
 -- whichever worker of the machine it stands for has no turn while its inbox is empty
 abbrev pub Rests : Plain → Type 0
-Rests a = (links : List Told) (seen : Seen) (boxes : Boxes) (number : ℕ) (w : Worker) → Serves links seen boxes number a w → turn_of w [] ≡ None
+Rests a = (links : List Told) (seen : Seen) (boxes : Boxes) (number : ℕ) (w : Worker) → Serves links seen boxes number a w
+  → turn_of w [] ≡ None
 
 -- those of which it is said do so
 abbrev pub DoRest : List Bool → List Plain → Type 0
@@ -54,13 +55,13 @@ DoRest (said ∷ rests) [] = ⊥
 DoRest (said ∷ rests) (a ∷ actors) = (said ≡ true → Rests a) × DoRest rests actors
 
 -- a book in which nothing is written, the inboxes of its workers and the pump, and what a worker is set up with
-pub record IsBegun (seen : Seen) (boxes : Boxes) (setup : Setup) : Type 0 where
+pub record IsUnused (seen : Seen) (boxes : Boxes) (setup : Setup) : Type 0 where
   pub written : seen.entries ≡ []
   pub inboxes : length boxes ≡ seen.config.workers + 1
   pub pump : setup.pump ≡ seen.config.workers
 
 -- so many workers, to which nothing happened yet
-pub record AreNew (seen : Seen) (boxes : Boxes) (setup : Setup) (actors : List Plain) (count : ℕ) : Type 0 where
+pub record AreUnused (seen : Seen) (boxes : Boxes) (setup : Setup) (actors : List Plain) (count : ℕ) : Type 0 where
   pub size : length actors ≡ count
   pub served : AreServed [] seen boxes 0 actors (new_workers setup count)
 
@@ -86,6 +87,7 @@ pub record IsWorld (world : Workers) (s : State) : Type 0 where
   pub pump : IsPumpOf world.office.book.config.workers world.pump s.pump
   -- each link was offered to one of them
   pub offered : All (λ (t : Told). t.worker < length world.workers.items) s.links
+  -- those of which it is said rest, so that none of them has to be asked while its inbox is empty
   pub rests : DoRest world.rests.items world.workers.items
 
 -- ---- what happens
