@@ -18,14 +18,15 @@ use mq_wire::{NoMemory, Seq};
 use std::alloc::Global;
 use std::process::ExitCode;
 
+/// The request, head and nothing else.
 const REQUEST: &[u8] =
     b"GET https://example.org/.well-known/masque/udp/192.0.2.6/443/ HTTP/1.1\r\nHost: example.org\r\nConnection: Upgrade\r\nUpgrade: connect-udp\r\nCapsule-Protocol: ?1\r\n\r\n";
 
 /// A DATAGRAM capsule of three bytes (RFC 9297, section 3.5): context 0, and a payload of two bytes.
 const CAPSULE: &[u8] = b"\x00\x03\x00hi";
 
-/// The most bytes that the port takes: what fits into a packet of IPv4.
-const LIMIT: u32 = 65_507;
+/// The most bytes of a payload that the port takes: those that fit into a packet of IPv4 behind its header and that of UDP.
+const MOST_SENT: u32 = 65_507;
 
 /// A proxy with the well-known templates, which allows every target.
 fn setup(alloc: Global) -> Result<Setup, NoMemory> {
@@ -48,17 +49,7 @@ fn opened(alloc: Global) -> Reply
     }
 }
 
-/// Does what the connection wants: its port is bound, its tunnel opens, and what it sends is taken. None where it wants nothing
-/// more.
-fn act(alloc: Global, conn: &mut Conn) -> Result<Option<Note>, NoMemory> {
-    match conn.next()? {
-        Want::Bind { .. } => Ok(Some(conn.bound(true)?)),
-        Want::Ask(Call::Open { .. }) => Ok(Some(conn.answer(opened(alloc))?)),
-        Want::SendUdp { .. } => Ok(Some(conn.sent(PortPut::Sent, LIMIT))),
-        _ => Ok(None),
-    }
-}
-
+/// Says what was done.
 fn show(rt: &HostRuntime, note: &Note) -> Option<()> {
     match note {
         Note::Ported { .. } => println!(rt; "the port is bound").ok(),
@@ -71,13 +62,18 @@ fn show(rt: &HostRuntime, note: &Note) -> Option<()> {
     }
 }
 
-/// The connection does what it can, and each thing is shown.
+/// What the connection wants is done, until it wants nothing: its port is bound, its tunnel opens, and what it sends is taken.
+/// None where it wants anything else, which isn't of this example, or more often than ten times.
 fn go_on(rt: &HostRuntime, conn: &mut Conn) -> Option<()> {
     for _ in 0..10 {
-        match act(rt.alloc(), conn).ok()? {
-            None => return Some(()),
-            Some(note) => show(rt, &note)?,
-        }
+        let note = match conn.next().ok()? {
+            Want::Nothing => return Some(()),
+            Want::Bind { .. } => conn.bound(true).ok()?,
+            Want::Ask(Call::Open { .. }) => conn.answer(opened(rt.alloc())).ok()?,
+            Want::SendUdp { .. } => conn.sent(PortPut::Sent, MOST_SENT),
+            _ => return None,
+        };
+        show(rt, &note)?;
     }
     None
 }
@@ -99,6 +95,7 @@ fn take(rt: &HostRuntime, setup: &Setup, conn: &mut Conn, bytes: &[u8]) -> Optio
     write(rt, conn)
 }
 
+/// The request comes, and the capsule behind it.
 fn serve(rt: &HostRuntime) -> Option<()> {
     let setup = setup(rt.alloc()).ok()?;
     let mut conn = Conn::new(rt.alloc(), 0, 0).ok()?;
