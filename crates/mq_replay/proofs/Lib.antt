@@ -1,3 +1,4 @@
+pub mod Newlines
 pub mod Shown
 pub mod Spoken
 pub mod Onward

@@ -1,6 +1,7 @@
 //! A script is read from a source, played in the world of all actors, and what happens is printed to a sink.
 #![tactic(auto)]
 
+mod line;
 mod listener;
 mod play;
 mod printing;

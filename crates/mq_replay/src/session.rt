@@ -9,11 +9,11 @@ ghost use Rattle.mq_replay.specs.Listening.{MayBeAny};
 ghost use Rattle.mq_replay.specs.Playing.{LineTo};
 ghost use Rattle.mq_replay.specs.Reading.{IsRead, RoomTo, ReadsTo, EndsTo};
 
+use crate::line::cut_line;
 use crate::play::play_line;
 use crate::stage::Stage;
 use mq_output::{Output, Stop};
 use mq_outside::Sink;
-use mq_text::cut;
 use std::alloc::Global;
 
 /// The most bytes of a line, without its newline.
@@ -110,7 +110,7 @@ impl Session {
         ensures counts { StopCounts (K.faults output.old.sink.now) (K.faults output.new.sink.now) result }
     {
         let mut rest = bytes;
-        while let Some((end, behind)) = cut(b'\n', rest) {
+        while let Some((end, behind)) = cut_line(rest) {
             self.end_line(alloc, end, output)?;
             rest = behind;
         }
