@@ -13,6 +13,7 @@ use mq_talk::{From, Kind, Note, Reply};
 use mq_target::Template;
 use mq_wire::{Bytes, NoMemory, Seq};
 use std::alloc::Global;
+use std::process::Abort;
 use std::test::Fail;
 
 const HEAD: &[u8] =
@@ -20,6 +21,9 @@ const HEAD: &[u8] =
 
 /// Payload `ab` of context 0.
 const CAPSULE: &[u8] = b"\0\x03\0ab";
+
+/// Payload `back` of context 0.
+const BACK: &[u8] = b"\0\x05\0back";
 
 /// 192.0.2.6.
 const FOUR: Addr = Addr::V4(0xc000_0206);
@@ -46,93 +50,169 @@ fn nothing<T: Drop>(alloc: Global) -> Seq<T>
     Seq::from_vec(Vec::new(alloc))
 }
 
-#[test]
-fn a_tunnel_carries_both_ways(rt: HostRuntime) -> Result<(), Fail> {
-    let setup = setup(rt.alloc())?;
-    let mut buffer = vec![in rt.alloc(); 0u8; 16_384]?;
-    let mut link = MemLink::new(
-        rt.alloc(),
-        nothing(rt.alloc()),
-        false,
-        None,
-        nothing(rt.alloc()),
-    )?;
-    link.piece(bytes(rt.alloc(), HEAD)?)?;
-    link.piece(bytes(rt.alloc(), CAPSULE)?)?;
-    let mut held = Held::new(rt.alloc(), 7, Conn::new(rt.alloc(), 7, 0)?, link);
-    let ports = MemPorts::new(rt.alloc(), None, nothing(rt.alloc()))?;
-    let mut table = PortTable::new(rt.alloc(), ports);
+/// A connection on a link in memory, and its ports, of which one is bound.
+#[derive(Drop)]
+struct Carried {
+    setup: Setup,
+    held: Held<MemLink>,
+    ports: PortTable<MemPorts>,
+    key: usize,
+}
+
+/// A link on which the request arrived, and the capsule behind it.
+fn link(alloc: Global) -> Result<MemLink, NoMemory> {
+    let mut link = MemLink::new(alloc, nothing(alloc), false, None, nothing(alloc))?;
+    link.piece(bytes(alloc, HEAD)?)?;
+    link.piece(bytes(alloc, CAPSULE)?)?;
+    Ok(link)
+}
+
+/// Ports of which one is bound, and its key.
+fn ports(alloc: Global) -> Result<(PortTable<MemPorts>, usize), Fail> {
+    let ports = MemPorts::new(alloc, None, nothing(alloc))?;
+    let mut table = PortTable::new(alloc, ports);
     table.reserve()?;
-    let Ok(key) = table.bind(&FOUR, 443) else {
-        return Err(Fail::from("a bind"));
-    };
-    let Went::Did(Note::Took { conn: 7, .. }) = held.read(&setup, buffer.as_mut_slice())? else {
-        return Err(Fail::from("the head"));
-    };
-    let Note::Ported { conn: 7, stream: 0 } = held.conn.bound(true)? else {
-        return Err(Fail::from("the port"));
-    };
-    let opened = Reply::Opened {
-        tunnel: 0,
-        routes: nothing(rt.alloc()),
-    };
-    let Note::Opened { tunnel: 0, .. } = held.conn.answer(opened)? else {
-        return Err(Fail::from("the opening"));
-    };
-    held.link.grant(Some(0));
-    let Went::Waits = held.write(rt.alloc())? else {
-        return Err(Fail::from("a link that takes nothing"));
-    };
-    held.link.grant(None);
-    let Went::Did(Note::Wrote { conn: 7, .. }) = held.write(rt.alloc())? else {
-        return Err(Fail::from("the answer"));
-    };
-    let Went::Did(Note::Took { conn: 7, count: 5 }) = held.read(&setup, buffer.as_mut_slice())?
-    else {
-        return Err(Fail::from("the capsule"));
-    };
-    let Some(
+    match table.bind(&FOUR, 443) {
+        Ok(key) => Ok((table, key)),
+        Err(_) => Err(Fail::from("a bind")),
+    }
+}
+
+fn carried(alloc: Global) -> Result<Carried, Fail> {
+    let setup = setup(alloc)?;
+    let (ports, key) = ports(alloc)?;
+    let conn = Conn::new(alloc, 7, 0)?;
+    let link = link(alloc)?;
+    Ok(Carried {
+        setup,
+        held: Held::new(alloc, 7, conn, link),
+        ports,
+        key,
+    })
+}
+
+/// What a note says, in a word.
+fn word(note: &Note) -> &'static str {
+    match note {
+        Note::Took { conn: 7, count: 5 } => "took a capsule",
+        Note::Took { conn: 7, .. } => "took",
+        Note::Ported { conn: 7, stream: 0 } => "ported",
+        Note::Opened { tunnel: 0, .. } => "opened",
+        Note::Wrote { conn: 7, bytes, .. } if bytes.as_slice() == BACK => "wrote a capsule",
+        Note::Wrote { conn: 7, .. } => "wrote",
         Note::Sent {
             from: From::Tunnel(0),
             n: 0,
             packet,
-        },
-    ) = held.send(key, &mut table)
-    else {
-        return Err(Fail::from("the payload"));
-    };
-    assert_eq!(rt; packet.as_slice(), b"ab".as_slice());
-    let Some(port) = table.table.get_mut(key) else {
-        return Err(Fail::from("the port in the table"));
-    };
-    port.arrive(bytes(rt.alloc(), b"back")?)?;
-    let mut datagrams = Datagrams::new(rt.alloc())?;
-    let seat = PortSeat {
-        tunnel: 0,
-        key,
-        received: 3,
-    };
-    let Went::Did(
+        } if packet.as_slice() == b"ab" => "sent",
         Note::Queued {
             from: From::Port(0),
             n: 3,
             to: 0,
-        },
-    ) = held.receive(rt.alloc(), seat, &mut datagrams, &mut table)?
-    else {
-        return Err(Fail::from("the datagram"));
+        } => "queued",
+        Note::Delivered { packet, .. } if packet.as_slice() == b"back" => "delivered",
+        _ => "another note",
+    }
+}
+
+/// How a try went, in a word.
+fn went(went: &Went) -> &'static str {
+    match went {
+        Went::Did(note) => word(note),
+        Went::Waits => "waits",
+        Went::Failed => "failed",
+    }
+}
+
+fn reads(alloc: Global, it: &mut Carried) -> Result<&'static str, NoMemory> {
+    let mut buffer = vec![in alloc; 0u8; 16_384]?;
+    Ok(went(&it.held.read(&it.setup, buffer.as_mut_slice())?))
+}
+
+fn writes(alloc: Global, it: &mut Carried) -> Result<&'static str, NoMemory> {
+    Ok(went(&it.held.write(alloc)?))
+}
+
+fn binds(it: &mut Carried) -> Result<&'static str, NoMemory> {
+    Ok(word(&it.held.conn.bound(true)?))
+}
+
+fn opens(alloc: Global, it: &mut Carried) -> Result<&'static str, NoMemory> {
+    let opened = Reply::Opened {
+        tunnel: 0,
+        routes: nothing(alloc),
     };
-    let Some(Note::Delivered { packet, .. }) = held.frame()? else {
-        return Err(Fail::from("its frame"));
+    Ok(word(&it.held.conn.answer(opened)?))
+}
+
+fn sends(it: &mut Carried) -> &'static str {
+    match it.held.send(it.key, &mut it.ports) {
+        Some(note) => word(&note),
+        None => "nothing",
+    }
+}
+
+/// A datagram comes to the port.
+fn arrives(alloc: Global, it: &mut Carried) -> Result<(), NoMemory> {
+    match it.ports.table.get_mut(it.key) {
+        Some(port) => port.arrive(bytes(alloc, b"back")?),
+        None => Ok(()),
+    }
+}
+
+fn receives(alloc: Global, it: &mut Carried) -> Result<&'static str, NoMemory> {
+    let mut datagrams = Datagrams::new(alloc)?;
+    let seat = PortSeat {
+        tunnel: 0,
+        key: it.key,
+        received: 3,
     };
-    assert_eq!(rt; packet.as_slice(), b"back".as_slice());
-    let Went::Did(Note::Wrote { bytes, .. }) = held.write(rt.alloc())? else {
-        return Err(Fail::from("its capsule"));
-    };
-    assert_eq!(rt; bytes.as_slice(), b"\0\x05\0back".as_slice());
-    let Went::Waits = held.receive(rt.alloc(), seat, &mut datagrams, &mut table)? else {
-        return Err(Fail::from("an empty port"));
-    };
-    assert!(rt; held.place_of(0).is_none());
+    let came = it.held.receive(alloc, seat, &mut datagrams, &mut it.ports)?;
+    Ok(went(&came))
+}
+
+fn frames(it: &mut Carried) -> Result<&'static str, NoMemory> {
+    Ok(match &it.held.frame()? {
+        Some(note) => word(note),
+        None => "nothing",
+    })
+}
+
+/// The request is answered: its port is bound, its tunnel opens, and what is owed waits for a link that takes nothing.
+fn is_answered(rt: &impl Abort, alloc: Global, it: &mut Carried) -> Result<(), Fail> {
+    assert!(rt; reads(alloc, it)? == "took");
+    assert!(rt; binds(it)? == "ported");
+    assert!(rt; opens(alloc, it)? == "opened");
+    it.held.link.grant(Some(0));
+    assert!(rt; writes(alloc, it)? == "waits");
+    it.held.link.grant(None);
+    assert!(rt; writes(alloc, it)? == "wrote");
+    Ok(())
+}
+
+/// The payload of the capsule goes to the port.
+fn carries_on(rt: &impl Abort, alloc: Global, it: &mut Carried) -> Result<(), Fail> {
+    assert!(rt; reads(alloc, it)? == "took a capsule");
+    assert!(rt; sends(it) == "sent");
+    Ok(())
+}
+
+/// A datagram of the port goes back as a capsule.
+fn carries_back(rt: &impl Abort, alloc: Global, it: &mut Carried) -> Result<(), Fail> {
+    arrives(alloc, it)?;
+    assert!(rt; receives(alloc, it)? == "queued");
+    assert!(rt; frames(it)? == "delivered");
+    assert!(rt; writes(alloc, it)? == "wrote a capsule");
+    assert!(rt; receives(alloc, it)? == "waits");
+    Ok(())
+}
+
+#[test]
+fn a_tunnel_carries_both_ways(rt: HostRuntime) -> Result<(), Fail> {
+    let mut it = carried(rt.alloc())?;
+    is_answered(&rt, rt.alloc(), &mut it)?;
+    carries_on(&rt, rt.alloc(), &mut it)?;
+    carries_back(&rt, rt.alloc(), &mut it)?;
+    assert!(rt; it.held.place_of(0).is_none());
     Ok(())
 }

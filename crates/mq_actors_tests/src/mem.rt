@@ -1,6 +1,6 @@
 //! Each object in memory, by the calls of its trait: what arrives is given, what is sent is taken, and what is to fail fails.
 
-ghost use Rattle.std.specs.Prelude.{◌≡◌, ◌<◌, [], IsTrue, IfOk};
+ghost use Rattle.std.specs.Prelude.{◌≡◌, ◌<◌, [], length, IsTrue, IfOk};
 ghost use Rattle.mq_talk.specs.Answers.{IsMine};
 
 use mq_addr::{Addr, Flow};
@@ -12,6 +12,7 @@ use mq_outside::{
 use mq_talk::{Call, Goal, Judged, Office, Origin, Reply, Verdict};
 use mq_wire::{Bytes, NoMemory, Seq};
 use std::alloc::Global;
+use std::process::Abort;
 use std::test::Fail;
 
 fn bytes(alloc: Global, text: &[u8]) -> Result<Bytes, NoMemory>
@@ -38,10 +39,12 @@ fn reads<L: Link>(link: &mut L) -> (LinkGot, [u8; 3]) {
     (got, into)
 }
 
-#[test]
-fn a_source_gives_its_bytes(rt: HostRuntime) -> Result<(), Fail> {
-    let contents = bytes(rt.alloc(), b"abcde")?;
-    let mut source = MemSource::new(contents, numbers(rt.alloc(), &[1])?)?.in_pieces(2);
+fn source_of(alloc: Global) -> Result<MemSource, NoMemory> {
+    let contents = bytes(alloc, b"abcde")?;
+    Ok(MemSource::new(contents, numbers(alloc, &[1])?)?.in_pieces(2))
+}
+
+fn gives(rt: &impl Abort, source: &mut MemSource) -> Result<(), Fail> {
     let mut into = [0; 3];
     let wanted = [
         Got::Bytes(2),
@@ -59,8 +62,12 @@ fn a_source_gives_its_bytes(rt: HostRuntime) -> Result<(), Fail> {
 }
 
 #[test]
-fn a_sink_takes_what_fits(rt: HostRuntime) -> Result<(), Fail> {
-    let mut sink = MemSink::new(rt.alloc(), 5, numbers(rt.alloc(), &[0])?)?;
+fn a_source_gives_its_bytes(rt: HostRuntime) -> Result<(), Fail> {
+    let mut source = source_of(rt.alloc())?;
+    gives(&rt, &mut source)
+}
+
+fn takes(rt: &impl Abort, sink: &mut MemSink) -> Result<(), Fail> {
     for &want in &[Put::Failed, Put::Took(3), Put::Took(2), Put::Failed] {
         assert_eq!(rt; sink.write(b"xyz"), want);
     }
@@ -69,58 +76,70 @@ fn a_sink_takes_what_fits(rt: HostRuntime) -> Result<(), Fail> {
 }
 
 #[test]
-fn a_link_gives_pieces_and_then_its_end(rt: HostRuntime) -> Result<(), Fail> {
-    let mut link = MemLink::new(
-        rt.alloc(),
-        nothing(rt.alloc()),
-        false,
-        None,
-        nothing(rt.alloc()),
-    )?;
-    assert_eq!(rt; reads(&mut link).0, LinkGot::NotNow);
+fn a_sink_takes_what_fits(rt: HostRuntime) -> Result<(), Fail> {
+    let mut sink = MemSink::new(rt.alloc(), 5, numbers(rt.alloc(), &[0])?)?;
+    takes(&rt, &mut sink)
+}
+
+/// A link that keeps at most so many bytes of what it takes, if that is said, and whose calls of these numbers fail.
+fn link_of(alloc: Global, room: Option<u32>, fails: &[u64]) -> Result<MemLink, NoMemory> {
+    let fails = numbers(alloc, fails)?;
+    MemLink::new(alloc, nothing(alloc), false, room, fails)
+}
+
+/// Two pieces arrive, and the next read is to fail.
+fn arrive(alloc: Global, link: &mut MemLink) -> Result<(), NoMemory> {
+    link.piece(bytes(alloc, b"abcd")?)?;
+    link.piece(bytes(alloc, b"e")?)?;
+    link.fail_read();
+    Ok(())
+}
+
+fn gives_pieces(rt: &impl Abort, alloc: Global, link: &mut MemLink) -> Result<(), Fail> {
+    assert!(rt; reads(link).0 == LinkGot::NotNow);
     assert!(rt; !link.would_read());
     assert!(rt; link.tells());
-    link.piece(bytes(rt.alloc(), b"abcd")?)?;
-    link.piece(bytes(rt.alloc(), b"e")?)?;
-    link.fail_read();
+    arrive(alloc, link)?;
     assert!(rt; link.would_read());
-    assert_eq!(rt; reads(&mut link).0, LinkGot::Failed);
-    assert_eq!(rt; reads(&mut link), (LinkGot::Bytes(3), *b"abc"));
-    assert_eq!(rt; reads(&mut link), (LinkGot::Bytes(1), *b"d\0\0"));
-    assert_eq!(rt; reads(&mut link), (LinkGot::Bytes(1), *b"e\0\0"));
+    assert!(rt; reads(link).0 == LinkGot::Failed);
+    assert!(rt; reads(link) == (LinkGot::Bytes(3), *b"abc"));
+    assert!(rt; reads(link) == (LinkGot::Bytes(1), *b"d\0\0"));
+    assert!(rt; reads(link) == (LinkGot::Bytes(1), *b"e\0\0"));
     link.finish();
-    assert_eq!(rt; reads(&mut link).0, LinkGot::End);
-    assert_eq!(rt; reads(&mut link).0, LinkGot::End);
+    assert!(rt; reads(link).0 == LinkGot::End);
+    assert!(rt; reads(link).0 == LinkGot::End);
+    Ok(())
+}
+
+#[test]
+fn a_link_gives_pieces_and_then_its_end(rt: HostRuntime) -> Result<(), Fail> {
+    let mut link = link_of(rt.alloc(), None, &[])?;
+    gives_pieces(&rt, rt.alloc(), &mut link)
+}
+
+fn takes_by_room(rt: &impl Abort, link: &mut MemLink) -> Result<(), Fail> {
+    link.grant(Some(2));
+    assert!(rt; link.write(b"xyz") == LinkPut::Took(2));
+    assert!(rt; !link.would_write());
+    assert!(rt; !link.tells());
+    assert!(rt; link.write(b"xyz") == LinkPut::NotNow);
+    link.grant(None);
+    link.fail_write();
+    assert!(rt; link.write(b"xyz") == LinkPut::Failed);
+    assert!(rt; link.write(b"xyz") == LinkPut::Took(3));
+    // Call number 4, and then the room is used up.
+    assert!(rt; link.write(b"z") == LinkPut::Failed);
+    assert!(rt; link.write(b"uv") == LinkPut::Took(1));
+    assert!(rt; link.write(b"uv") == LinkPut::Failed);
     Ok(())
 }
 
 #[test]
 fn a_link_takes_what_it_has_room_for(rt: HostRuntime) -> Result<(), Fail> {
-    let mut link = MemLink::new(
-        rt.alloc(),
-        nothing(rt.alloc()),
-        false,
-        Some(6),
-        numbers(rt.alloc(), &[4])?,
-    )?;
-    link.grant(Some(2));
-    assert_eq!(rt; link.write(b"xyz"), LinkPut::Took(2));
-    assert!(rt; !link.would_write());
-    assert!(rt; !link.tells());
-    assert_eq!(rt; link.write(b"xyz"), LinkPut::NotNow);
-    link.grant(None);
-    link.fail_write();
-    assert_eq!(rt; link.write(b"xyz"), LinkPut::Failed);
-    assert_eq!(rt; link.write(b"xyz"), LinkPut::Took(3));
-    // Call number 4, and then the room is used up.
-    assert_eq!(rt; link.write(b"z"), LinkPut::Failed);
-    assert_eq!(rt; link.write(b"uv"), LinkPut::Took(1));
-    assert_eq!(rt; link.write(b"uv"), LinkPut::Failed);
+    let mut link = link_of(rt.alloc(), Some(6), &[4])?;
+    takes_by_room(&rt, &mut link)?;
     let rest = link.close();
-    let Some(taken) = rest.taken() else {
-        return Err(Fail::from("it keeps what it took"));
-    };
-    assert_eq!(rt; taken, b"xyxyzu".as_slice());
+    assert!(rt; rest.taken() == Some(b"xyxyzu".as_slice()));
     Ok(())
 }
 
@@ -135,50 +154,94 @@ const DNS: Goal = Goal::Udp {
     port: 53,
 };
 
-#[test]
-fn a_port_gives_whole_datagrams(rt: HostRuntime) -> Result<(), Fail> {
-    let mut into = vec![in rt.alloc(); 0u8; 65_535]?;
-    let mut port = MemPort::new(nothing(rt.alloc()), Some(4), numbers(rt.alloc(), &[3])?)?;
+/// What a port gives next.
+fn receives(alloc: Global, port: &mut MemPort) -> Result<PortGot, NoMemory> {
+    let mut into = vec![in alloc; 0u8; 65_535]?;
+    Ok(port.recv(into.as_mut_slice()))
+}
+
+/// Two datagrams arrive, of which the second has no byte.
+fn come(alloc: Global, port: &mut MemPort) -> Result<(), NoMemory> {
+    port.arrive(bytes(alloc, b"one")?)?;
+    port.arrive(bytes(alloc, b"")?)
+}
+
+fn gives_datagrams(rt: &impl Abort, alloc: Global, port: &mut MemPort) -> Result<(), Fail> {
     assert!(rt; !port.would_recv());
     assert!(rt; !port.tells());
-    assert_eq!(rt; port.recv(into.as_mut_slice()), PortGot::NotNow);
-    port.arrive(bytes(rt.alloc(), b"one")?)?;
-    port.arrive(bytes(rt.alloc(), b"")?)?;
-    assert_eq!(rt; port.recv(into.as_mut_slice()), PortGot::Datagram(3));
-    assert_eq!(rt; port.recv(into.as_mut_slice()), PortGot::Datagram(0));
+    assert!(rt; receives(alloc, port)? == PortGot::NotNow);
+    come(alloc, port)?;
+    assert!(rt; receives(alloc, port)? == PortGot::Datagram(3));
+    assert!(rt; receives(alloc, port)? == PortGot::Datagram(0));
+    Ok(())
+}
+
+fn takes_datagrams(rt: &impl Abort, port: &mut MemPort) -> Result<(), Fail> {
     // Call number 3.
-    assert_eq!(rt; port.send(b"abc"), PortPut::Failed);
-    assert_eq!(rt; port.send(b"abc"), PortPut::Sent);
-    assert_eq!(rt; port.send(b"de"), PortPut::Failed);
+    assert!(rt; port.send(b"abc") == PortPut::Failed);
+    assert!(rt; port.send(b"abc") == PortPut::Sent);
+    assert!(rt; port.send(b"de") == PortPut::Failed);
     port.fail_next();
-    assert_eq!(rt; port.send(b"d"), PortPut::Failed);
-    assert_eq!(rt; port.send(b"d"), PortPut::Sent);
+    assert!(rt; port.send(b"d") == PortPut::Failed);
+    assert!(rt; port.send(b"d") == PortPut::Sent);
+    Ok(())
+}
+
+#[test]
+fn a_port_gives_whole_datagrams(rt: HostRuntime) -> Result<(), Fail> {
+    let mut port = MemPort::new(nothing(rt.alloc()), Some(4), numbers(rt.alloc(), &[3])?)?;
+    gives_datagrams(&rt, rt.alloc(), &mut port)?;
+    takes_datagrams(&rt, &mut port)
+}
+
+/// One port, whose second bind fails.
+fn one_port(alloc: Global) -> Result<MemPorts, NoMemory> {
+    let list = vec![in alloc; MemPort::new(nothing(alloc), None, nothing(alloc))?]?;
+    MemPorts::new(alloc, Some(Seq::from_vec(list)), numbers(alloc, &[1])?)
+}
+
+/// The most bytes that go to the port that is bound next, which is handed back. None where the bind fails.
+fn limit_of(ports: &mut MemPorts, addr: &Addr) -> Option<u32> {
+    let port = ports.bind(addr, 53).ok()?;
+    let limit = port.limit();
+    ports.retire(port);
+    Some(limit)
+}
+
+fn binds_in_order(rt: &impl Abort, ports: &mut MemPorts) -> Result<(), Fail> {
+    ports.fail_next();
+    assert!(rt; ports.unfail());
+    assert!(rt; limit_of(ports, &FOUR) == Some(65_507));
+    assert!(rt; limit_of(ports, &FOUR).is_none());
+    assert!(rt; limit_of(ports, &FOUR).is_none());
     Ok(())
 }
 
 #[test]
 fn ports_are_bound_in_order(rt: HostRuntime) -> Result<(), Fail> {
-    let list = vec![in rt.alloc(); MemPort::new(nothing(rt.alloc()), None, nothing(rt.alloc()))?]?;
-    let mut ports = MemPorts::new(
-        rt.alloc(),
-        Some(Seq::from_vec(list)),
-        numbers(rt.alloc(), &[1])?,
-    )?;
-    ports.fail_next();
-    assert!(rt; ports.unfail());
-    let Ok(port) = ports.bind(&FOUR, 53) else {
-        return Err(Fail::from("the first bind"));
-    };
-    assert_eq!(rt; port.limit(), 65_507);
-    ports.retire(port);
-    for _ in 0..2 {
-        assert!(rt; ports.bind(&FOUR, 53).is_err());
-    }
+    let mut ports = one_port(rt.alloc())?;
+    binds_in_order(&rt, &mut ports)
+}
+
+#[test]
+fn where_none_are_listed_a_bind_gives_an_empty_port(rt: HostRuntime) -> Result<(), Fail> {
     let mut ports = MemPorts::new(rt.alloc(), None, nothing(rt.alloc()))?;
-    let Ok(port) = ports.bind(&SIX, 53) else {
-        return Err(Fail::from("a bind of an empty port"));
-    };
-    assert_eq!(rt; port.limit(), 65_527);
+    assert!(rt; limit_of(&mut ports, &SIX) == Some(65_527));
+    Ok(())
+}
+
+fn gives_packets(
+    rt: &impl Abort,
+    alloc: Global,
+    net: &mut MemNet,
+    into: &mut [u8],
+) -> Result<(), Fail>
+    requires { length into.old ≡ 65535 }
+{
+    net.arrive(bytes(alloc, b"packet")?)?;
+    assert!(rt; net.recv(into) == PortGot::Datagram(6));
+    assert!(rt; net.recv(into) == PortGot::NotNow);
+    assert!(rt; net.send(b"packet") == PortPut::Sent);
     Ok(())
 }
 
@@ -186,11 +249,7 @@ fn ports_are_bound_in_order(rt: HostRuntime) -> Result<(), Fail> {
 fn a_network_gives_whole_packets(rt: HostRuntime) -> Result<(), Fail> {
     let mut into = vec![in rt.alloc(); 0u8; 65_535]?;
     let mut net = MemNet::new(nothing(rt.alloc()), None, nothing(rt.alloc()))?;
-    net.arrive(bytes(rt.alloc(), b"packet")?)?;
-    assert_eq!(rt; net.recv(into.as_mut_slice()), PortGot::Datagram(6));
-    assert_eq!(rt; net.recv(into.as_mut_slice()), PortGot::NotNow);
-    assert_eq!(rt; net.send(b"packet"), PortPut::Sent);
-    Ok(())
+    gives_packets(&rt, rt.alloc(), &mut net, into.as_mut_slice())
 }
 
 /// A configuration without blocks and routes, for two workers.
@@ -255,49 +314,75 @@ fn is_opened(reply: &Reply, number: u32) -> bool {
     matches!(reply, Reply::Opened { tunnel, .. } if *tunnel == number)
 }
 
-#[test]
-fn an_office_asks_its_book(rt: HostRuntime) -> Result<(), Fail> {
-    let mut office = office_of(rt.alloc(), 4)?;
-    assert!(rt; is_opened(&opens(&mut office, 0)?, 0));
-    office.turn_to(1);
-    assert!(rt; is_opened(&opens(&mut office, 1)?, 1));
-    // Two entries, a close of each, and no place for a third tunnel.
-    let reply = opens(&mut office, 1)?;
-    assert!(rt;
-        matches!(
-            reply,
-            Reply::HistoryFull {
-                entries: 2,
-                live: 2
-            }
-        )
-    );
-    assert_eq!(rt; office.book().count(), 2);
+/// Whether an actor's open is refused, since there are two entries and two tunnels are live.
+fn is_full(office: &mut PlainOffice, actor: u32) -> Result<bool, NoMemory>
+    requires workers { office.old.book.config.workers ≡ 2 }
+    requires served { (office.old.actor ≡ actor) × (actor < 2) }
+    ensures workers { office.new.book.config.workers ≡ 2 }
+    ensures served { office.new.actor ≡ actor }
+{
+    let reply = opens(office, actor)?;
+    Ok(matches!(
+        reply,
+        Reply::HistoryFull {
+            entries: 2,
+            live: 2
+        }
+    ))
+}
+
+/// What is judged of a packet from the network to an address that no tunnel has.
+fn judges(office: &mut PlainOffice) -> Judged
+    ensures workers { office.new.book.config.workers ≡ office.old.book.config.workers }
+    ensures served { office.new.actor ≡ office.old.actor }
+{
     let flow = Flow {
         source: FOUR,
         target: SIX,
         protocol: 17,
     };
-    let judged = office.judge(Origin::Net, &flow);
-    let want = Judged {
-        verdict: Verdict::NoRoute,
-        at: 2,
-    };
-    assert_eq!(rt; judged, want);
-    assert!(rt; !closes(&mut office, 1, 0)?);
-    assert_eq!(rt; office.book().count(), 2);
+    office.judge(Origin::Net, &flow)
+}
+
+fn asks(rt: &impl Abort, office: &mut PlainOffice) -> Result<(), Fail>
+    requires workers { office.old.book.config.workers ≡ 2 }
+    requires served { office.old.actor ≡ 0 }
+{
+    assert!(rt; is_opened(&opens(office, 0)?, 0));
+    office.turn_to(1);
+    assert!(rt; is_opened(&opens(office, 1)?, 1));
+    // Two entries, a close of each, and no place for a third tunnel.
+    assert!(rt; is_full(office, 1)?);
+    assert!(rt; office.book().count() == 2);
+    let judged = judges(office);
+    assert!(rt; judged.verdict == Verdict::NoRoute);
+    assert!(rt; judged.at == 2);
+    assert!(rt; !closes(office, 1, 0)?);
+    assert!(rt; office.book().count() == 2);
+    Ok(())
+}
+
+#[test]
+fn an_office_asks_its_book(rt: HostRuntime) -> Result<(), Fail> {
+    let mut office = office_of(rt.alloc(), 4)?;
+    asks(&rt, &mut office)
+}
+
+fn closes_its_own(rt: &impl Abort, office: &mut PlainOffice) -> Result<(), Fail>
+    requires { office.old.book.config.workers ≡ 2 }
+{
+    office.turn_to(1);
+    assert!(rt; is_opened(&opens(office, 1)?, 0));
+    assert!(rt; closes(office, 1, 0)?);
+    assert!(rt; office.book().count() == 2);
+    assert!(rt; !office.book().live(0));
     Ok(())
 }
 
 #[test]
 fn an_actor_closes_its_own_tunnel(rt: HostRuntime) -> Result<(), Fail> {
     let mut office = office_of(rt.alloc(), 4)?;
-    office.turn_to(1);
-    assert!(rt; is_opened(&opens(&mut office, 1)?, 0));
-    assert!(rt; closes(&mut office, 1, 0)?);
-    assert_eq!(rt; office.book().count(), 2);
-    assert!(rt; !office.book().live(0));
-    Ok(())
+    closes_its_own(&rt, &mut office)
 }
 
 /// Actor 0 opens a tunnel.
@@ -329,15 +414,22 @@ fn shuts(office: &mut RefusingOffice, tunnel: u32) -> Result<bool, NoMemory>
     Ok(matches!(reply, Reply::Closed))
 }
 
+fn refuses_one(rt: &impl Abort, office: &mut RefusingOffice) -> Result<(), Fail>
+    requires workers { office.old.office.book.config.workers ≡ 2 }
+    requires served { office.old.office.actor ≡ 0 }
+{
+    assert!(rt; is_opened(&tries(office)?, 0));
+    // A close isn't counted.
+    assert!(rt; shuts(office, 0)?);
+    assert!(rt; tries(office).is_err());
+    assert!(rt; office.book().count() == 2);
+    assert!(rt; is_opened(&tries(office)?, 2));
+    assert!(rt; office.made() == 3);
+    Ok(())
+}
+
 #[test]
 fn one_call_is_refused_memory(rt: HostRuntime) -> Result<(), Fail> {
     let mut office = RefusingOffice::new(office_of(rt.alloc(), 20)?, 1);
-    assert!(rt; is_opened(&tries(&mut office)?, 0));
-    // A close isn't counted.
-    assert!(rt; shuts(&mut office, 0)?);
-    assert!(rt; tries(&mut office).is_err());
-    assert_eq!(rt; office.book().count(), 2);
-    assert!(rt; is_opened(&tries(&mut office)?, 2));
-    assert_eq!(rt; office.made(), 3);
-    Ok(())
+    refuses_one(&rt, &mut office)
 }

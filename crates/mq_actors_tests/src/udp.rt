@@ -10,7 +10,8 @@ use mq_mem::{MemAcceptor, MemLink, MemOutside, MemSink, MemSource};
 use mq_target::{Host, Name, Target};
 use mq_udp::{Asked, Outcome, udp};
 use mq_wire::{Bytes, NoMemory, Seq};
-use std::alloc::Global;
+use std::alloc::{AllocError, Global};
+use std::process::Abort;
 use std::sync::Wait;
 use std::test::Fail;
 
@@ -148,24 +149,79 @@ fn asked(alloc: Global, case: &Case) -> Result<Asked, NoMemory>
     })
 }
 
-fn run_case(rt: &impl Wait, alloc: Global, case: &Case) -> Result<Seen, Fail> {
+fn source(alloc: Global, case: &Case) -> Result<MemSource, NoMemory> {
     let input = bytes(alloc, case.input)?;
-    let mut source = MemSource::new(input, fails(alloc, case.source_fails)?)?.in_pieces(3);
-    let mut sink = MemSink::new(alloc, 4096, fails(alloc, case.sink_fails)?)?;
-    let mut outside = outside(alloc, case)?;
+    let fails = fails(alloc, case.source_fails)?;
+    Ok(MemSource::new(input, fails)?.in_pieces(3))
+}
+
+fn sink(alloc: Global, case: &Case) -> Result<MemSink, NoMemory> {
+    MemSink::new(alloc, 4096, fails(alloc, case.sink_fails)?)
+}
+
+/// The client's input and output, and what it dials.
+#[derive(Drop)]
+struct Ways {
+    source: MemSource,
+    sink: MemSink,
+    outside: MemOutside,
+}
+
+fn ways(alloc: Global, case: &Case) -> Result<Ways, NoMemory> {
+    let source = source(alloc, case)?;
+    let sink = sink(alloc, case)?;
+    Ok(Ways {
+        source,
+        sink,
+        outside: outside(alloc, case)?,
+    })
+}
+
+fn talk(rt: &impl Wait, alloc: Global, case: &Case, ways: &mut Ways) -> Result<Outcome, NoMemory> {
     let asked = asked(alloc, case)?;
-    let outcome = udp(rt, alloc, asked, &mut source, &mut sink, &mut outside);
-    let mut took = Vec::new(alloc);
-    for back in outside.backs() {
-        took.clear();
-        took.extend_from_slice(back.link.taken().unwrap_or(b""))?;
+    let (source, sink, outside) = (&mut ways.source, &mut ways.sink, &mut ways.outside);
+    Ok(udp(rt, alloc, asked, source, sink, outside))
+}
+
+/// What the last link that was handed back took.
+fn taken(outside: &MemOutside) -> &[u8] {
+    match outside.backs().last() {
+        Some(back) => back.link.taken().unwrap_or(b""),
+        None => b"",
     }
+}
+
+fn seen(alloc: Global, ways: &Ways, outcome: Outcome) -> Result<Seen, AllocError> {
+    let printed = Vec::from_slice(alloc, ways.sink.taken())?;
     Ok(Seen {
         outcome,
-        printed: Vec::from_slice(alloc, sink.taken())?,
-        backs: outside.backs().len(),
-        took,
+        printed,
+        backs: ways.outside.backs().len(),
+        took: Vec::from_slice(alloc, taken(&ways.outside))?,
     })
+}
+
+fn run_case(rt: &impl Wait, alloc: Global, case: &Case) -> Result<Seen, Fail> {
+    let mut ways = ways(alloc, case)?;
+    let outcome = talk(rt, alloc, case, &mut ways)?;
+    Ok(seen(alloc, &ways, outcome)?)
+}
+
+/// How a case ends, what is printed, and what the proxy took, where it is said.
+fn ends(
+    rt: &impl Abort,
+    seen: &Seen,
+    outcome: Outcome,
+    printed: &[u8],
+    took: Option<&[u8]>,
+) -> Result<(), Fail> {
+    assert!(rt; seen.outcome == outcome);
+    assert!(rt; seen.printed.as_slice() == printed);
+    if let Some(took) = took {
+        assert!(rt; seen.took.as_slice() == took);
+        assert!(rt; seen.backs == 1);
+    }
+    Ok(())
 }
 
 #[test]
@@ -177,10 +233,13 @@ fn a_payload_goes_each_way(rt: HostRuntime) -> Result<(), Fail> {
         ..NOTHING
     };
     let seen = run_case(&rt, rt.alloc(), &case)?;
-    assert_eq!(rt; seen.outcome, Outcome::Done);
-    assert_eq!(rt; seen.printed.as_slice(), b"6f6b\n".as_slice());
-    assert_eq!(rt; seen.backs, 1);
-    assert_eq!(rt; seen.took.as_slice(), REQUEST_HI);
+    ends(&rt, &seen, Outcome::Done, b"6f6b\n", Some(REQUEST_HI))
+}
+
+/// It begins with the preface of HTTP/2 and ends with the capsule.
+fn is_of_http2(rt: &impl Abort, took: &[u8]) -> Result<(), Fail> {
+    assert!(rt; took.starts_with(b"PRI * HTTP/2.0\r\n\r\nSM\r\n\r\n"));
+    assert!(rt; took.ends_with(DATA_HI));
     Ok(())
 }
 
@@ -194,12 +253,8 @@ fn a_payload_goes_each_way_over_http2(rt: HostRuntime) -> Result<(), Fail> {
         ..NOTHING
     };
     let seen = run_case(&rt, rt.alloc(), &case)?;
-    assert_eq!(rt; seen.outcome, Outcome::Done);
-    assert_eq!(rt; seen.printed.as_slice(), b"6f6b\n".as_slice());
-    let took = seen.took.as_slice();
-    assert!(rt; took.starts_with(b"PRI * HTTP/2.0\r\n\r\nSM\r\n\r\n"));
-    assert!(rt; took.ends_with(DATA_HI));
-    Ok(())
+    ends(&rt, &seen, Outcome::Done, b"6f6b\n", None)?;
+    is_of_http2(&rt, seen.took.as_slice())
 }
 
 #[test]
@@ -221,8 +276,12 @@ fn a_talk_ends(rt: HostRuntime) -> Result<(), Fail> {
             ..NOTHING
         };
         let seen = run_case(&rt, rt.alloc(), &case)?;
-        assert_eq!(rt; seen.outcome, outcome);
-        assert_eq!(rt; seen.took.as_slice(), REQUEST);
+        let printed = if answer == OPENED_OK {
+            b"6f6b\n".as_slice()
+        } else {
+            b""
+        };
+        ends(&rt, &seen, outcome, printed, Some(REQUEST))?;
     }
     Ok(())
 }
@@ -237,9 +296,8 @@ fn a_bad_line_is_told_and_nothing_dialled(rt: HostRuntime) -> Result<(), Fail> {
             ..NOTHING
         };
         let seen = run_case(&rt, rt.alloc(), &case)?;
-        assert_eq!(rt; seen.outcome, Outcome::BadInput);
-        assert_eq!(rt; seen.printed.as_slice(), b"bad line 2\n".as_slice());
-        assert_eq!(rt; seen.backs, 0);
+        ends(&rt, &seen, Outcome::BadInput, b"bad line 2\n", None)?;
+        assert!(rt; seen.backs == 0);
     }
     Ok(())
 }
@@ -260,32 +318,31 @@ fn name(alloc: Global, text: &[u8]) -> Result<Name, Fail> {
     }
 }
 
+/// The request for a target, of the proxy on this address.
+fn stands(
+    rt: &impl Abort,
+    alloc: Global,
+    addr: Addr,
+    host: Host,
+    port: u16,
+    want: &str,
+) -> Result<(), Fail> {
+    let request = request(alloc, addr, host, port)?;
+    assert!(rt; request.as_str() == want);
+    Ok(())
+}
+
 #[test]
 fn a_target_stands_in_the_path(rt: HostRuntime) -> Result<(), Fail> {
-    let cases = [
-        (
-            Addr::V4(0x7f00_0001),
-            Host::Address(Addr::V4(0xc000_0206)),
-            443,
-            "/.well-known/masque/udp/192.0.2.6/443/ 127.0.0.1:8080",
-        ),
-        (
-            Addr::V6(1),
-            Host::Address(Addr::V6(0x2001_0db8_0000_0000_0000_0000_0000_0001)),
-            65_535,
-            "/.well-known/masque/udp/2001%3Adb8%3A%3A1/65535/ [::1]:8080",
-        ),
-        (
-            Addr::V4(1),
-            Host::Name(name(rt.alloc(), b"target.example-1.org")?),
-            1,
-            "/.well-known/masque/udp/target.example-1.org/1/ 0.0.0.1:8080",
-        ),
-    ];
-    for (addr, host, port, want) in cases {
-        assert_eq!(rt; request(rt.alloc(), addr, host, port)?.as_str(), want);
-    }
-    Ok(())
+    let four = Host::Address(Addr::V4(0xc000_0206));
+    let path = "/.well-known/masque/udp/192.0.2.6/443/ 127.0.0.1:8080";
+    stands(&rt, rt.alloc(), Addr::V4(0x7f00_0001), four, 443, path)?;
+    let six = Host::Address(Addr::V6(0x2001_0db8_0000_0000_0000_0000_0000_0001));
+    let path = "/.well-known/masque/udp/2001%3Adb8%3A%3A1/65535/ [::1]:8080";
+    stands(&rt, rt.alloc(), Addr::V6(1), six, 65_535, path)?;
+    let name = Host::Name(name(rt.alloc(), b"target.example-1.org")?);
+    let path = "/.well-known/masque/udp/target.example-1.org/1/ 0.0.0.1:8080";
+    stands(&rt, rt.alloc(), Addr::V4(1), name, 1, path)
 }
 
 /// A line with a payload of so many bytes, and one behind it.
@@ -311,8 +368,7 @@ fn a_payload_has_at_most_65527_bytes(rt: HostRuntime) -> Result<(), Fail> {
             ..NOTHING
         };
         let seen = run_case(&rt, rt.alloc(), &case)?;
-        assert_eq!(rt; seen.outcome, outcome);
-        assert_eq!(rt; seen.printed.as_slice(), printed);
+        ends(&rt, &seen, outcome, printed, None)?;
     }
     Ok(())
 }
@@ -339,8 +395,7 @@ fn lines_have_a_limit(rt: HostRuntime) -> Result<(), Fail> {
             ..NOTHING
         };
         let seen = run_case(&rt, rt.alloc(), &case)?;
-        assert_eq!(rt; seen.outcome, outcome);
-        assert_eq!(rt; seen.printed.as_slice(), printed);
+        ends(&rt, &seen, outcome, printed, None)?;
     }
     Ok(())
 }
@@ -393,8 +448,7 @@ fn faults_are_told(rt: HostRuntime) -> Result<(), Fail> {
     ];
     for &(case, outcome) in &cases {
         let seen = run_case(&rt, rt.alloc(), &case)?;
-        assert_eq!(rt; seen.outcome, outcome);
-        assert!(rt; seen.printed.is_empty());
+        ends(&rt, &seen, outcome, b"", None)?;
     }
     Ok(())
 }
