@@ -1,6 +1,6 @@
 -- What an answer does to what the core stands for.
 use Rattle.std.proofs.Common.{◌≡◌, ℕ, ◌==◌, Bool, true, false, cond, nat_lt, inl, inr, List, [], ◌∷◌, length, Option, Some, None, Result, Ok, Err, refl, sym, ap, ◌∙◌, subst, option_map}
-use Rattle.std.specs.Prelude.{IfOk, find}
+use Rattle.std.specs.Prelude.{IfOk, MatchOption, find}
 use Rattle.std.specs.Option.{is_some}
 use Rattle.mq_outside.specs.declared.PortPut.{PortPut}
 use Rattle.mq_outside.specs.declared.PortPut.TheVariants as put
@@ -27,9 +27,11 @@ use Rattle.mq_machine.specs.Want.{Answer, Said, Put}
 use Rattle.mq_machine.proofs.Lawful.Steps.{given_up_lawful}
 use Rattle.mq_conn.specs.Acts.{DoesAct, MayStep}
 use Rattle.mq_conn.specs.declared.conn.Conn.{Conn}
+use Rattle.mq_conn.specs.declared.conn.First.{First}
 use Rattle.mq_conn.specs.Conns.{CanPut, find_on, Does, GivesUp, IsConn, Leaves, PutsNote, Stands, Starves, tunnels_of}
 use Rattle.mq_machine.proofs.Lawful.Doing.{done_loose, done_lawful}
 use Rattle.mq_conn.proofs.Standing.{gone_left, number_is, popped, tunnels_are}
+use Rattle.mq_conn.proofs.Wanting.{none_first}
 
 -- ---- once it is ending nothing is due
 
@@ -157,3 +159,15 @@ can_put put.NotNow limit n payload x t false is h = absurd cc
 pub puts_note : (answer : PortPut) (limit id n : ℕ) (payload : List ℕ) (said : Note) (t : machine.Tunnel) → t.id ≡ id → PutsNote id n payload answer limit said
     → (x : machine.Conn) → is_some (stream_done x t (stream.Payload n payload) (Put answer limit)) ≡ true → stream_done x t (stream.Payload n payload) (Put answer limit) ≡ Some (said, x)
 puts_note answer limit id n payload said t same note x some = note (can_put answer limit n payload x t (nat_lt limit (length payload)) refl some) x t same
+
+-- ---- what is due first is taken
+
+-- no act stands in front
+pub takes_none : (front : Option First) (dues : List Due) → is_some front ≡ true → front ≡ None → dues ≡ []
+takes_none None dues some none = absurd cc
+takes_none (Some f) dues some none = absurd cc
+
+pub takes_due : (front : Option First) (dues rest : List Due) (r : Option Due) → is_some front ≡ false → MatchOption r ((dues ≡ []) × (rest ≡ [])) (λ d. dues ≡ d ∷ rest)
+    → MatchOption r (front ≡ None → dues ≡ []) (λ d. (front ≡ None) × (dues ≡ d ∷ rest))
+takes_due front dues rest None none h = λ e. h.0
+takes_due front dues rest (Some d) none h = (none_first front none, h)

@@ -39,10 +39,10 @@ use Rattle.mq_addr.specs.declared.kind.Kind.TheVariants as kind
 use Rattle.mq_talk.specs.declared.note.From.TheVariants as source
 use Rattle.mq_conn.proofs.Ready.{ready_first, ready_idle, ready_same}
 use Rattle.mq_conn.specs.Conns.{IsConn, Stands, IsRead, Leaves, Refuses, Past, state, behind, act_of, tunnel_is, tunnels_of}
-use Rattle.mq_conn.specs.Frames.{ComesInAt, Delivers, GoesOnAt, QueuesAt, comes_in, delivered, IsFirst, IsNext, IsPlaceOf, HasNone, PutFirst, PutsFirst, Takes, TookFirst, on_side, took_note, took_waiting}
+use Rattle.mq_conn.specs.Frames.{ComesInAt, Delivers, GoesOnAt, QueuesAt, comes_in, delivered, IsFirst, IsNext, IsPlaceOf, HasNone, PutFirst, PutsFirst, Takes, TookFirst, TookOf, on_side, took_note, took_waiting}
 use Rattle.mq_conn.specs.declared.queue.Queued.{Queued}
 use Rattle.mq_conn.specs.Queues.{a_packet, size_of, behind as behind_part}
-use Rattle.mq_conn.proofs.Places.{found, missing, waits_at, set_at, bytes_in, one_within, side, side_is, first_at, none_at, either_side, other_side}
+use Rattle.mq_conn.proofs.Places.{found, missing, waits_at, set_at, bytes_in, one_within, side, side_is, first_at, none_at, past_end, either_side, other_side}
 use Rattle.mq_conn.proofs.Serving.{Is, Settles, by_state, goes_on, has_front, is_conn, over_none, settles_so}
 use Rattle.mq_conn.proofs.Wanting.{want_due, follows_first, first_waits}
 
@@ -122,6 +122,9 @@ drops c d t from n packet is settles s stands = by_state c (λ (x : machine.Conn
 
 -- ---- to which tunnel it comes
 
+tunnel_same : (u t : Tunnel) → Some u ≡ Some t → u ≡ t
+tunnel_same u t is = cc
+
 pub found_at : (c : Conn) (id place : ℕ) (t : Tunnel) → IsPlaceOf c.tunnels.items id place t → (s : machine.Conn) → IsConn c s → tunnel_of s id ≡ Some (tunnel_is t)
 found_at c id place t at s stands = by_state c (λ (x : machine.Conn). tunnel_of x id ≡ Some (tunnel_is t)) (λ p h. found c.tunnels.items id place t at) s stands
 
@@ -162,6 +165,14 @@ delivers_in c d id place n t (source.Tunnel origin) packet said at inner comes s
 delivers_in c d id place n t source.Net packet said at inner comes s stands =
     let P : Option machine.Tunnel → Type 0 = λ o. (said ≡ (delivered s o source.Net n packet).0) × IsConn d (delivered s o source.Net n packet).1 in
     subst P (sym (found_at c id place t at s stands)) (comes t at s stands)
+
+-- no tunnel is at the place
+pub comes_never : (c : Conn) (id place n : ℕ) (from : From) (packet : List ℕ) (said : Note) → length c.tunnels.items ≤ place → ComesInAt c c place id from n packet said
+comes_never c id place n from packet said past t at s stands = absurd (past_end c.tunnels.items place t past at.at)
+
+-- the kind of the one that is there
+pub comes_kind : (c : Conn) (id place : ℕ) (u : Tunnel) (k : Kind) → slice_get c.tunnels.items place ≡ Some u → kind_of u.goal ≡ k → (t : Tunnel) → IsPlaceOf c.tunnels.items id place t → kind_of t.goal ≡ k
+comes_kind c id place u k there is t at = ap (λ (v : Tunnel). kind_of v.goal) (sym (tunnel_same u t (sym there ∙ at.at))) ∙ is
 
 -- by the kind of its tunnel
 pub comes_gone : (c : Conn) (id place n : ℕ) (from : From) (packet : List ℕ) → ((t : Tunnel) → IsPlaceOf c.tunnels.items id place t → kind_of t.goal ≡ kind.Udp) → ComesInAt c c place id from n packet (note.Dropped from n cause.Gone)
@@ -486,47 +497,56 @@ same_at old mid place t keeps at = ap (λ (c : Conn). slice_get c.tunnels.items 
 
 -- ---- of what waits first so much was framed
 
-pub takes_all : (old new : Conn) (place count : ℕ) (t u : Tunnel) (w : Waiting) (rest ws : List Waiting) (q : Queued) (framed : ℕ) (said : Note) → u ≡ t → u.waiting ≡ behind_part framed q ∷ ws → t.waiting ≡ w ∷ rest
-    → length w.capsule ≤ w.framed + count → new.tunnels.items ≡ slice_set old.tunnels.items place (record u { waiting = ws }) → new ≡ record old { tunnels = new.tunnels; next_tunnel = u.id + 1 }
-    → said ≡ whole_note (tunnel_is u) (behind_part framed q) (behind_part framed q).what → Takes old new place count t w rest said
-takes_all old new place count t u w rest ws q framed said same popped waiting all items keeps told =
-    let e : behind_part framed q ∷ ws ≡ w ∷ rest = sym popped ∙ ap (λ (v : Tunnel). v.waiting) same ∙ waiting in
-    let first : behind_part framed q ≡ w = (let k = e in cc) in
-    let others : ws ≡ rest = (let k = e in cc) in
-    let b : nat_le (length w.capsule) (w.framed + count) ≡ true = le_true (length w.capsule) (w.framed + count) all in
-    record {
-      said_is = told ∙ ap (λ (v : Tunnel). whole_note (tunnel_is v) (behind_part framed q) (behind_part framed q).what) same ∙ ap (λ (v : Waiting). whole_note (tunnel_is t) v v.what) first
-          ∙ ap (λ (v : Bool). took_note v t w count) (sym b);
-      items = items ∙ ap (λ (v : Tunnel). slice_set old.tunnels.items place (record v { waiting = ws })) same ∙ ap (λ (xs : List Waiting). slice_set old.tunnels.items place (record t { waiting = xs })) others
-          ∙ ap (λ (v : Bool). slice_set old.tunnels.items place (record t { waiting = took_waiting v w rest count })) (sym b);
-      keeps = keeps ∙ ap (λ (v : Tunnel). record old { tunnels = new.tunnels; next_tunnel = v.id + 1 }) same;
-    }
-  where
-    le_true : (a b : ℕ) → a ≤ b → nat_le a b ≡ true
-    le_true a b h = grind (arith, nat_tests)
+first_is : (old : List Waiting) (v w : Waiting) (vs ws : List Waiting) → old ≡ v ∷ vs → old ≡ w ∷ ws → v ≡ w
+first_is old v w vs ws is at = let k : v ∷ vs ≡ w ∷ ws = sym is ∙ at in cc
 
-pub takes_part : (old new : Conn) (place count : ℕ) (t u : Tunnel) (w : Waiting) (rest ws : List Waiting) → u ≡ t → t.waiting ≡ w ∷ rest → w.framed + count < length w.capsule
-    → ((w : Waiting) (rest : List Waiting) → u.waiting ≡ w ∷ rest → w.framed + count ≤ length w.capsule → ws ≡ record w { framed = w.framed + count } ∷ rest)
-    → new.tunnels.items ≡ slice_set old.tunnels.items place (record u { waiting = ws }) → new ≡ record old { tunnels = new.tunnels; next_tunnel = u.id + 1 } → Takes old new place count t w rest (note.Part u.id count)
-takes_part old new place count t u w rest ws same waiting some advanced items keeps =
-    let here : u.waiting ≡ w ∷ rest = ap (λ (v : Tunnel). v.waiting) same ∙ waiting in
-    let is = advanced w rest here (omega (arith, some)) in
-    let b : nat_le (length w.capsule) (w.framed + count) ≡ false = lt_false (length w.capsule) (w.framed + count) some in
-    record {
-      said_is = ap (λ (v : Tunnel). note.Part v.id count) same ∙ ap (λ (v : Bool). took_note v t w count) (sym b);
-      items = items ∙ ap (λ (v : Tunnel). slice_set old.tunnels.items place (record v { waiting = ws })) same ∙ ap (λ (xs : List Waiting). slice_set old.tunnels.items place (record t { waiting = xs })) is
-          ∙ ap (λ (v : Bool). slice_set old.tunnels.items place (record t { waiting = took_waiting v w rest count })) (sym b);
-      keeps = keeps ∙ ap (λ (v : Tunnel). record old { tunnels = new.tunnels; next_tunnel = v.id + 1 }) same;
-    }
-  where
-    lt_false : (a b : ℕ) → b < a → nat_le a b ≡ false
-    lt_false a b h = grind (arith, nat_tests)
+rest_is : (old : List Waiting) (v w : Waiting) (vs ws : List Waiting) → old ≡ v ∷ vs → old ≡ w ∷ ws → vs ≡ ws
+rest_is old v w vs ws is at = let k : v ∷ vs ≡ w ∷ ws = sym is ∙ at in cc
 
-pub took_none : (old new : Conn) (place count : ℕ) (r : Option Note) → r ≡ None
-    → ((t : Tunnel) (w : Waiting) (rest : List Waiting) → slice_get old.tunnels.items place ≡ Some t → t.waiting ≡ w ∷ rest → ⊥) → TookFirst old new place count r
-took_none old new place count r is never =
-    let P : Option Note → Type 0 = λ o. TookFirst old new place count o in
-    subst P (sym is) never
+pub took_all : (id count framed left : ℕ) (old ws : List Waiting) (w : Waiting) (rest : List Waiting) (q : Queued) (said : Note) → old ≡ w ∷ rest → left ≡ length w.capsule - w.framed → left ≤ count → old ≡ behind_part framed q ∷ ws
+    → ((t : machine.Tunnel) → t.id ≡ id → (framed : ℕ) → said ≡ whole_note t (behind_part framed q) (behind_part framed q).what) → TookOf old ws id count (Some said)
+took_all id count framed left old ws v others q said front left_is all popped told t w rest is waits =
+    let here : v ≡ w = first_is old v w others rest front waits in
+    let first : behind_part framed q ≡ w = first_is old (behind_part framed q) w ws rest popped waits in
+    let b : nat_le (length w.capsule) (w.framed + count) ≡ true = ap (λ (x : Waiting). nat_le (length x.capsule) (x.framed + count)) (sym here) ∙ le_true (length v.capsule) v.framed left count left_is all in (
+      told (tunnel_is t) is framed ∙ ap (λ (x : Waiting). whole_note (tunnel_is t) x x.what) first ∙ ap (λ (x : Bool). took_note x t w count) (sym b),
+      rest_is old (behind_part framed q) w ws rest popped waits ∙ ap (λ (x : Bool). took_waiting x w rest count) (sym b),
+    )
+  where
+    le_true : (a b left count : ℕ) → left ≡ a - b → left ≤ count → nat_le a (b + count) ≡ true
+    le_true a b left count is few = grind (arith, nat_tests)
+
+pub took_part : (id count left : ℕ) (old ws : List Waiting) (w : Waiting) (rest : List Waiting) → old ≡ w ∷ rest → left ≡ length w.capsule - w.framed → count < left
+    → ((w : Waiting) (rest : List Waiting) → old ≡ w ∷ rest → w.framed + count ≤ length w.capsule → ws ≡ record w { framed = w.framed + count } ∷ rest) → TookOf old ws id count (Some (note.Part id count))
+took_part id count left old ws v others front left_is some advanced t w rest is waits =
+    let here : v ≡ w = first_is old v w others rest front waits in
+    let b : nat_le (length w.capsule) (w.framed + count) ≡ false = ap (λ (x : Waiting). nat_le (length x.capsule) (x.framed + count)) (sym here) ∙ le_false (length v.capsule) v.framed left count left_is some in
+    let fits : w.framed + count ≤ length w.capsule = subst (λ (x : Waiting). x.framed + count ≤ length x.capsule) here (within (length v.capsule) v.framed left count left_is some) in (
+      ap (λ (n : ℕ). note.Part n count) (sym is) ∙ ap (λ (x : Bool). took_note x t w count) (sym b),
+      advanced w rest waits fits ∙ ap (λ (x : Bool). took_waiting x w rest count) (sym b),
+    )
+  where
+    le_false : (a b left count : ℕ) → left ≡ a - b → count < left → nat_le a (b + count) ≡ false
+    le_false a b left count is some = grind (arith, nat_tests)
+
+    within : (a b left count : ℕ) → left ≡ a - b → count < left → b + count ≤ a
+    within a b left count is some = omega arith
+
+-- so it is in its tunnel
+pub took_at : (old new : Conn) (place count : ℕ) (u : Tunnel) (ws : List Waiting) (r : Option Note) → slice_get old.tunnels.items place ≡ Some u → TookOf u.waiting ws u.id count r
+    → new.tunnels.items ≡ slice_set old.tunnels.items place (record u { waiting = ws }) → new ≡ record old { tunnels = new.tunnels; next_tunnel = u.id + 1 } → TookFirst old new place count r
+took_at old new place count u ws None at took items keeps = λ t w rest there waits.
+    (let e : [] ≡ w ∷ rest = sym took ∙ ap (λ (v : Tunnel). v.waiting) (tunnel_same u t (sym at ∙ there)) ∙ waits in
+    cc)
+took_at old new place count u ws (Some said) at took items keeps = λ t w rest there waits.
+    (let same = tunnel_same u t (sym at ∙ there) in
+    let b = nat_le (length w.capsule) (w.framed + count) in
+    let told = took u w rest refl (ap (λ (v : Tunnel). v.waiting) same ∙ waits) in
+    record {
+      said_is = told.0 ∙ ap (λ (v : Tunnel). took_note b v w count) same;
+      items = items ∙ ap (λ (xs : List Waiting). slice_set old.tunnels.items place (record u { waiting = xs })) told.1 ∙ ap (λ (v : Tunnel). slice_set old.tunnels.items place (record v { waiting = took_waiting b w rest count })) same;
+      keeps = keeps ∙ ap (λ (v : Tunnel). record old { tunnels = new.tunnels; next_tunnel = v.id + 1 }) same;
+    })
 
 pub off_its_side : (late : Bool) (from id : ℕ) (t : machine.Tunnel) → id ≡ t.id → beq (nat_le from id) late ≡ false → side late from t ≡ true → ⊥
 off_its_side true from id t is h on = by (nat_le from id) h (ap (λ (n : ℕ). nat_le from n) is ∙ on)

@@ -1,9 +1,12 @@
 -- What a connection wants.
-use Rattle.std.proofs.Common.{◌≡◌, ℕ, zero, suc, ◌+◌, ◌≤◌, ◌==◌, cond, Bool, true, false, not, ◌&&◌, ◌⊎◌, inl, inr, nat_le, List, [], ◌∷◌, length, drop, slice_get, Option, Some, None, Result, Ok, refl, sym, ap, ◌∙◌, subst, arith, ne_eqb, eqb-true}
+use Rattle.std.proofs.Common.{◌≡◌, ℕ, zero, suc, ◌+◌, ◌≤◌, ◌<◌, ◌==◌, cond, Bool, true, false, not, ◌&&◌, ◌⊎◌, inl, inr, nat_le, List, [], ◌∷◌, length, drop, slice_get, Option, Some, None, Result, Ok, Err, refl, sym, ap, ◌∙◌, subst, arith, ne_eqb, eqb-true}
 use Rattle.std.specs.Option.{is_some}
+use Rattle.std.specs.Result.{IsErr}
+use Rattle.std.proofs.lemmas.Bool.Decides.{nat_tests}
 use Rattle.std.proofs.lemmas.List.{length-drop, drop-drop}
 use Rattle.mq_front.specs.declared.front.Front.{Front}
 use Rattle.mq_front.specs.Fronts.{IsFront}
+use Rattle.mq_addr.specs.declared.entry.Asked.{Asked}
 use Rattle.mq_talk.specs.declared.book.Call.TheVariants as call
 use Rattle.mq_talk.specs.declared.goal.Goal.{Goal}
 use Rattle.mq_talk.specs.declared.note.End.{End}
@@ -17,14 +20,14 @@ use Rattle.mq_machine.specs.declared.act.Due.TheVariants as due
 use Rattle.mq_machine.specs.Lawful.{Follows, IsUdp, kind_on}
 use Rattle.mq_talk.specs.declared.place.Place.{Place}
 use Rattle.mq_wire.specs.declared.NoMemory.{NoMemory}
-use Rattle.mq_iptun.specs.Acts.{MayAct}
+use Rattle.mq_iptun.specs.Acts.{MayAct, MayAssign}
 use Rattle.mq_front.specs.Limits.{AllMayBeDue}
 use Rattle.mq_machine.proofs.Lawful.Lists.{kind_there, some_asked}
 use Rattle.mq_machine.specs.Settle.{gives_up}
 use Rattle.mq_machine.specs.State as machine
-use Rattle.mq_machine.specs.State.{Stream, owed}
+use Rattle.mq_machine.specs.State.{Stream, owed, values}
 use Rattle.mq_machine.specs.Steps.{can_go_on, can_read, is_ending, is_nothing, wrote}
-use Rattle.mq_machine.specs.Want.{Want, Nothing, Over, Ask, Bind, Say, act_want, due_want, ending_want, over_want, tunnel_want, want_by, want_of, may_wait}
+use Rattle.mq_machine.specs.Want.{Want, Nothing, Over, Ask, Bind, Say, act_want, due_want, ending_want, over_want, stream_want, tunnel_want, want_by, want_of, may_wait}
 use Rattle.mq_conn.specs.declared.conn.Conn.{Conn}
 use Rattle.mq_conn.specs.declared.conn.First.{First}
 use Rattle.mq_conn.specs.declared.conn.First.TheVariants as first
@@ -319,3 +322,31 @@ nothing_at (t ∷ ts) h = absurd cc
 pub said_of : (a : Act) (x : machine.Conn) → ((id : ℕ) × (status : ℕ) × (rule : ℕ) × (a ≡ act.Refuse id status rule)) ⊎ ((id : ℕ) × (code : ℕ) × (a ≡ act.Reset id code)) → act_want x a ≡ Say
 said_of a x (inl h) = ap (λ (b : Act). act_want x b) h.3
 said_of a x (inr h) = ap (λ (b : Act). act_want x b) h.2
+
+-- ---- what is asked of the book for addresses
+
+stream_is : (t : machine.Tunnel) (asked : List Asked) (b : Bool) → nat_le 16 (values t) ≡ b → stream_want t (stream.Assign asked) ≡ cond b (Ask (call.Close t.id)) (Ask (call.Assign t.id asked))
+stream_is t asked b is = ap (λ (x : Bool). cond x (Ask (call.Close t.id)) (Ask (call.Assign t.id asked))) is
+
+few_values : (n count : ℕ) → n ≡ count → n < 16 → nat_le 16 count ≡ false
+few_values n count is few = grind (arith, nat_tests)
+
+pub assign_closes : (pump : ℕ) (t : machine.Tunnel) (asked : List Asked) (n : ℕ) → n ≡ values t → 16 ≤ n → WantsOf pump (stream_want t (stream.Assign asked)) (Ok (core_want.Ask (call.Close t.id)))
+assign_closes pump t asked n is many =
+    let P : Want → Type 0 = λ m. WantsOf pump m (Ok (core_want.Ask (call.Close t.id))) in
+    subst P (sym (stream_is t asked true (many_values n (values t) is many))) (record { is = refl; pushes = tt; may = tt })
+  where
+    many_values : (n count : ℕ) → n ≡ count → 16 ≤ n → nat_le 16 count ≡ true
+    many_values n count is many = grind (arith, nat_tests)
+
+pub assign_asks : (pump : ℕ) (t : machine.Tunnel) (asked list : List Asked) (n : ℕ) → n ≡ values t → n < 16 → list ≡ asked → MayAssign asked → WantsOf pump (stream_want t (stream.Assign asked)) (Ok (core_want.Ask (call.Assign t.id list)))
+assign_asks pump t asked list n is few same may =
+    let P : Want → Type 0 = λ m. WantsOf pump m (Ok (core_want.Ask (call.Assign t.id list))) in
+    let Q : List Asked → Type 0 = λ xs. WantIs pump (core_want.Ask (call.Assign t.id xs)) (Ask (call.Assign t.id asked)) in
+    subst P (sym (stream_is t asked false (few_values n (values t) is few))) (subst Q (sym same) (record { is = refl; pushes = tt; may = may }))
+
+pub assign_refused : (pump : ℕ) (t : machine.Tunnel) (asked : List Asked) (n : ℕ) (r : Result CoreWant NoMemory) → n ≡ values t → n < 16 → IsErr r → WantsOf pump (stream_want t (stream.Assign asked)) r
+assign_refused pump t asked n (Ok w) is few err = absurd cc
+assign_refused pump t asked n (Err fault) is few err =
+    let P : Want → Type 0 = λ m. WantsOf pump m (Err fault) in
+    subst P (sym (stream_is t asked false (few_values n (values t) is few))) tt

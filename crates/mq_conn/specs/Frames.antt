@@ -1,5 +1,5 @@
 -- What calls promise on capsules that wait.
-use Rattle.std.specs.Prelude.{◌≡◌, ◌≢◌, ℕ, ◌+◌, ◌<◌, ◌≤◌, Bool, true, false, List, ◌∷◌, length, take, drop, filter, find, nat_le, nat_lt, slice_get, slice_set, Option, Some, None, Result, Ok, Err}
+use Rattle.std.specs.Prelude.{◌≡◌, ◌≢◌, ℕ, ◌+◌, ◌<◌, ◌≤◌, Bool, true, false, List, [], ◌∷◌, length, take, drop, filter, find, nat_le, nat_lt, slice_get, slice_set, Option, Some, None, Result, Ok, Err}
 use Rattle.mq_addr.specs.declared.kind.Kind.{Kind}
 use Rattle.mq_addr.specs.declared.kind.Kind.TheVariants as kind
 use Rattle.mq_talk.specs.declared.note.From.{From}
@@ -101,6 +101,12 @@ took_note false t w count = note.Part t.id count
 abbrev pub took_waiting : Bool → Waiting → List Waiting → ℕ → List Waiting
 took_waiting true w rest count = rest
 took_waiting false w rest count = record w { framed = w.framed + count } ∷ rest
+
+-- of what waits first in the tunnel of this number
+abbrev pub TookOf : List Waiting → List Waiting → ℕ → ℕ → Option Note → Type 0
+TookOf old new id count None = old ≡ []
+TookOf old new id count (Some said) = (t : Tunnel) (w : Waiting) (rest : List Waiting) → t.id ≡ id → old ≡ w ∷ rest
+    → (said ≡ took_note (nat_le (length w.capsule) (w.framed + count)) t w count) × (new ≡ took_waiting (nat_le (length w.capsule) (w.framed + count)) w rest count)
 
 pub record Takes (old new : Conn) (place count : ℕ) (t : Tunnel) (w : Waiting) (rest : List Waiting) (said : Note) : Type 0 where
   pub said_is : said ≡ took_note (nat_le (length w.capsule) (w.framed + count)) t w count

@@ -8,14 +8,14 @@ ghost use Rattle.mq_machine.specs.Steps as steps;
 ghost use Rattle.mq_machine.specs.Want.{want_of, may_wait};
 ghost use Rattle.mq_conn.specs.Conns.{IsConn, Leaves, Refuses, Starves, tunnel_is};
 ghost use Rattle.mq_talk.specs.declared.place.Cause.TheVariants as cause;
-ghost use Rattle.mq_conn.specs.Frames.{ComesInAt, Delivers, GoesOnAt, QueuesAt, IsNext, IsPlaceOf, HasNone, PutsFirst, TookFirst};
+ghost use Rattle.mq_conn.specs.Frames.{ComesInAt, Delivers, GoesOnAt, QueuesAt, IsNext, IsPlaceOf, HasNone, PutsFirst, TookFirst, TookOf};
 ghost use Rattle.mq_conn.specs.Queues.{size_of, what_of, behind as waits_behind};
 ghost use Rattle.mq_conn.specs.declared.conn.Tunnel.{Tunnel};
 
 use crate::capsule::{behind, capsule_size};
 use crate::conn::{Conn, First, Tunnel};
 use crate::hop::lowered;
-use crate::queue::{MOST_PACKETS, Queued};
+use crate::queue::{MOST_PACKETS, Queue, Queued};
 use mq_addr::Kind;
 use mq_front::kind_of;
 use mq_talk::{Cause, From, Note, Why};
@@ -74,6 +74,26 @@ fn whole(to: u32, last: Queued) -> Note
             tunnel: to,
             capsule,
         },
+    }
+}
+
+/// So many bytes of what waits first in the tunnel of this number were framed.
+fn took_of(waiting: &mut Queue, id: u32, count: usize) -> Option<Note>
+    ensures { TookOf waiting.old waiting.new id count result }
+{
+    let Some(left) = waiting.left() else {
+        return None;
+    };
+    if left > count {
+        waiting.advance(count);
+        return Some(Note::Part {
+            tunnel: id,
+            count: count as u32,
+        });
+    }
+    match waiting.pop() {
+        None => None,
+        Some(last) => Some(whole(id, last)),
     }
 }
 
@@ -204,10 +224,9 @@ impl Conn {
         let Some(tunnel) = self.tunnels.get(place) else {
             return false;
         };
-        let Some(first) = tunnel.waiting.first() else {
+        let Some(left) = tunnel.waiting.left() else {
             return false;
         };
-        let left = first.size().saturating_sub(tunnel.waiting.framed());
         match &self.front {
             None => false,
             Some(front) => front.room(tunnel.stream, left) > 0,
@@ -283,19 +302,11 @@ impl Conn {
     fn took(&mut self, place: usize, count: usize) -> Option<Note>
         ensures { TookFirst self.old self.new place count result }
     {
-        let tunnel = self.tunnels.get_mut(place)?;
-        let id = tunnel.id;
-        self.next_tunnel = next_number(id);
-        let size = tunnel.waiting.first()?.size();
-        if size.saturating_sub(tunnel.waiting.framed()) <= count {
-            let last = tunnel.waiting.pop()?;
-            return Some(whole(id, last));
-        }
-        tunnel.waiting.advance(count);
-        Some(Note::Part {
-            tunnel: id,
-            count: count as u32,
-        })
+        let Some(tunnel) = self.tunnels.get_mut(place) else {
+            return None;
+        };
+        self.next_tunnel = next_number(tunnel.id);
+        took_of(&mut tunnel.waiting, tunnel.id, count)
     }
 
     fn try_frame(&mut self) -> Result<Note, NoMemory>

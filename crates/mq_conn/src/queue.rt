@@ -1,5 +1,5 @@
 //! What waits in a tunnel until it is framed.
-ghost use Rattle.std.specs.Prelude.{◌≡◌, ℕ, ◌+◌, ◌<◌, ◌≤◌, ◌^◌, List, [], ◌∷◌, ◌++◌, length, filter, not, IfOk, OnOk, OnErr, MatchOption};
+ghost use Rattle.std.specs.Prelude.{◌≡◌, ℕ, ◌+◌, ◌-◌, ◌<◌, ◌≤◌, ◌^◌, List, [], ◌∷◌, ◌++◌, length, filter, not, IfOk, OnOk, OnErr, MatchOption};
 ghost use Rattle.mq_capsule.specs.Writing.{capsule_text, datagram};
 ghost use Rattle.mq_machine.specs.Done.{is_begun};
 ghost use Rattle.mq_machine.specs.State.{is_packet, Waiting};
@@ -136,6 +136,16 @@ impl Queue {
         ensures { MatchOption result (self.now ≡ []) (λ p. (framed : ℕ) × (rest : List Waiting) × (self.now ≡ behind framed p.now ∷ rest) × (length (capsule_of p.now) < 2 ^ 32)) }
     {
         self.items.front()
+    }
+
+    /// How many bytes of the first capsule are left to be framed.
+    pub fn left(&self) -> Option<usize>
+        ensures { MatchOption result (self.now ≡ []) (λ n. (w : Waiting) × (rest : List Waiting) × (self.now ≡ w ∷ rest) × (n ≡ length w.capsule - w.framed) × (n < 2 ^ 32)) }
+    {
+        let Some(first) = self.first() else {
+            return None;
+        };
+        Some(first.size().saturating_sub(self.framed()))
     }
 
     /// Takes what waits first.
