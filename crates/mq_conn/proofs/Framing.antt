@@ -42,7 +42,7 @@ use Rattle.mq_conn.specs.Conns.{IsConn, Stands, IsRead, Leaves, Refuses, Past, s
 use Rattle.mq_conn.specs.Frames.{ComesInAt, Delivers, GoesOnAt, QueuesAt, comes_in, delivered, IsFirst, IsNext, IsPlaceOf, HasNone, PutFirst, PutsFirst, Takes, TookFirst, TookOf, on_side, took_note, took_waiting}
 use Rattle.mq_conn.specs.declared.queue.Queued.{Queued}
 use Rattle.mq_conn.specs.Queues.{a_packet, size_of, behind as behind_part}
-use Rattle.mq_conn.proofs.Places.{found, missing, waits_at, set_at, bytes_in, one_within, side, side_is, first_at, none_at, past_end, either_side, other_side}
+use Rattle.mq_conn.proofs.Places.{found, missing, waits_at, set_at, bytes_in, one_within, side, side_is, first_at, none_at, either_side, other_side}
 use Rattle.mq_conn.proofs.Serving.{Is, Settles, by_state, goes_on, has_front, is_conn, over_none, settles_so}
 use Rattle.mq_conn.proofs.Wanting.{want_due, follows_first, first_waits}
 
@@ -122,9 +122,6 @@ drops c d t from n packet is settles s stands = by_state c (λ (x : machine.Conn
 
 -- ---- to which tunnel it comes
 
-tunnel_same : (u t : Tunnel) → Some u ≡ Some t → u ≡ t
-tunnel_same u t is = cc
-
 pub found_at : (c : Conn) (id place : ℕ) (t : Tunnel) → IsPlaceOf c.tunnels.items id place t → (s : machine.Conn) → IsConn c s → tunnel_of s id ≡ Some (tunnel_is t)
 found_at c id place t at s stands = by_state c (λ (x : machine.Conn). tunnel_of x id ≡ Some (tunnel_is t)) (λ p h. found c.tunnels.items id place t at) s stands
 
@@ -165,14 +162,6 @@ delivers_in c d id place n t (source.Tunnel origin) packet said at inner comes s
 delivers_in c d id place n t source.Net packet said at inner comes s stands =
     let P : Option machine.Tunnel → Type 0 = λ o. (said ≡ (delivered s o source.Net n packet).0) × IsConn d (delivered s o source.Net n packet).1 in
     subst P (sym (found_at c id place t at s stands)) (comes t at s stands)
-
--- no tunnel is at the place
-pub comes_never : (c : Conn) (id place n : ℕ) (from : From) (packet : List ℕ) (said : Note) → length c.tunnels.items ≤ place → ComesInAt c c place id from n packet said
-comes_never c id place n from packet said past t at s stands = absurd (past_end c.tunnels.items place t past at.at)
-
--- the kind of the one that is there
-pub comes_kind : (c : Conn) (id place : ℕ) (u : Tunnel) (k : Kind) → slice_get c.tunnels.items place ≡ Some u → kind_of u.goal ≡ k → (t : Tunnel) → IsPlaceOf c.tunnels.items id place t → kind_of t.goal ≡ k
-comes_kind c id place u k there is t at = ap (λ (v : Tunnel). kind_of v.goal) (sym (tunnel_same u t (sym there ∙ at.at))) ∙ is
 
 -- by the kind of its tunnel
 pub comes_gone : (c : Conn) (id place n : ℕ) (from : From) (packet : List ℕ) → ((t : Tunnel) → IsPlaceOf c.tunnels.items id place t → kind_of t.goal ≡ kind.Udp) → ComesInAt c c place id from n packet (note.Dropped from n cause.Gone)
@@ -531,6 +520,9 @@ took_part id count left old ws v others front left_is some advanced t w rest is 
 
     within : (a b left count : ℕ) → left ≡ a - b → count < left → b + count ≤ a
     within a b left count is some = omega arith
+
+tunnel_same : (u t : Tunnel) → Some u ≡ Some t → u ≡ t
+tunnel_same u t is = cc
 
 -- so it is in its tunnel
 pub took_at : (old new : Conn) (place count : ℕ) (u : Tunnel) (ws : List Waiting) (r : Option Note) → slice_get old.tunnels.items place ≡ Some u → TookOf u.waiting ws u.id count r

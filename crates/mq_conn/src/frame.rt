@@ -1,9 +1,9 @@
 //! What comes to a tunnel, and the capsules that it is framed in.
-ghost use Rattle.std.specs.Prelude.{◌≡◌, ℕ, ◌+◌, ◌<◌, ◌≤◌, ◌||◌, min, not, nat_le, nat_lt, ◌^◌, ◌-◌, List, length, filter, sum_by, slice_get, Some, None, IfOk, OnErr, MatchOption, true, is_ok, is_some};
+ghost use Rattle.std.specs.Prelude.{◌≡◌, ℕ, ◌+◌, ◌<◌, ◌≤◌, ◌||◌, min, not, nat_le, nat_lt, ◌^◌, ◌-◌, List, length, filter, sum_by, slice_get, Some, None, IfOk, OnErr, MatchBool, MatchOption, true, is_ok, is_some};
 ghost use Rattle.mq_capsule.specs.Writing.{capsule_text, datagram};
 ghost use Rattle.mq_machine.specs.Cores.{Frames};
 ghost use Rattle.mq_machine.specs.State as machine;
-ghost use Rattle.mq_machine.specs.State.{is_packet};
+ghost use Rattle.mq_machine.specs.State.{is_packet, kind_of};
 ghost use Rattle.mq_machine.specs.Steps as steps;
 ghost use Rattle.mq_machine.specs.Want.{want_of, may_wait};
 ghost use Rattle.mq_conn.specs.Conns.{IsConn, Leaves, Refuses, Starves, tunnel_is};
@@ -182,17 +182,27 @@ impl Conn {
         }
     }
 
+    /// Whether the tunnel at this place is one for IP packets.
+    fn is_for_ip(&self, place: usize) -> bool
+        ensures { (t : Tunnel) → slice_get self.now.tunnels.items place ≡ Some t → MatchBool result (kind_of t.goal ≡ Kind.Ip) (kind_of t.goal ≡ Kind.Udp) }
+    {
+        let Some(tunnel) = self.tunnels.get(place) else {
+            return false;
+        };
+        match kind_of(tunnel.goal) {
+            Kind::Udp => false,
+            Kind::Ip => true,
+        }
+    }
+
     /// A packet of an inbox comes to the tunnel at this place: it goes on there, where that is one for IP packets.
     fn come_in(&mut self, place: usize, tunnel: u32, from: From, n: u64, packet: Bytes) -> Note
         ensures { ComesInAt self.old self.new place tunnel from n packet result }
     {
-        let Some(at) = self.tunnels.get(place) else {
-            return gone(from, n);
-        };
-        match kind_of(at.goal) {
-            Kind::Udp => gone(from, n),
-            Kind::Ip => self.go_on(place, tunnel, from, n, packet),
+        if self.is_for_ip(place) {
+            return self.go_on(place, tunnel, from, n, packet);
         }
+        gone(from, n)
     }
 
     /// Whether a tunnel of this number is live. Takes no memory.
