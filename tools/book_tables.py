@@ -1,18 +1,18 @@
 #!/usr/bin/python3
-"""Writes the tables that the tests of mq_pool, mq_route and mq_book read (crates/NAME/src/table.rt).
+"""Writes the tables of mq_pool, mq_route and mq_book that mq_cores_tests reads (crates/mq_cores_tests/src/NAME/table.rt).
 
 Addresses and blocks are those of Python's `ipaddress`. Expected values come from models that are written here by the
 definitions alone. A free block is looked for among all blocks of the length where the space is small, and between the
 taken ones where it is large; on small spaces both are asked, and agree. A meet is blocks of `ipaddress`, collapsed, and
 on small spaces also a set of addresses. The book is a list of entries, and every answer is a filter over the whole list.
-Random rows come from a seed, so each run writes the same files. Run it, and then `rt fmt` in each of the three crates.
+Random rows come from a seed, so each run writes the same files. Run it, and then `rt fmt` in mq_cores_tests.
 It isn't part of the gate.
 """
 import ipaddress
 import pathlib
 import random
 
-CRATES = pathlib.Path(__file__).resolve().parent.parent / "crates"
+TESTS = pathlib.Path(__file__).resolve().parent.parent / "crates" / "mq_cores_tests" / "src"
 WIDTH = {4: 32, 6: 128}
 SMALL = 1 << 12
 
@@ -719,16 +719,16 @@ def wrapped(text):
     return "\n".join(lines + [start + text + '",\n'])
 
 
-def write(crate, title, tables):
+def write(name, title, tables):
     """A file of tables, each with its comment, its name and its rows, which are texts."""
     text = f"//! {title} (tools/book_tables.py).\n"
-    for comment, name, rows in tables:
-        text += "\n" + "".join(f"/// {line}\n" for line in comment) + f"pub const {name}: [&str; {len(rows)}] = [\n"
+    for comment, table, rows in tables:
+        text += "\n" + "".join(f"/// {line}\n" for line in comment) + f"pub const {table}: [&str; {len(rows)}] = [\n"
         text += "".join(wrapped(row) for row in rows) + "];\n"
-    path = CRATES / crate / "src" / "table.rt"
+    path = TESTS / name / "table.rt"
     path.write_text(text)
     assert all(len(line) <= 120 for line in text.split("\n")), max(text.split("\n"), key=len)
-    print(path.relative_to(CRATES.parent), *(f"{name} {len(rows)}" for _, name, rows in tables))
+    print(path.relative_to(TESTS), *(f"{table} {len(rows)}" for _, table, rows in tables))
 
 
 def joined(row):
@@ -739,13 +739,13 @@ def joined(row):
 def write_pool():
     rows = [" ".join(map(str, [*pool, "-", *taken, "-", block(version, 0, length), *([] if free is None else [free])]))
             for pool, taken, version, length, free in pool_rows()]
-    write("mq_pool", "Free blocks, as Python's `ipaddress` has them", [([
+    write("pool", "Free blocks, as Python's `ipaddress` has them", [([
         "The blocks of a pool; those that are taken; a length, as a block at the address zero; and the free block of that",
         "version and length that starts first, if there is one."], "ROWS", rows)])
 
 
 def write_route():
-    write("mq_route", "Routes, from models over Python's `ipaddress`", [
+    write("route", "Routes, from models over Python's `ipaddress`", [
         (["Ranges, an area and a protocol, of which a star is for all, and their meet."],
          "MEETS", [joined(row) for row in meet_rows()]),
         (["Ranges, an address, and the protocols that are allowed there."],
@@ -760,7 +760,7 @@ def write_book():
     blocks, ranges, full = (script(lines)[0] for lines in (BLOCK_LINES, RANGE_LINES, full_lines()))
     before, packets = judged_rows()
     calls = "Books, calls and packets, with what they are answered"
-    write("mq_book", "Configurations, calls and packets, from a model of the book over Python's `ipaddress`", [
+    write("book", "Configurations, calls and packets, from a model of the book over Python's `ipaddress`", [
         (["Whether a book may have a configuration: pool, reach, routes, and how many entries."],
          "CONFIGS", config_rows()),
         ([f"{calls}: blocks."], "BLOCKS", blocks),

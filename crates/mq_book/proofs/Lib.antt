@@ -1,4 +1,3 @@
-pub mod Allowed
 pub mod More
 pub mod Legal
 pub mod Onward

@@ -15,8 +15,3 @@ pub use laws::{
     owned_once, stays_full,
 };
 pub use mq_talk::Config;
-
-#[cfg(test)]
-mod table;
-#[cfg(test)]
-mod tests;

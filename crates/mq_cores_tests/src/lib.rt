@@ -2,7 +2,11 @@
 #![tactic(auto)]
 
 #[cfg(test)]
+mod book;
+#[cfg(test)]
 mod client;
+#[cfg(test)]
+mod common;
 #[cfg(test)]
 mod conn;
 #[cfg(test)]

@@ -1,44 +1,13 @@
 //! Route lists, by tables from models over Python's `ipaddress`.
 mod table;
 
+use crate::common::{area_of, cut, protocol_of, ranges_of};
 use crate::route::table::{ALLOWED, MEETS, ORDERS, OVERLAPS};
-use mq_addr::{Prefix, Range, parse_addr, parse_prefix};
+use mq_addr::parse_addr;
 use mq_route::{RouteList, is_ordered};
 use mq_wire::Seq;
 use std::alloc::Global;
 use std::test::Fail;
-
-/// A column of a row, and what is behind it.
-fn cut(row: &str) -> Result<(&str, &str), Fail> {
-    match row.split_once('|') {
-        Some(parts) => Ok(parts),
-        None => Err(Fail::new("a row has another column")),
-    }
-}
-
-/// The range of a word: the first address, the last and the protocol, with dashes between them.
-fn range_of(word: &str) -> Result<Range, Fail> {
-    let Some((first, rest)) = word.split_once('-') else {
-        return Err(Fail::new("a range has a last address"));
-    };
-    let Some((last, protocol)) = rest.split_once('-') else {
-        return Err(Fail::new("a range has a protocol"));
-    };
-    Ok(Range {
-        first: parse_addr(first.as_bytes())?,
-        last: parse_addr(last.as_bytes())?,
-        protocol: protocol.parse::<u8>()?,
-    })
-}
-
-/// The ranges of some words.
-fn ranges_of(alloc: Global, words: &str) -> Result<Vec<Range>, Fail> {
-    let mut list = Vec::new(alloc);
-    for word in words.split_whitespace() {
-        list.push(range_of(word)?)?;
-    }
-    Ok(list)
-}
 
 /// The route list of some words, which are in order.
 fn list_of(alloc: Global, words: &str) -> Result<RouteList, Fail> {
@@ -47,22 +16,6 @@ fn list_of(alloc: Global, words: &str) -> Result<RouteList, Fail> {
         return Err(Fail::new("the ranges of a list are in order"));
     }
     Ok(RouteList::new(Seq::from_vec(ranges)))
-}
-
-/// The area of a word. A star is for all addresses.
-fn area_of(word: &str) -> Result<Option<Prefix>, Fail> {
-    if word == "*" {
-        return Ok(None);
-    }
-    Ok(Some(parse_prefix(word.as_bytes())?))
-}
-
-/// The protocol of a word. A star is for all.
-fn protocol_of(word: &str) -> Result<Option<u8>, Fail> {
-    if word == "*" {
-        return Ok(None);
-    }
-    Ok(Some(word.parse::<u8>()?))
 }
 
 /// Whether some words have a protocol.

@@ -1,6 +1,6 @@
 use Rattle.std.proofs.Common.{below_more, arith, refl}
-use Rattle.mq_book.proofs.Allowed.{all_apart, none_before, one_before}
-use Rattle.mq_book.proofs.tests.config.are_apart.Goals as goal
+use Rattle.mq_cores_tests.proofs.Allowed.{all_apart, none_before, one_before}
+use Rattle.mq_cores_tests.proofs.book.config.are_apart.Goals as goal
 
 pub loop-place-preserved : goal.loop-place-preserved
 loop-place-preserved c =

@@ -1,13 +1,12 @@
 //! Rows of a table as calls of a book.
 ghost use Rattle.std.specs.Prelude.{◌≡◌, IfOk};
 
-use super::config::is_config;
-use super::may::may_call;
-use super::read::{
-    area_of, asked_of, blocks_of, cut, first_word, givens_of, protocol_of, range_of, ranges_of,
-};
-use crate::{Book, Config};
+use crate::book::config::is_config;
+use crate::book::may::may_call;
+use crate::book::read::{asked_of, blocks_of, first_word, givens_of};
+use crate::common::{area_of, cut, protocol_of, range_of, ranges_of};
 use mq_addr::{Addr, Flow};
+use mq_book::{Book, Config};
 use mq_talk::{Call, Goal, Origin, Place, Reply, Verdict};
 use mq_wire::Seq;
 use std::alloc::Global;
@@ -16,15 +15,36 @@ use std::test::Fail;
 /// The first of some rows whose answer isn't the wanted one.
 pub fn first_wrong<'a>(alloc: Global, rows: &[&'a str]) -> Result<Option<&'a str>, Fail> {
     let mut book = book_of(alloc, "|||0")?;
+    first_wrong_of(alloc, &mut book, rows)
+}
+
+/// The same, by a book that rows may replace by another.
+fn first_wrong_of<'a>(
+    alloc: Global,
+    book: &mut Book,
+    rows: &[&'a str],
+) -> Result<Option<&'a str>, Fail>
+    requires { book.old.config.workers ≡ 2 }
+{
     for row in rows {
-        let (verb, rest) = cut(row)?;
-        if verb == "new" {
-            book = book_of(alloc, rest)?;
-        } else if !is_right(alloc, &mut book, verb, rest)? {
+        if !takes(alloc, book, row)? {
             return Ok(Some(*row));
         }
     }
     Ok(None)
+}
+
+/// Whether a row is answered as it says. One of another book always is.
+fn takes(alloc: Global, book: &mut Book, row: &str) -> Result<bool, Fail>
+    requires { book.old.config.workers ≡ 2 }
+    ensures { book.new.config.workers ≡ 2 }
+{
+    let (verb, rest) = cut(row)?;
+    if verb == "new" {
+        *book = book_of(alloc, rest)?;
+        return Ok(true);
+    }
+    is_right(alloc, book, verb, rest)
 }
 
 /// A configuration for two workers: the blocks of pool and reach, the routes, and the places of the history.

@@ -1,11 +1,10 @@
 //! Which configurations a book may have.
 ghost use Rattle.std.specs.Prelude.{◌↔◌, ◌≤◌, IsTrue, IfOk, length};
-ghost use Rattle.std.specs.List.{All, AllPairs};
+ghost use Rattle.std.specs.List.{All, AllPairs, Any};
 ghost use Rattle.mq_addr.specs.Block.{Overlap};
 ghost use Rattle.mq_talk.specs.Config.{HasNoZero, IsConfig};
 
-use crate::setup::meets_any;
-use mq_addr::{Addr, Prefix, contains};
+use mq_addr::{Addr, Prefix, contains, overlaps};
 use mq_route::is_ordered;
 use mq_talk::Config;
 use mq_wire::NoMemory;
@@ -50,6 +49,13 @@ fn are_apart(blocks: &[Prefix]) -> bool
         }
     }
     true
+}
+
+/// Whether a block of a list has an address of another block.
+fn meets_any(blocks: &[Prefix], block: &Prefix) -> bool
+    ensures { IsTrue result ↔ Any (λ other. Overlap other block.now) blocks.now }
+{
+    blocks.iter().any(|other| overlaps(other, block))
 }
 
 /// Whether none of some blocks has the all-zero address.

@@ -4,8 +4,8 @@ ghost use Rattle.std.specs.List.{All};
 ghost use Rattle.mq_addr.specs.Block.{IsPrefix};
 ghost use Rattle.mq_talk.specs.Answers.{IsAsked, IsMine, MayCall};
 
-use crate::Book;
 use mq_addr::{Asked, Prefix, first_of, free_bits, full_length, number};
+use mq_book::Book;
 use mq_route::is_ordered;
 use mq_talk::Call;
 

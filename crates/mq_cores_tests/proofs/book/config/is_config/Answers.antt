@@ -2,8 +2,8 @@ use Rattle.std.proofs.Common.{◌∙◌, subst, sym}
 use Rattle.std.specs.List.{All}
 use Rattle.mq_talk.specs.Config.{HasNoZero}
 use Rattle.mq_addr.specs.Ranges.{IsOrdered}
-use Rattle.mq_book.proofs.Allowed.{apart_of, no_zero_of, config_is, joined}
-use Rattle.mq_book.proofs.tests.config.is_config.Goals as goal
+use Rattle.mq_cores_tests.proofs.Allowed.{apart_of, no_zero_of, config_is, joined}
+use Rattle.mq_cores_tests.proofs.book.config.is_config.Goals as goal
 
 pub returns-then-not-are_apart : goal.returns-then-not-are_apart
 returns-then-not-are_apart c =
