@@ -12,4 +12,6 @@ mod ports;
 #[cfg(test)]
 mod pump;
 #[cfg(test)]
+mod turn;
+#[cfg(test)]
 mod udp;

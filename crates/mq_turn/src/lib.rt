@@ -6,8 +6,6 @@ mod kept;
 mod pass;
 mod rule;
 mod steps;
-#[cfg(test)]
-mod tests;
 mod turn;
 mod view;
 
