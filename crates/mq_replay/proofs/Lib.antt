@@ -4,6 +4,7 @@ pub mod Spoken
 pub mod Onward
 pub mod Round
 pub mod Opening
+pub mod Planning
 pub mod Playing
 pub mod Cutting
 pub mod Reading
