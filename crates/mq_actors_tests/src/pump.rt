@@ -13,6 +13,7 @@ use mq_pump::Pump;
 use mq_talk::{Cause, Config, From, Mail, Note, Origin, Parcel, Place};
 use mq_wire::{Bytes, NoMemory, Seq};
 use std::alloc::Global;
+use std::process::Abort;
 use std::test::Fail;
 
 /// A UDP packet from 192.0.2.1 to 198.51.100.9.
@@ -103,18 +104,84 @@ fn put(alloc: Global, mail: &mut PlainMail) -> Result<(), NoMemory>
     Ok(())
 }
 
-/// The number and the cause of a packet of the network that is dropped.
-fn dropped(note: &Option<Note>) -> Option<(u64, Cause)> {
+/// What a step gave, in a word.
+fn word(note: &Option<Note>) -> &'static str {
     match note {
+        None => "nothing",
+        Some(
+            Note::Sent {
+                from: From::Tunnel(0),
+                n: 5,
+                packet,
+            },
+        ) if packet.as_slice() == PACKET => "sent",
+        Some(
+            Note::Dropped {
+                from: From::Tunnel(0),
+                n: 5,
+                cause: Cause::Port,
+            },
+        ) => "dropped at the network",
         Some(
             Note::Dropped {
                 from: From::Net,
-                n,
-                cause,
+                n: 0,
+                cause: Cause::BadHeader,
             },
-        ) => Some((*n, *cause)),
-        _ => None,
+        ) => "0 has a bad header",
+        Some(
+            Note::Dropped {
+                from: From::Net,
+                n: 1,
+                cause: Cause::TooLong,
+            },
+        ) => "1 is too long",
+        Some(
+            Note::Dropped {
+                from: From::Net,
+                n: 2,
+                cause: Cause::NoRoute,
+            },
+        ) => "2 has no route",
+        Some(_) => "another note",
     }
+}
+
+/// A step of the pump, which serves beside one worker.
+fn step(
+    pump: &mut Pump<MemNet>,
+    office: &mut PlainOffice,
+    mail: &mut PlainMail,
+) -> Result<&'static str, NoMemory>
+    requires stands { (s : machine.Pump) × IsPump pump.old s }
+    requires workers { (pump.old.workers ≡ 1) × (office.old.book.config.workers ≡ 1) }
+    requires sound { IsSound (seen_of office.old) }
+    requires mail { (length mail.old.boxes ≡ 2) × (mail.old.actor ≡ 1) }
+    ensures stands { (s : machine.Pump) × IsPump pump.new s }
+    ensures workers { (pump.new.workers ≡ 1) × (office.new.book.config.workers ≡ 1) }
+    ensures sound { IsSound (seen_of office.new) }
+    ensures mail { (length mail.new.boxes ≡ 2) × (mail.new.actor ≡ 1) }
+{
+    Ok(word(&pump.step(office, mail)?))
+}
+
+/// A parcel is sent, and the next one dropped where the network fails.
+fn sends(
+    rt: &impl Abort,
+    pump: &mut Pump<MemNet>,
+    office: &mut PlainOffice,
+    mail: &mut PlainMail,
+) -> Result<(), Fail>
+    requires stands { (s : machine.Pump) × IsPump pump.old s }
+    requires workers { (pump.old.workers ≡ 1) × (office.old.book.config.workers ≡ 1) }
+    requires sound { IsSound (seen_of office.old) }
+    requires mail { (length mail.old.boxes ≡ 2) × (mail.old.actor ≡ 1) }
+{
+    assert!(rt; step(pump, office, mail)? == "sent");
+    pump.net().fail_next();
+    assert!(rt; step(pump, office, mail)? == "dropped at the network");
+    assert!(rt; step(pump, office, mail)? == "nothing");
+    Ok(())
 }
 
 #[test]
@@ -124,23 +191,26 @@ fn a_parcel_goes_to_the_network(rt: HostRuntime) -> Result<(), Fail> {
     let mut mail = mail_of(rt.alloc())?;
     put(rt.alloc(), &mut mail)?;
     put(rt.alloc(), &mut mail)?;
-    let note = pump.step(&mut office, &mut mail)?;
-    assert!(rt;
-        matches!(&note, Some(Note::Sent { from: From::Tunnel(0), n: 5, packet }) if packet.as_slice() == PACKET)
-    );
-    pump.net().fail_next();
-    let note = pump.step(&mut office, &mut mail)?;
-    assert!(rt;
-        matches!(
-            &note,
-            Some(Note::Dropped {
-                from: From::Tunnel(0),
-                n: 5,
-                cause: Cause::Port
-            })
-        )
-    );
-    assert!(rt; pump.step(&mut office, &mut mail)?.is_none());
+    sends(&rt, &mut pump, &mut office, &mut mail)
+}
+
+/// The first receive fails, and each packet is dropped.
+fn drops(
+    rt: &impl Abort,
+    pump: &mut Pump<MemNet>,
+    office: &mut PlainOffice,
+    mail: &mut PlainMail,
+) -> Result<(), Fail>
+    requires stands { (s : machine.Pump) × IsPump pump.old s }
+    requires workers { (pump.old.workers ≡ 1) × (office.old.book.config.workers ≡ 1) }
+    requires sound { IsSound (seen_of office.old) }
+    requires mail { (length mail.old.boxes ≡ 2) × (mail.old.actor ≡ 1) }
+{
+    assert!(rt; step(pump, office, mail)? == "nothing");
+    assert!(rt; step(pump, office, mail)? == "0 has a bad header");
+    assert!(rt; step(pump, office, mail)? == "1 is too long");
+    assert!(rt; step(pump, office, mail)? == "2 has no route");
+    assert!(rt; step(pump, office, mail)? == "nothing");
     Ok(())
 }
 
@@ -150,15 +220,7 @@ fn a_packet_is_dropped_for_the_first_cause(rt: HostRuntime) -> Result<(), Fail> 
     let mut pump = pump_of(rt.alloc(), &packets, 21, &[0])?;
     let mut office = empty_office(rt.alloc())?;
     let mut mail = mail_of(rt.alloc())?;
-    // The first receive fails.
-    assert!(rt; pump.step(&mut office, &mut mail)?.is_none());
-    let note = pump.step(&mut office, &mut mail)?;
-    assert_eq!(rt; dropped(&note), Some((0, Cause::BadHeader)));
-    let note = pump.step(&mut office, &mut mail)?;
-    assert_eq!(rt; dropped(&note), Some((1, Cause::TooLong)));
-    let note = pump.step(&mut office, &mut mail)?;
-    assert_eq!(rt; dropped(&note), Some((2, Cause::NoRoute)));
-    assert!(rt; pump.step(&mut office, &mut mail)?.is_none());
+    drops(&rt, &mut pump, &mut office, &mut mail)?;
     let _ = pump.net_at();
     let _ = pump.close();
     Ok(())
