@@ -1,17 +1,14 @@
 //! A connection on a link and a port in memory.
 
-ghost use Rattle.std.specs.Prelude.{◌≡◌, [], IfOk};
-
+use crate::common::{bytes, nothing, setup};
 use mq_addr::Addr;
 use mq_conn::Conn;
 use mq_held::{Held, PortSeat, Went};
 use mq_machine::Setup;
 use mq_mem::{MemLink, MemPorts};
-use mq_policy::Policy;
 use mq_ports::{Datagrams, PortTable};
-use mq_talk::{From, Kind, Note, Reply};
-use mq_target::Template;
-use mq_wire::{Bytes, NoMemory, Seq};
+use mq_talk::{From, Note, Reply};
+use mq_wire::NoMemory;
 use std::alloc::Global;
 use std::process::Abort;
 use std::test::Fail;
@@ -27,28 +24,6 @@ const BACK: &[u8] = b"\0\x05\0back";
 
 /// 192.0.2.6.
 const FOUR: Addr = Addr::V4(0xc000_0206);
-
-fn setup(alloc: Global) -> Result<Setup, NoMemory> {
-    Ok(Setup {
-        udp: Template::well_known(alloc, Kind::Udp)?,
-        ip: Template::well_known(alloc, Kind::Ip)?,
-        policy: Policy::new(alloc),
-        mtu: 1500,
-        pump: 1,
-    })
-}
-
-fn bytes(alloc: Global, text: &[u8]) -> Result<Bytes, NoMemory>
-    ensures { IfOk result (λ b. b ≡ text.now) }
-{
-    Ok(Bytes::from_vec(Vec::from_slice(alloc, text)?))
-}
-
-fn nothing<T: Drop>(alloc: Global) -> Seq<T>
-    ensures { result ≡ [] }
-{
-    Seq::from_vec(Vec::new(alloc))
-}
 
 /// A connection on a link in memory, and its ports, of which one is bound.
 #[derive(Drop)]

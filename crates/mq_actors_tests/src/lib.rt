@@ -2,7 +2,11 @@
 #![tactic(auto)]
 
 #[cfg(test)]
+mod common;
+#[cfg(test)]
 mod held;
+#[cfg(test)]
+mod mail;
 #[cfg(test)]
 mod mem;
 #[cfg(test)]

@@ -3,6 +3,7 @@
 ghost use Rattle.std.specs.Prelude.{◌≡◌, ◌<◌, [], length, IsTrue, IfOk};
 ghost use Rattle.mq_talk.specs.Answers.{IsMine};
 
+use crate::common::{bytes, nothing};
 use mq_addr::{Addr, Flow};
 use mq_book::{Book, Config};
 use mq_mem::{MemLink, MemNet, MemPort, MemPorts, MemSink, MemSource, PlainOffice, RefusingOffice};
@@ -10,26 +11,13 @@ use mq_outside::{
     Got, Link, LinkGot, LinkPut, Net, Port, PortGot, PortPut, Ports, Put, Sink, Source,
 };
 use mq_talk::{Call, Goal, Judged, Office, Origin, Reply, Verdict};
-use mq_wire::{Bytes, NoMemory, Seq};
+use mq_wire::{NoMemory, Seq};
 use std::alloc::Global;
 use std::process::Abort;
 use std::test::Fail;
 
-fn bytes(alloc: Global, text: &[u8]) -> Result<Bytes, NoMemory>
-    ensures { IfOk result (λ b. b ≡ text.now) }
-{
-    let list = Vec::from_slice(alloc, text)?;
-    Ok(Bytes::from_vec(list))
-}
-
 fn numbers(alloc: Global, list: &[u64]) -> Result<Seq<u64>, NoMemory> {
     Ok(Seq::from_vec(Vec::from_slice(alloc, list)?))
-}
-
-fn nothing<T: Drop>(alloc: Global) -> Seq<T>
-    ensures { result ≡ [] }
-{
-    Seq::from_vec(Vec::new(alloc))
 }
 
 /// Reads of a link into three bytes.

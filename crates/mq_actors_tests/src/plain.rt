@@ -12,16 +12,13 @@ ghost use Rattle.mq_actor.specs.Steps.{sight};
 ghost use Rattle.mq_mail.specs.Posts.{new_key};
 ghost use Rattle.mq_plain.specs.Served.{Serves, words};
 
-use mq_addr::Kind;
+use crate::common::{first_of, nothing, setup};
 use mq_book::Config;
-use mq_machine::Setup;
 use mq_mail::{MailKey, Post, matrix};
 use mq_mem::{PlainMail, PlainOffice, RefusingOffice};
 use mq_plain::{Plain, PlainPorts, offer, piece};
-use mq_policy::Policy;
 use mq_talk::{End, Mail, Note};
-use mq_target::Template;
-use mq_wire::{Bytes, NoMemory, Seq};
+use mq_wire::{Bytes, NoMemory};
 use std::alloc::Global;
 use std::collections::VecDeque;
 use std::sync::Wait;
@@ -65,25 +62,6 @@ const SECOND_STARVED: [&str; 10] = [
     "no memory",
     "ended for want of memory",
 ];
-
-fn nothing<T: Drop>(alloc: Global) -> Seq<T>
-    ensures { result ≡ [] }
-{
-    Seq::from_vec(Vec::new(alloc))
-}
-
-/// What the only worker is set up with.
-fn setup(alloc: Global) -> Result<Setup, NoMemory>
-    ensures { IfOk result (λ s. s.pump ≡ 1) }
-{
-    Ok(Setup {
-        udp: Template::well_known(alloc, Kind::Udp)?,
-        ip: Template::well_known(alloc, Kind::Ip)?,
-        policy: Policy::new(alloc),
-        mtu: 1500,
-        pump: 1,
-    })
-}
 
 /// A link is offered to the worker, as the next, and the request arrives on it.
 fn ask(alloc: Global, worker: &mut Plain, number: u32) -> Result<(), NoMemory>
@@ -189,9 +167,7 @@ fn shared(alloc: Global) -> Result<(Post, MailKey), NoMemory>
 {
     let (post, keys) = matrix(alloc, 2, 256)?;
     let mut keys = VecDeque::from_vec(keys.into_vec());
-    let Some(key) = keys.pop_front() else {
-        unreachable!()
-    };
+    let key = first_of(&mut keys);
     Ok((post, key))
 }
 

@@ -1,17 +1,18 @@
 //! Steps of a pump over a network, an office and inboxes in memory. The packet is one that another program's checksum says is right.
 
-ghost use Rattle.std.specs.Prelude.{◌≡◌, ◌<◌, [], length, IfOk, IfSome};
+ghost use Rattle.std.specs.Prelude.{◌≡◌, ◌<◌, length, IfOk, IfSome};
 ghost use Rattle.mq_talk.specs.Mails.{IsParcel};
 ghost use Rattle.mq_talk.specs.Offices.{IsSound};
 ghost use Rattle.mq_mem.specs.Offices.{seen_of};
 ghost use Rattle.mq_machine.specs.State as machine;
 ghost use Rattle.mq_pump.specs.Holds.{IsPump};
 
+use crate::common::{bytes, nothing};
 use mq_iphdr::check;
 use mq_mem::{MemNet, PlainMail, PlainOffice};
 use mq_pump::Pump;
 use mq_talk::{Cause, Config, From, Mail, Note, Origin, Parcel, Place};
-use mq_wire::{Bytes, NoMemory, Seq};
+use mq_wire::{NoMemory, Seq};
 use std::alloc::Global;
 use std::process::Abort;
 use std::test::Fail;
@@ -23,19 +24,6 @@ const PACKET: &[u8] =
 /// The same with one byte more.
 const LONG: &[u8] =
     b"\x45\x00\x00\x16\x00\x00\x00\x00\x40\x11\x8e\x99\xc0\x00\x02\x01\xc6\x33\x64\x09\xaa\xaa";
-
-fn bytes(alloc: Global, text: &[u8]) -> Result<Bytes, NoMemory>
-    ensures { IfOk result (λ b. b ≡ text.now) }
-{
-    let list = Vec::from_slice(alloc, text)?;
-    Ok(Bytes::from_vec(list))
-}
-
-fn nothing<T: Drop>(alloc: Global) -> Seq<T>
-    ensures { result ≡ [] }
-{
-    Seq::from_vec(Vec::new(alloc))
-}
 
 /// The pump of a network from which these packets come, beside one worker.
 fn pump_of(alloc: Global, packets: &[&[u8]], mtu: u32, fails: &[u64]) -> Result<Pump<MemNet>, Fail>

@@ -1,10 +1,11 @@
 //! A client and a proxy in memory: what is printed, what the proxy takes, and how it ends.
 
-ghost use Rattle.std.specs.Prelude.{◌≡◌, ◌+◌, ◌≤◌, [], length, IfOk};
+ghost use Rattle.std.specs.Prelude.{◌+◌, ◌≤◌, length, IfOk};
 ghost use Rattle.mq_client.specs.Requests.{AreVisible, target_limit};
 ghost use Rattle.mq_mem.specs.Links.{AllFull};
 ghost use Rattle.mq_mem.specs.Outsides.{AreNew};
 
+use crate::common::{bytes, nothing};
 use mq_addr::Addr;
 use mq_mem::{MemAcceptor, MemLink, MemOutside, MemSink, MemSource};
 use mq_target::{Host, Name, Target};
@@ -71,13 +72,6 @@ struct Seen {
     took: Vec<u8>,
 }
 
-fn bytes(alloc: Global, text: &[u8]) -> Result<Bytes, NoMemory>
-    ensures { IfOk result (λ b. b ≡ text.now) }
-{
-    let list = Vec::from_slice(alloc, text)?;
-    Ok(Bytes::from_vec(list))
-}
-
 /// The number of the first call, where it fails.
 fn fails(alloc: Global, first: bool) -> Result<Seq<u64>, NoMemory> {
     let mut list = Vec::new(alloc);
@@ -85,12 +79,6 @@ fn fails(alloc: Global, first: bool) -> Result<Seq<u64>, NoMemory> {
         list.push(0)?;
     }
     Ok(Seq::from_vec(list))
-}
-
-fn nothing<T: Drop>(alloc: Global) -> Seq<T>
-    ensures { result ≡ [] }
-{
-    Seq::from_vec(Vec::new(alloc))
 }
 
 /// The pieces that arrive: one, or none where it is empty.

@@ -6,5 +6,4 @@ pub mod LaneMoves
 pub mod Mails
 pub mod MatrixMoves
 pub mod Numbering
-pub mod Packets
 pub mod Views

@@ -10,8 +10,6 @@ mod lane_rule;
 mod post;
 mod ruled;
 mod start;
-#[cfg(test)]
-mod tests;
 
 pub use key::MailKey;
 pub use lane::{Lane, LaneIn, LaneOut, Note, make_lane};

@@ -1,6 +1,6 @@
 use Rattle.std.proofs.Common.{◌≡◌}
 use Rattle.mq_talk.specs.Mails.{IsParcel}
-use Rattle.mq_mail.proofs.tests.many.round.Given as goal
+use Rattle.mq_actors_tests.proofs.mail.many.round.Given as goal
 
 abbrev pub invariant-loop : goal.invariant-loop
 invariant-loop g l = record {

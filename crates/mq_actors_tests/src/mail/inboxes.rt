@@ -4,21 +4,20 @@ ghost use Rattle.mq_talk.specs.Mails.{IsParcel};
 ghost use Rattle.mq_mail.specs.Posts.{KeyOf, new_key};
 ghost use Rattle.mq_mail.specs.Tallies.{AreKeysOf};
 
-use super::packets::{long, short};
-use crate::start::first_of;
-use crate::{MailKey, Post, Tally, matrix};
+use crate::common::first_of;
+use crate::mail::packets::{long, short};
+use mq_mail::{MailKey, Post, Tally, matrix};
 use mq_talk::{Mail, Origin, Parcel, Pushed};
-use mq_wire::Seq;
+use mq_wire::{NoMemory, Seq};
 use std::alloc::Global;
 use std::collections::VecDeque;
-use std::process::Abort;
 use std::sync::Wait;
-use std::test::*;
+use std::test::Fail;
 use std::thread;
 use std::thread::Threads;
 
 /// A post of two actors, and their keys.
-fn two(alloc: Global, capacity: u32) -> Result<(Post, MailKey, MailKey), Fail>
+fn two(alloc: Global, capacity: u32) -> Result<(Post, MailKey, MailKey), NoMemory>
     requires { 0 < capacity }
     ensures post { IfOk result (λ made. (length made.0.inboxes ≡ 2) × (made.0.capacity ≡ capacity)) }
     ensures first { IfOk result (λ made. made.1 ≡ new_key made.0.inboxes 0) }
@@ -38,17 +37,15 @@ fn close_two<R: Wait>(
     post: Post,
     first: MailKey,
     second: MailKey,
-) -> Result<Seq<Tally>, Fail>
+) -> Result<Seq<Tally>, NoMemory>
     requires size { length post.inboxes ≡ 2 }
     requires keys { AreKeysOf post.inboxes 0 (first ∷ second ∷ []) }
 {
-    let mut keys = Vec::with_capacity(alloc, 2)?;
-    keys.push(first)?;
-    keys.push(second)?;
+    let keys = vec![in alloc; first, second]?;
     Ok(post.close(rt, Seq::from_vec(keys)))
 }
 
-/// Pushes so many parcels to an inbox through a `Mail`, and counts those that are taken.
+/// Pushes so many parcels to an inbox through a `Mail`. The number behind the last that was taken.
 fn fill<R: Wait>(
     rt: &R,
     alloc: Global,
@@ -56,22 +53,25 @@ fn fill<R: Wait>(
     key: MailKey,
     to: u32,
     count: u64,
-) -> Result<(MailKey, u64), Fail>
+) -> (MailKey, u64)
     requires same { key.post ≡ post.now.inboxes }
     requires room { post.now.capacity ≡ 256 }
     requires own { key.actor < length key.post }
     requires to { to < length key.post }
-    ensures { IfOk result (λ done. (done.0.post ≡ key.post) × (done.0.actor ≡ key.actor)) }
+    ensures { (result.0.post ≡ key.post) × (result.0.actor ≡ key.actor) }
 {
     let mut mail = post.mail(rt, key);
     let mut taken = 0;
     for n in 0..count {
-        match mail.push(to, short(alloc, 0, n)?) {
+        let Ok(parcel) = short(alloc, 0, n) else {
+            break;
+        };
+        match mail.push(to, parcel) {
             Pushed::Taken => taken = n + 1,
             Pushed::Full(_) => {}
         }
     }
-    Ok((mail.back(), taken))
+    (mail.back(), taken)
 }
 
 /// Whose the parcel is, its number, and the bytes of its packet.
@@ -109,29 +109,47 @@ fn pop_parts<R: Wait>(rt: &R, post: &Post, key: &mut MailKey) -> Option<(u32, u6
     }
 }
 
-/// Pushes a parcel, and says whether it was taken.
-pub fn is_taken<R: Wait>(rt: &R, post: &Post, key: &mut MailKey, to: u32, parcel: Parcel) -> bool
+/// Pushes a parcel, and says whether it was taken. None where there was no memory for it.
+fn is_taken<R: Wait>(
+    rt: &R,
+    post: &Post,
+    key: &mut MailKey,
+    to: u32,
+    parcel: Result<Parcel, NoMemory>,
+) -> Option<bool>
     requires same { key.old.post ≡ post.now.inboxes }
     requires to { to < length key.old.post }
-    requires parcel { IsParcel parcel }
+    requires parcel { IfOk parcel (λ p. IsParcel p) }
     ensures { (key.new.post ≡ key.old.post) × (key.new.actor ≡ key.old.actor) }
 {
+    let Ok(parcel) = parcel else {
+        return None;
+    };
     match key.push(rt, post, to, parcel) {
-        Pushed::Taken => true,
-        Pushed::Full(_) => false,
+        Pushed::Taken => Some(true),
+        Pushed::Full(_) => Some(false),
     }
+}
+
+/// An inbox with room for 256 is handed as many, and then one more, and pops one. How many were taken each time, what was
+/// popped, and the tallies.
+fn fill_and_pop<R: Wait>(
+    rt: &R,
+    alloc: Global,
+) -> Result<([u64; 2], Option<(u32, u64, usize)>, Seq<Tally>), NoMemory> {
+    let (post, first, second) = two(alloc, 256)?;
+    let (first, taken) = fill(rt, alloc, &post, first, 1, 256);
+    let (first, more) = fill(rt, alloc, &post, first, 1, 1);
+    let (second, popped) = pop_by_mail(rt, &post, second);
+    let tallies = close_two(rt, alloc, post, first, second)?;
+    Ok(([taken, more], popped, tallies))
 }
 
 #[test]
 fn the_257th_parcel_comes_back(rt: HostRuntime) -> Result<(), Fail> {
-    let (post, first, second) = two(rt.alloc(), 256)?;
-    let (first, taken) = fill(&rt, rt.alloc(), &post, first, 1, 256)?;
-    assert_eq!(rt; taken, 256);
-    let (first, taken) = fill(&rt, rt.alloc(), &post, first, 1, 1)?;
-    assert_eq!(rt; taken, 0);
-    let (second, popped) = pop_by_mail(&rt, &post, second);
-    assert_eq!(rt; popped, Some((0, 0, 40)));
-    let tallies = close_two(&rt, rt.alloc(), post, first, second)?;
+    let (taken, popped, tallies) = fill_and_pop(&rt, rt.alloc())?;
+    assert!(rt; taken == [256, 0]);
+    assert!(rt; popped == Some((0, 0, 40)));
     let none = Tally {
         pushed: 0,
         popped: 0,
@@ -142,23 +160,45 @@ fn the_257th_parcel_comes_back(rt: HostRuntime) -> Result<(), Fail> {
         popped: 1,
         left: 255,
     };
-    assert_eq!(rt; tallies.as_slice(), [none, some].as_slice());
+    assert!(rt; tallies.as_slice() == [none, some].as_slice());
     Ok(())
+}
+
+/// Two actors push to an inbox with room for two until it is full for both, and again after a pop. Which parcels were
+/// taken, what was popped, and the tallies.
+fn fill_from_both<R: Wait>(
+    rt: &R,
+    alloc: Global,
+) -> Result<
+    (
+        [Option<bool>; 5],
+        [Option<(u32, u64, usize)>; 3],
+        Seq<Tally>,
+    ),
+    NoMemory,
+> {
+    let (post, mut first, mut second) = two(alloc, 2)?;
+    let one = is_taken(rt, &post, &mut first, 1, short(alloc, 0, 0));
+    let two = is_taken(rt, &post, &mut second, 1, long(alloc, 1, 0));
+    let three = is_taken(rt, &post, &mut first, 1, short(alloc, 0, 1));
+    let four = is_taken(rt, &post, &mut second, 1, short(alloc, 1, 1));
+    let popped = pop_parts(rt, &post, &mut second);
+    let five = is_taken(rt, &post, &mut first, 1, short(alloc, 0, 2));
+    let behind = pop_parts(rt, &post, &mut second);
+    let other = pop_parts(rt, &post, &mut first);
+    let tallies = close_two(rt, alloc, post, first, second)?;
+    Ok((
+        [one, two, three, four, five],
+        [popped, behind, other],
+        tallies,
+    ))
 }
 
 #[test]
 fn an_inbox_is_full_for_both_sides(rt: HostRuntime) -> Result<(), Fail> {
-    let alloc = rt.alloc();
-    let (post, mut first, mut second) = two(alloc, 2)?;
-    assert!(rt; is_taken(&rt, &post, &mut first, 1, short(alloc, 0, 0)?));
-    assert!(rt; is_taken(&rt, &post, &mut second, 1, long(alloc, 1, 0)?));
-    assert!(rt; !is_taken(&rt, &post, &mut first, 1, short(alloc, 0, 1)?));
-    assert!(rt; !is_taken(&rt, &post, &mut second, 1, short(alloc, 1, 1)?));
-    assert_eq!(rt; pop_parts(&rt, &post, &mut second), Some((0, 0, 40)));
-    assert!(rt; is_taken(&rt, &post, &mut first, 1, short(alloc, 0, 2)?));
-    assert_eq!(rt; pop_parts(&rt, &post, &mut second), Some((1, 0, 65_535)));
-    assert_eq!(rt; pop_parts(&rt, &post, &mut first), None);
-    let tallies = close_two(&rt, alloc, post, first, second)?;
+    let (taken, popped, tallies) = fill_from_both(&rt, rt.alloc())?;
+    assert!(rt; taken == [Some(true), Some(true), Some(false), Some(false), Some(true)]);
+    assert!(rt; popped == [Some((0, 0, 40)), Some((1, 0, 65_535)), None]);
     let none = Tally {
         pushed: 0,
         popped: 0,
@@ -169,12 +209,12 @@ fn an_inbox_is_full_for_both_sides(rt: HostRuntime) -> Result<(), Fail> {
         popped: 2,
         left: 1,
     };
-    assert_eq!(rt; tallies.as_slice(), [none, some].as_slice());
+    assert!(rt; tallies.as_slice() == [none, some].as_slice());
     Ok(())
 }
 
 /// A post of three actors, and their keys.
-fn three(alloc: Global, capacity: u32) -> Result<(Post, MailKey, MailKey, MailKey), Fail>
+fn three(alloc: Global, capacity: u32) -> Result<(Post, MailKey, MailKey, MailKey), NoMemory>
     requires { 0 < capacity }
     ensures post { IfOk result (λ made. length made.0.inboxes ≡ 3) }
     ensures first { IfOk result (λ made. made.1 ≡ new_key made.0.inboxes 0) }
@@ -197,14 +237,11 @@ fn close_three<R: Wait>(
     first: MailKey,
     second: MailKey,
     third: MailKey,
-) -> Result<Seq<Tally>, Fail>
+) -> Result<Seq<Tally>, NoMemory>
     requires size { length post.inboxes ≡ 3 }
     requires keys { AreKeysOf post.inboxes 0 (first ∷ second ∷ third ∷ []) }
 {
-    let mut keys = Vec::with_capacity(alloc, 3)?;
-    keys.push(first)?;
-    keys.push(second)?;
-    keys.push(third)?;
+    let keys = vec![in alloc; first, second, third]?;
     Ok(post.close(rt, Seq::from_vec(keys)))
 }
 
@@ -225,12 +262,13 @@ fn push_until<R: Wait>(rt: &R, post: &Post, key: &mut MailKey, to: u32, mut parc
     unreachable!()
 }
 
-/// Pushes so many parcels, and says how many.
+/// Pushes so many parcels of an actor, and says how many.
 pub fn push_all<R: Wait>(
     rt: &R,
     alloc: Global,
     post: &Post,
     mut key: MailKey,
+    actor: u32,
     to: u32,
     count: u64,
 ) -> (MailKey, u64)
@@ -239,7 +277,7 @@ pub fn push_all<R: Wait>(
     ensures { (result.0.post ≡ key.post) × (result.0.actor ≡ key.actor) }
 {
     for n in 0..count {
-        let Ok(parcel) = short(alloc, key.actor, n) else {
+        let Ok(parcel) = short(alloc, actor, n) else {
             return (key, n);
         };
         push_until(rt, post, &mut key, to, parcel);
@@ -301,7 +339,7 @@ fn push_and_pop<R: Threads + Wait + Sync>(
         move || -> (MailKey, u64)
             requires { (second.post ≡ post.now.inboxes) × (length post.now.inboxes ≡ 3) }
             ensures { (result.0.post ≡ second.post) × (result.0.actor ≡ second.actor) }
-        { push_all(rt, alloc, post, second, 2, 1_000) },
+        { push_all(rt, alloc, post, second, 1, 2, 1_000) },
         move || -> (MailKey, bool)
             requires { third.post ≡ post.now.inboxes }
             ensures { (result.0.post ≡ third.post) × (result.0.actor ≡ third.actor) }
@@ -309,13 +347,13 @@ fn push_and_pop<R: Threads + Wait + Sync>(
     )
 }
 
-/// Two threads push a thousand parcels each, and one pops all but so many.
-fn deliver<R: Threads + Wait + Abort + Sync>(
+/// Two threads push a thousand parcels each, and one pops all but so many. Whether all was in order and is in the tallies.
+fn is_delivered<R: Threads + Wait + Sync>(
     rt: &R,
     alloc: Global,
     capacity: u32,
     left: u64,
-) -> Result<(), Fail>
+) -> Result<bool, NoMemory>
     requires capacity { 0 < capacity }
     requires left { left < 2000 }
 {
@@ -327,7 +365,7 @@ fn deliver<R: Threads + Wait + Abort + Sync>(
         move || -> (MailKey, u64)
             requires { (first.post ≡ shared.now.inboxes) × (length shared.now.inboxes ≡ 3) }
             ensures { (result.0.post ≡ first.post) × (result.0.actor ≡ first.actor) }
-        { push_all(rt, alloc, shared, first, 2, 1_000) },
+        { push_all(rt, alloc, shared, first, 0, 2, 1_000) },
         move || -> ((MailKey, u64), (MailKey, bool))
             requires size { length shared.now.inboxes ≡ 3 }
             requires second { second.post ≡ shared.now.inboxes }
@@ -336,7 +374,6 @@ fn deliver<R: Threads + Wait + Abort + Sync>(
             ensures third { (result.1.0.post ≡ third.post) × (result.1.0.actor ≡ third.actor) }
         { push_and_pop(rt, alloc, shared, second, third, pops) },
     );
-    assert_eq!(rt; (from_first, from_second, in_order), (1_000, 1_000, true));
     let tallies = close_three(rt, alloc, post, first, second, third)?;
     let none = Tally {
         pushed: 0,
@@ -348,15 +385,22 @@ fn deliver<R: Threads + Wait + Abort + Sync>(
         popped: pops,
         left,
     };
-    assert_eq!(rt; tallies.as_slice(), [none, none, some].as_slice());
-    Ok(())
+    Ok(
+        from_first == 1_000
+            && from_second == 1_000
+            && in_order
+            && tallies.as_slice() == [none, none, some].as_slice(),
+    )
 }
 
 #[test]
 fn two_threads_push_and_one_pops(rt: HostRuntime) -> Result<(), Fail> {
     for &(capacity, left) in &[(1, 0), (1, 1), (2, 0), (16, 10), (256, 256), (2_000, 7)] {
         for _ in 0..50 {
-            deliver(&rt, rt.alloc(), capacity, left)?;
+            assert!(rt;
+                is_delivered(&rt, rt.alloc(), capacity, left)?,
+                "{capacity}"
+            );
         }
     }
     Ok(())

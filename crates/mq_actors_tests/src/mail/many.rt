@@ -3,18 +3,17 @@ ghost use Rattle.std.specs.Prelude.{◌≡◌, ◌<◌, All, length};
 ghost use Rattle.mq_talk.specs.Mails.{IsParcel};
 ghost use Rattle.mq_mail.specs.Posts.{KeyOf};
 
-use super::across;
-use super::inboxes::{pop_all, push_all};
-use super::packets::{long, short};
-use crate::start::first_of;
-use crate::{MailKey, Post, make_lane, matrix};
+use crate::common::first_of;
+use crate::mail::are_taken;
+use crate::mail::inboxes::{pop_all, push_all};
+use crate::mail::packets::{long, short};
+use mq_mail::{MailKey, Post, make_lane, matrix};
 use mq_talk::{Parcel, Pushed};
 use mq_wire::NoMemory;
 use std::alloc::Global;
 use std::collections::VecDeque;
-use std::process::Abort;
 use std::sync::Wait;
-use std::test::*;
+use std::test::Fail;
 use std::thread;
 use std::thread::Threads;
 
@@ -26,6 +25,7 @@ const ALL: u64 = 2_000_000;
 struct Job<'a> {
     post: &'a Post,
     key: MailKey,
+    actor: u32,
     pushes: u64,
     pops: u64,
     ghost same: { key.post ≡ post.now.inboxes },
@@ -37,13 +37,14 @@ fn is_done<R: Wait>(rt: &R, alloc: Global, job: Job<'_>) -> bool {
     let Job {
         post,
         key,
+        actor,
         pushes,
         pops,
     } = job;
     if pops > 0 {
         pop_all(rt, post, key, pops).1
     } else {
-        push_all(rt, alloc, post, key, 4, pushes).1 == pushes
+        push_all(rt, alloc, post, key, actor, 4, pushes).1 == pushes
     }
 }
 
@@ -66,6 +67,7 @@ fn jobs_of<'a>(
         jobs.push(Job {
             post,
             key,
+            actor: i,
             pushes,
             pops,
         })?;
@@ -73,12 +75,12 @@ fn jobs_of<'a>(
     Ok(jobs)
 }
 
-/// So many threads push, and one pops.
-fn deliver_by<R: Threads + Wait + Abort + Sync>(
+/// So many threads push, and one pops. Whether all of them did so.
+fn is_delivered_by<R: Threads + Wait + Sync>(
     rt: &R,
     alloc: Global,
     pushers: u32,
-) -> Result<(), Fail>
+) -> Result<bool, NoMemory>
     requires { (0 < pushers) × (pushers < 5) }
 {
     let (post, keys) = matrix(alloc, 5, 256)?;
@@ -88,31 +90,32 @@ fn deliver_by<R: Threads + Wait + Abort + Sync>(
         jobs,
         &|job: Job<'_>| -> bool { is_done(rt, alloc, job) },
     )?;
-    for done in &done {
-        assert!(rt; *done);
-    }
-    Ok(())
+    Ok(done.iter().all(|is| *is))
 }
 
 #[test]
 fn one_puts(rt: HostRuntime) -> Result<(), Fail> {
     let (lane, into, out) = make_lane(rt.alloc(), 32)?;
-    across(&rt, lane, into, out, 2_000_000)
+    assert!(rt; are_taken(&rt, lane, into, out, 2_000_000));
+    Ok(())
 }
 
 #[test]
 fn one_pushes(rt: HostRuntime) -> Result<(), Fail> {
-    deliver_by(&rt, rt.alloc(), 1)
+    assert!(rt; is_delivered_by(&rt, rt.alloc(), 1)?);
+    Ok(())
 }
 
 #[test]
 fn two_push(rt: HostRuntime) -> Result<(), Fail> {
-    deliver_by(&rt, rt.alloc(), 2)
+    assert!(rt; is_delivered_by(&rt, rt.alloc(), 2)?);
+    Ok(())
 }
 
 #[test]
 fn four_push(rt: HostRuntime) -> Result<(), Fail> {
-    deliver_by(&rt, rt.alloc(), 4)
+    assert!(rt; is_delivered_by(&rt, rt.alloc(), 4)?);
+    Ok(())
 }
 
 /// One parcel goes into an actor's own inbox and out of it so often.
@@ -137,27 +140,30 @@ fn round<R: Wait>(
     Some(parcel)
 }
 
-/// One parcel goes round a million times.
-fn a_million_rounds<R: Wait + Abort>(rt: &R, alloc: Global, parcel: Parcel) -> Result<(), Fail>
+/// Whether a parcel goes round a million times, and comes back with as many bytes.
+fn goes_round<R: Wait>(rt: &R, alloc: Global, parcel: Parcel) -> Result<bool, NoMemory>
     requires { IsParcel parcel }
 {
     let size = parcel.packet.as_slice().len();
     let (post, keys) = matrix(alloc, 1, 1)?;
     let mut keys = VecDeque::from_vec(keys.into_vec());
     let key = first_of(&mut keys);
-    let back = round(rt, &post, key, parcel, 1_000_000).expect(rt, "nobody else is there");
-    assert_eq!(rt; back.packet.as_slice().len(), size);
-    Ok(())
+    match round(rt, &post, key, parcel, 1_000_000) {
+        None => Ok(false),
+        Some(back) => Ok(back.packet.as_slice().len() == size),
+    }
 }
 
 #[test]
 fn a_short_parcel_goes_round(rt: HostRuntime) -> Result<(), Fail> {
     let parcel = short(rt.alloc(), 0, 0)?;
-    a_million_rounds(&rt, rt.alloc(), parcel)
+    assert!(rt; goes_round(&rt, rt.alloc(), parcel)?);
+    Ok(())
 }
 
 #[test]
 fn the_longest_parcel_goes_round(rt: HostRuntime) -> Result<(), Fail> {
     let parcel = long(rt.alloc(), 0, 0)?;
-    a_million_rounds(&rt, rt.alloc(), parcel)
+    assert!(rt; goes_round(&rt, rt.alloc(), parcel)?);
+    Ok(())
 }

@@ -1,5 +1,5 @@
 use Rattle.std.proofs.Common.{◌≡◌}
-use Rattle.mq_mail.proofs.tests.inboxes.fill.Given as goal
+use Rattle.mq_actors_tests.proofs.mail.inboxes.fill.Given as goal
 
 abbrev pub invariant-loop-n : goal.invariant-loop-n
 invariant-loop-n g l = record {

@@ -1,5 +1,5 @@
 use Rattle.std.proofs.Common.{◌≡◌}
-use Rattle.mq_mail.proofs.tests.inboxes.pop_all.Given as goal
+use Rattle.mq_actors_tests.proofs.mail.inboxes.pop_all.Given as goal
 
 abbrev pub invariant-loop : goal.invariant-loop
 invariant-loop g l = record {

@@ -1,6 +1,6 @@
 use Rattle.std.proofs.Common.{◌≡◌, ◌∷◌, suc, List, All, length, ap, ◌∙◌, subst, arith}
 use Rattle.mq_mail.specs.Posts.{PostId, KeyOf}
-use Rattle.mq_mail.proofs.tests.many.jobs_of.Goals as goal
+use Rattle.mq_actors_tests.proofs.mail.many.jobs_of.Goals as goal
 
 all_front : (post : PostId) (x : KeyOf) (all rest : List KeyOf) → all ≡ x ∷ rest → All (λ (key : KeyOf). key.post ≡ post) all → x.post ≡ post
 all_front post x all rest e h = let P : List KeyOf → Type 0 = All (λ (key : KeyOf). key.post ≡ post) in subst P e h 0 x (omega arith)

@@ -5,53 +5,61 @@ mod inboxes;
 mod many;
 mod packets;
 
-use crate::{Lane, LaneIn, LaneOut, make_lane};
-use std::process::Abort;
+use mq_mail::{Lane, LaneIn, LaneOut, make_lane};
 use std::sync::Wait;
-use std::test::*;
+use std::test::Fail;
 use std::thread;
 use std::thread::Threads;
 
 #[test]
 fn a_lane_of_one(rt: HostRuntime) -> Result<(), Fail> {
     let (lane, mut into, mut out) = make_lane(rt.alloc(), 1)?;
-    assert_eq!(rt; into.put(&rt, &lane, 5u32), None);
-    assert_eq!(rt; into.put(&rt, &lane, 6), Some(6));
-    assert_eq!(rt; out.take(&rt, &lane), Some(5));
-    assert_eq!(rt; out.take(&rt, &lane), None);
+    let answers = [
+        into.put(&rt, &lane, 5u32),
+        into.put(&rt, &lane, 6),
+        out.take(&rt, &lane),
+        out.take(&rt, &lane),
+    ];
     let rest = lane.close(&rt, into, out);
-    assert_eq!(rt; rest.as_slice(), [].as_slice());
+    assert!(rt; answers == [None, Some(6), Some(5), None]);
+    assert!(rt; rest.as_slice().is_empty());
     Ok(())
 }
 
 #[test]
 fn what_waits_is_given_at_the_close(rt: HostRuntime) -> Result<(), Fail> {
     let (lane, mut into, mut out) = make_lane(rt.alloc(), 3)?;
-    assert_eq!(rt; into.put(&rt, &lane, 1u32), None);
-    assert_eq!(rt; into.put(&rt, &lane, 2), None);
-    assert_eq!(rt; into.put(&rt, &lane, 3), None);
-    assert_eq!(rt; into.put(&rt, &lane, 4), Some(4));
+    let puts = [
+        into.put(&rt, &lane, 1u32),
+        into.put(&rt, &lane, 2),
+        into.put(&rt, &lane, 3),
+        into.put(&rt, &lane, 4),
+    ];
     let note = into.tell(&lane);
     out.hear(&lane, note);
-    assert_eq!(rt; out.take(&rt, &lane), Some(1));
+    let first = out.take(&rt, &lane);
     let rest = lane.close(&rt, into, out);
-    assert_eq!(rt; rest.as_slice(), [2u32, 3].as_slice());
+    assert!(rt; puts == [None, None, None, Some(4)]);
+    assert!(rt; first == Some(1));
+    assert!(rt; rest.as_slice() == [2u32, 3].as_slice());
     Ok(())
 }
 
 #[test]
 fn ten_thousand_from_one_thread_to_another(rt: HostRuntime) -> Result<(), Fail> {
     let (lane, into, out) = make_lane(rt.alloc(), 1)?;
-    across(&rt, lane, into, out, 10_000)
+    assert!(rt; are_taken(&rt, lane, into, out, 10_000));
+    Ok(())
 }
 
-pub fn across<R: Threads + Wait + Abort + Sync>(
+/// Whether so many numbers that one thread puts are taken by another, in order, and none is left.
+fn are_taken<R: Threads + Wait + Sync>(
     rt: &R,
     lane: Lane<u32>,
     into: LaneIn<u32>,
     out: LaneOut<u32>,
     count: u32,
-) -> Result<(), Fail>
+) -> bool
     requires { (into.lane ≡ lane) × (out.lane ≡ lane) }
 {
     let shared = &lane;
@@ -66,9 +74,8 @@ pub fn across<R: Threads + Wait + Abort + Sync>(
             ensures { result.0.lane ≡ shared.entry.now }
         { take_all(rt, shared, out, count) },
     );
-    assert_eq!(rt; in_order, count);
-    assert!(rt; lane.close(rt, into, out).as_slice().is_empty());
-    Ok(())
+    let rest = lane.close(rt, into, out);
+    in_order == count && rest.as_slice().is_empty()
 }
 
 /// Puts the numbers below a count.

@@ -1,6 +1,6 @@
 use Rattle.std.proofs.Common.{◌≡◌, ◌+◌, All, length}
 use Rattle.mq_mail.specs.Posts.{KeyOf}
-use Rattle.mq_mail.proofs.tests.many.jobs_of.Given as goal
+use Rattle.mq_actors_tests.proofs.mail.many.jobs_of.Given as goal
 
 abbrev pub invariant-loop-i : goal.invariant-loop-i
 invariant-loop-i l = record {

@@ -1,5 +1,0 @@
-use Rattle.mq_mail.proofs.Packets.{short_packet_is}
-use Rattle.mq_mail.proofs.tests.packets.short_packet.Goals as goal
-
-pub returns : goal.returns
-returns c = short_packet_is _ c.in_ok-from_slice.ensures.items
