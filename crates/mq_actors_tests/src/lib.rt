@@ -10,6 +10,8 @@ mod mail;
 #[cfg(test)]
 mod mem;
 #[cfg(test)]
+mod parcels;
+#[cfg(test)]
 mod plain;
 #[cfg(test)]
 mod ports;

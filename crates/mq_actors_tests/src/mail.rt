@@ -3,7 +3,6 @@ ghost use Rattle.std.specs.Prelude.{◌≡◌};
 
 mod inboxes;
 mod many;
-mod packets;
 
 use mq_mail::{Lane, LaneIn, LaneOut, make_lane};
 use std::sync::Wait;

@@ -1,17 +1,16 @@
-//! Steps of a pump over a network, an office and inboxes in memory. The packet is one that another program's checksum says is right.
+//! Steps of a pump over a network, an office and inboxes in memory. The packets of the network are ones that another program's checksum says are right.
 
-ghost use Rattle.std.specs.Prelude.{◌≡◌, ◌<◌, length, IfOk, IfSome};
-ghost use Rattle.mq_talk.specs.Mails.{IsParcel};
+ghost use Rattle.std.specs.Prelude.{◌≡◌, length, IfOk};
 ghost use Rattle.mq_talk.specs.Offices.{IsSound};
 ghost use Rattle.mq_mem.specs.Offices.{seen_of};
 ghost use Rattle.mq_machine.specs.State as machine;
 ghost use Rattle.mq_pump.specs.Holds.{IsPump};
 
 use crate::common::{bytes, nothing};
-use mq_iphdr::check;
+use crate::parcels::short;
 use mq_mem::{MemNet, PlainMail, PlainOffice};
 use mq_pump::Pump;
-use mq_talk::{Cause, Config, From, Mail, Note, Origin, Parcel, Place};
+use mq_talk::{Cause, Config, From, Mail, Note};
 use mq_wire::{NoMemory, Seq};
 use std::alloc::Global;
 use std::process::Abort;
@@ -24,6 +23,10 @@ const PACKET: &[u8] =
 /// The same with one byte more.
 const LONG: &[u8] =
     b"\x45\x00\x00\x16\x00\x00\x00\x00\x40\x11\x8e\x99\xc0\x00\x02\x01\xc6\x33\x64\x09\xaa\xaa";
+
+/// The packet of the short parcel: an IPv6 header with no payload.
+const SHORT: &[u8] =
+    b"\x60\0\0\0\0\0\x3b\x40\x20\x01\x0d\xb8\0\0\0\0\0\0\0\0\0\0\0\x01\x20\x01\x0d\xb8\0\0\0\0\0\0\0\0\0\0\0\x02";
 
 /// The pump of a network from which these packets come, beside one worker.
 fn pump_of(alloc: Global, packets: &[&[u8]], mtu: u32, fails: &[u64]) -> Result<Pump<MemNet>, Fail>
@@ -65,30 +68,13 @@ fn mail_of(alloc: Global) -> Result<PlainMail, NoMemory>
     Ok(mail)
 }
 
-/// A parcel from the tunnel.
-fn parcel_of(alloc: Global) -> Result<Option<Parcel>, NoMemory>
-    ensures { IfOk result (λ parcel. IfSome parcel IsParcel) }
-{
-    let packet = bytes(alloc, PACKET)?;
-    if check(packet.as_slice()).is_err() {
-        return Ok(None);
-    }
-    Ok(Some(Parcel {
-        from: Origin::Tunnel(0),
-        n: 5,
-        to: Place::Net,
-        packet,
-    }))
-}
-
 /// A parcel of the tunnel goes to the pump's inbox.
 fn put(alloc: Global, mail: &mut PlainMail) -> Result<(), NoMemory>
     requires { (length mail.old.boxes ≡ 2) × (mail.old.actor ≡ 1) }
     ensures { (length mail.new.boxes ≡ 2) × (mail.new.actor ≡ 1) }
 {
-    if let Some(parcel) = parcel_of(alloc)? {
-        let _ = mail.push(1, parcel);
-    }
+    let parcel = short(alloc, 0, 5)?;
+    let _ = mail.push(1, parcel);
     Ok(())
 }
 
@@ -102,7 +88,7 @@ fn word(note: &Option<Note>) -> &'static str {
                 n: 5,
                 packet,
             },
-        ) if packet.as_slice() == PACKET => "sent",
+        ) if packet.as_slice() == SHORT => "sent",
         Some(
             Note::Dropped {
                 from: From::Tunnel(0),

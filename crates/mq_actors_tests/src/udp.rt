@@ -125,16 +125,12 @@ fn asked(alloc: Global, case: &Case) -> Result<Asked, NoMemory>
     ensures size { IfOk result (λ asked. length asked.path + length asked.host ≤ target_limit) }
     ensures visible { IfOk result (λ asked. AreVisible asked.path × AreVisible asked.host) }
 {
-    let path = bytes(alloc, b"/.well-known/masque/udp/192.0.2.6/443/")?;
-    let host = bytes(alloc, b"127.0.0.1:8080")?;
-    Ok(Asked {
-        addr: Addr::V4(0x7f00_0001),
-        port: 8080,
-        h2: case.h2,
-        path,
-        host,
-        count: case.count,
-    })
+    let target = Target::Udp {
+        host: Host::Address(Addr::V4(0xc000_0206)),
+        port: 443,
+    };
+    let proxy = Addr::V4(0x7f00_0001);
+    Asked::to(alloc, proxy, 8080, case.h2, &target, case.count)
 }
 
 fn source(alloc: Global, case: &Case) -> Result<MemSource, NoMemory> {

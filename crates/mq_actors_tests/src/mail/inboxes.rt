@@ -5,7 +5,7 @@ ghost use Rattle.mq_mail.specs.Posts.{KeyOf, new_key};
 ghost use Rattle.mq_mail.specs.Tallies.{AreKeysOf};
 
 use crate::common::first_of;
-use crate::mail::packets::{long, short};
+use crate::parcels::{long, short};
 use mq_mail::{MailKey, Post, Tally, matrix};
 use mq_talk::{Mail, Origin, Parcel, Pushed};
 use mq_wire::{NoMemory, Seq};

@@ -6,7 +6,7 @@ ghost use Rattle.mq_mail.specs.Posts.{KeyOf};
 use crate::common::first_of;
 use crate::mail::are_taken;
 use crate::mail::inboxes::{pop_all, push_all};
-use crate::mail::packets::{long, short};
+use crate::parcels::{long, short};
 use mq_mail::{MailKey, Post, make_lane, matrix};
 use mq_talk::{Parcel, Pushed};
 use mq_wire::NoMemory;

@@ -1,6 +1,6 @@
 use Rattle.std.proofs.Common.{ap, ◌∙◌, List, ℕ, ◌++◌, arith}
 use Rattle.mq_actors_tests.proofs.Packets.{header6, long_packet_is}
-use Rattle.mq_actors_tests.proofs.mail.packets.long_packet.Goals as goal
+use Rattle.mq_actors_tests.proofs.parcels.long_packet.Goals as goal
 
 pub returns : goal.returns
 returns c = long_packet_is _ c.in_ok-payload.payload.items
