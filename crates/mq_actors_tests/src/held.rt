@@ -53,7 +53,7 @@ fn ports(alloc: Global) -> Result<(PortTable<MemPorts>, usize), Fail> {
     }
 }
 
-fn carried(alloc: Global) -> Result<Carried, Fail> {
+fn make_carried(alloc: Global) -> Result<Carried, Fail> {
     let setup = setup(alloc)?;
     let (ports, key) = ports(alloc)?;
     let conn = Conn::new(alloc, 7, 0)?;
@@ -79,13 +79,13 @@ fn word(note: &Note) -> &'static str {
             from: From::Tunnel(0),
             n: 0,
             packet,
-        } if packet.as_slice() == b"ab" => "sent",
+        } if packet.as_slice() == b"ab".as_slice() => "sent",
         Note::Queued {
             from: From::Port(0),
             n: 3,
             to: 0,
         } => "queued",
-        Note::Delivered { packet, .. } if packet.as_slice() == b"back" => "delivered",
+        Note::Delivered { packet, .. } if packet.as_slice() == b"back".as_slice() => "delivered",
         _ => "another note",
     }
 }
@@ -184,7 +184,7 @@ fn carries_back(rt: &impl Abort, alloc: Global, it: &mut Carried) -> Result<(), 
 
 #[test]
 fn a_tunnel_carries_both_ways(rt: HostRuntime) -> Result<(), Fail> {
-    let mut it = carried(rt.alloc())?;
+    let mut it = make_carried(rt.alloc())?;
     is_answered(&rt, rt.alloc(), &mut it)?;
     carries_on(&rt, rt.alloc(), &mut it)?;
     carries_back(&rt, rt.alloc(), &mut it)?;

@@ -151,7 +151,7 @@ struct Ways {
     outside: MemOutside,
 }
 
-fn ways(alloc: Global, case: &Case) -> Result<Ways, NoMemory> {
+fn make_ways(alloc: Global, case: &Case) -> Result<Ways, NoMemory> {
     let source = source(alloc, case)?;
     let sink = sink(alloc, case)?;
     Ok(Ways {
@@ -175,7 +175,7 @@ fn taken(outside: &MemOutside) -> &[u8] {
     }
 }
 
-fn seen(alloc: Global, ways: &Ways, outcome: Outcome) -> Result<Seen, AllocError> {
+fn make_seen(alloc: Global, ways: &Ways, outcome: Outcome) -> Result<Seen, AllocError> {
     let printed = Vec::from_slice(alloc, ways.sink.taken())?;
     Ok(Seen {
         outcome,
@@ -186,9 +186,9 @@ fn seen(alloc: Global, ways: &Ways, outcome: Outcome) -> Result<Seen, AllocError
 }
 
 fn run_case(rt: &impl Wait, alloc: Global, case: &Case) -> Result<Seen, Fail> {
-    let mut ways = ways(alloc, case)?;
+    let mut ways = make_ways(alloc, case)?;
     let outcome = talk(rt, alloc, case, &mut ways)?;
-    Ok(seen(alloc, &ways, outcome)?)
+    Ok(make_seen(alloc, &ways, outcome)?)
 }
 
 /// How a case ends, what is printed, and what the proxy took, where it is said.
