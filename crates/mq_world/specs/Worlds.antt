@@ -45,7 +45,7 @@ AreServed links seen boxes from (a ∷ actors) (w ∷ ws) = Serves links seen bo
 -- whichever worker of the machine it stands for has no turn while its inbox is empty
 abbrev pub Rests : Plain → Type 0
 Rests a = (links : List Told) (seen : Seen) (boxes : Boxes) (number : ℕ) (w : Worker) → Serves links seen boxes number a w
-  → turn_of w [] ≡ None
+    → turn_of w [] ≡ None
 
 -- those of which it is said do so
 abbrev pub DoRest : List Bool → List Plain → Type 0
