@@ -36,6 +36,7 @@ impl Reader {
 
     /// Takes the next bytes, and gives the items of the capsules that end in them, a `Bad` last. After an `Err`
     /// the reader is of no use: every later call answers the same.
+    #[inline]
     pub fn feed(&mut self, alloc: Global, piece: &[u8]) -> Result<Seq<Item>, NoMemory>
         ensures items { IfOk result (GivesItems self.old piece.now) }
         ensures sized { IfOk result (AreSized self.old) }

@@ -102,7 +102,7 @@ abbrev pub took_waiting : Bool → Waiting → List Waiting → ℕ → List Wai
 took_waiting true w rest count = rest
 took_waiting false w rest count = record w { framed = w.framed + count } ∷ rest
 
--- of what waits first in the tunnel of this number
+-- so many bytes of what waits first in the tunnel of this number were framed, where something waits
 abbrev pub TookOf : List Waiting → List Waiting → ℕ → ℕ → Option Note → Type 0
 TookOf old new id count None = old ≡ []
 TookOf old new id count (Some said) = (t : Tunnel) (w : Waiting) (rest : List Waiting) → t.id ≡ id → old ≡ w ∷ rest

@@ -21,7 +21,7 @@ use Rattle.mq_plain.specs.Served.{Plain, Serves}
 use Rattle.mq_world.specs.declared.told.Told.{Told as ToldBy}
 use Rattle.mq_world.specs.declared.workers.Workers.{Workers}
 use Rattle.mq_plain.specs.Taking.{shared_of}
-use Rattle.mq_world.specs.Worlds.{told_of, AreUnused, AreServed, DoRest, IsWorld}
+use Rattle.mq_world.specs.Worlds.{told_of, AreUntouched, AreServed, DoRest, IsWorld}
 use Rattle.mq_world.proofs.Resting.{none_said}
 
 -- ---- the inboxes
@@ -41,8 +41,8 @@ served_push links seen boxes from (b ∷ actors) (v ∷ ws) a w are x =
     let same : from + suc (length actors) ≡ suc from + length actors = omega arith in
     (are.0, served_push links seen boxes (suc from) actors ws a w are.1 (subst (λ (n : ℕ). Serves links seen boxes n a w) same x))
 
-pub one_more : (seen : Seen) (boxes : Boxes) (setup : Setup) (actors after : List Plain) (count : ℕ) (a : Plain) → AreUnused seen boxes setup actors count → Serves [] seen boxes count a (new_worker count setup)
-    → after ≡ actors ++ a ∷ [] → AreUnused seen boxes setup after (count + 1)
+pub one_more : (seen : Seen) (boxes : Boxes) (setup : Setup) (actors after : List Plain) (count : ℕ) (a : Plain) → AreUntouched seen boxes setup actors count → Serves [] seen boxes count a (new_worker count setup)
+    → after ≡ actors ++ a ∷ [] → AreUntouched seen boxes setup after (count + 1)
 one_more seen boxes setup actors after count a are x is =
     let at : 0 + length actors ≡ count = omega (arith, are.size) in
     let more = served_push [] seen boxes 0 actors (new_workers setup count) a (new_worker count setup) are.served (subst (λ (n : ℕ). Serves [] seen boxes n a (new_worker count setup)) (sym at) x) in
@@ -66,7 +66,7 @@ sharing office mail fails = shared_of (record { office = office; mail = mail; bi
 
 pub stands_new : (plan : Plan) (world : Workers) (count : ℕ) → IsPlan plan → world.links.items ≡ [] → world.office ≡ unwritten plan.book → world.mail ≡ unsent plan.workers → world.bind_fails ≡ false → world.rests.items ≡ replicate plan.workers false → count ≡ plan.workers
     → world.pump.net ≡ new_sim plan.hosts → world.pump.workers ≡ plan.workers → IsPump world.pump (record { mtu = plan.setup.mtu; to_push = None; to_send = None; net = new_net [] })
-    → AreUnused (seen_of (unwritten plan.book)) (unsent plan.workers).boxes plan.setup world.workers.items count → IsWorld world (state_of plan)
+    → AreUntouched (seen_of (unwritten plan.book)) (unsent plan.workers).boxes plan.setup world.workers.items count → IsWorld world (state_of plan)
 stands_new plan world count is_plan links office mail fails rests end net beside new_pump are =
     let workers : world.office.book.config.workers ≡ plan.workers = ap (λ (o : OfficeOf). o.book.config.workers) office ∙ is_plan.book.workers_are in
     let served : AreServed [] (seen_of (unwritten plan.book)) (unsent plan.workers).boxes 0 world.workers.items (new_workers plan.setup plan.workers) =

@@ -61,7 +61,7 @@ pub record IsUnused (seen : Seen) (boxes : Boxes) (setup : Setup) : Type 0 where
   pub pump : setup.pump ≡ seen.config.workers
 
 -- so many workers, to which nothing happened yet
-pub record AreUnused (seen : Seen) (boxes : Boxes) (setup : Setup) (actors : List Plain) (count : ℕ) : Type 0 where
+pub record AreUntouched (seen : Seen) (boxes : Boxes) (setup : Setup) (actors : List Plain) (count : ℕ) : Type 0 where
   pub size : length actors ≡ count
   pub served : AreServed [] seen boxes 0 actors (new_workers setup count)
 

@@ -13,7 +13,7 @@ ghost use Rattle.mq_play.specs.Play.{actors_of};
 ghost use Rattle.mq_play.specs.Settings.{IsPlan};
 ghost use Rattle.mq_plain.specs.Coming.{changed};
 ghost use Rattle.mq_world.specs.declared.stepped.WorldFault.TheVariants as fault;
-ghost use Rattle.mq_world.specs.Worlds.{AreUnused, Happens, IsUnused, IsWorld, LinkHappens, StepGives, ActorGives, stepped_by, told_of};
+ghost use Rattle.mq_world.specs.Worlds.{AreUntouched, Happens, IsUnused, IsWorld, LinkHappens, StepGives, ActorGives, stepped_by, told_of};
 
 use crate::rests::mark;
 use crate::stepped::{Stepped, WorldFault};
@@ -61,8 +61,8 @@ fn add_worker(
     number: u32,
     workers: &mut Vec<Plain>,
 ) -> Result<(), NoMemory>
-    ensures { OnOk result ((seen : Seen) (boxes : Boxes) → IsUnused seen boxes setup.now → number < seen.config.workers → AreUnused seen boxes setup.now workers.old.items number
-        → AreUnused seen boxes setup.now workers.new.items (number + 1)) }
+    ensures { OnOk result ((seen : Seen) (boxes : Boxes) → IsUnused seen boxes setup.now → number < seen.config.workers → AreUntouched seen boxes setup.now workers.old.items number
+        → AreUntouched seen boxes setup.now workers.new.items (number + 1)) }
 {
     let ports = PlainPorts::new(alloc)?;
     let own = setup.copy(alloc)?;
@@ -73,7 +73,7 @@ fn add_worker(
 
 /// So many workers, numbered from 0, to which nothing happened yet.
 fn workers_of(alloc: Global, count: u32, setup: &Setup) -> Result<Vec<Plain>, NoMemory>
-    ensures { IfOk result (λ workers. (seen : Seen) (boxes : Boxes) → IsUnused seen boxes setup.now → count ≡ seen.config.workers → AreUnused seen boxes setup.now workers.items count) }
+    ensures { IfOk result (λ workers. (seen : Seen) (boxes : Boxes) → IsUnused seen boxes setup.now → count ≡ seen.config.workers → AreUntouched seen boxes setup.now workers.items count) }
 {
     let mut workers = Vec::with_capacity(alloc, count as usize)?;
     for number in 0..count {
