@@ -1,5 +1,5 @@
 -- What a reader stands for: the bytes that it was fed.
-use Rattle.std.specs.Prelude.{◌≡◌, ℕ, ◌≤◌, ◌↔◌, List, ◌++◌, length, Option, Some, None, Bool}
+use Rattle.std.specs.Prelude.{◌≡◌, ℕ, ◌<◌, ◌≤◌, ◌↔◌, List, ◌++◌, length, Option, Some, None, Bool}
 use Rattle.std.specs.List.{AllByRecursion}
 use Rattle.mq_capsule.specs.declared.front.Front.{Front}
 use Rattle.mq_capsule.specs.declared.front.Plan.{Plan}
@@ -29,6 +29,10 @@ StandsOn old new piece = (control : Bool) (bytes : List ℕ) → Stands old cont
 -- the answer tells whether the bytes that the reader was fed end inside a capsule
 abbrev pub TellsBegun : Reader → Type 0 → Type 0
 TellsBegun r answer = (control : Bool) (bytes : List ℕ) → Stands r control bytes → answer ↔ EndsInside control bytes
+
+-- of a piece that has bytes so many were taken, one at least
+abbrev pub TakesSome : Reader → List ℕ → ℕ → Type 0
+TakesSome r piece used = (control : Bool) (bytes : List ℕ) → Stands r control bytes → 0 < length piece → 0 < used
 
 -- memory ran out in the reader
 abbrev pub IsSpent : Reader → Type 0

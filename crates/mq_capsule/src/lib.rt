@@ -15,5 +15,5 @@ pub use laws::{
     are_spelled, ends_at_bad, goes_on, has_capsules, has_them_once, is_read_once, is_readable,
     is_within_limits, is_written_back, says_nothing, says_on, says_payload, says_value, stays_read,
 };
-pub use reader::Reader;
+pub use reader::{Reader, Taken};
 pub use write::{write_control, write_datagram};

@@ -1,7 +1,7 @@
 //! The reader of capsules, from pieces in any cutting.
-ghost use Rattle.std.specs.Prelude.{◌≡◌, ℕ, ◌<◌, ◌≤◌, List, [], Bool, true, length, take, IfOk, OnOk, OnErr, IsErr};
+ghost use Rattle.std.specs.Prelude.{◌≡◌, ℕ, ◌<◌, ◌≤◌, List, [], Bool, true, length, take, option_to_list, IfOk, OnOk, OnErr, IsErr};
 ghost use Rattle.mq_capsule.specs.Items.{max_control};
-ghost use Rattle.mq_capsule.specs.Readers.{Stands, StandsOn, GivesItems, AreSized, TellsBegun, IsSpent, Reads};
+ghost use Rattle.mq_capsule.specs.Readers.{Stands, StandsOn, GivesItems, AreSized, TellsBegun, IsSpent, Reads, TakesSome, Went};
 ghost use Rattle.mq_capsule.specs.Readers.{KeepsAtMost, KeepsFew};
 
 use super::item::{Item, Truncated};
@@ -11,6 +11,15 @@ use arrayvec::ArrayVec;
 use mq_wire::{NoMemory, Seq};
 use std::alloc::Global;
 use std::mem;
+
+/// What a call of [`Reader::next`] took of its piece.
+#[derive(Drop)]
+pub struct Taken {
+    /// The item of the capsule that ended, or that can't be one.
+    pub item: Option<Item>,
+    /// How many bytes were taken.
+    pub used: usize,
+}
 
 /// A reader of a data stream.
 #[derive(Drop)]
@@ -36,7 +45,6 @@ impl Reader {
 
     /// Takes the next bytes, and gives the items of the capsules that end in them, a `Bad` last. After an `Err`
     /// the reader is of no use: every later call answers the same.
-    #[inline]
     pub fn feed(&mut self, alloc: Global, piece: &[u8]) -> Result<Seq<Item>, NoMemory>
         ensures items { IfOk result (GivesItems self.old piece.now) }
         ensures sized { IfOk result (AreSized self.old) }
@@ -52,6 +60,32 @@ impl Reader {
         let mut items = Vec::new(alloc);
         match self.read(alloc, piece, &mut items) {
             Ok(()) => Ok(Seq::from_vec(items)),
+            Err(NoMemory) => {
+                self.state = State::Spent;
+                Err(NoMemory)
+            }
+        }
+    }
+
+    /// Takes bytes of the piece until a capsule is whole, or all of them. What is left of the piece is for the next call. So no
+    /// list of items is made. After an `Err` the reader is of no use: every later call answers the same.
+    #[inline]
+    pub fn next(&mut self, alloc: Global, piece: &[u8]) -> Result<Taken, NoMemory>
+        ensures within { IfOk result (λ taken. taken.used ≤ length piece.now) }
+        ensures some { IfOk result (λ taken. TakesSome self.old piece.now taken.used) }
+        ensures items { IfOk result (λ taken. GivesItems self.old (take taken.used piece.now) (option_to_list taken.item)) }
+        ensures sized { IfOk result (λ taken. AreSized self.old (option_to_list taken.item)) }
+        ensures stands { IfOk result (λ taken. StandsOn self.old self.new (take taken.used piece.now)) }
+        ensures bounded { OnOk result (KeepsAtMost max_control self.old self.new) }
+        ensures skips { IfOk result (λ taken. KeepsFew self.old self.new (take taken.used piece.now)) }
+        ensures spent { OnErr result (IsSpent self.new) }
+        ensures stays_spent { IsSpent self.old → IsErr result }
+    {
+        if matches!(self.state, State::Spent) {
+            return Err(NoMemory);
+        }
+        match self.advance(alloc, piece) {
+            Ok(taken) => Ok(taken),
             Err(NoMemory) => {
                 self.state = State::Spent;
                 Err(NoMemory)
@@ -89,7 +123,7 @@ impl Reader {
         Ok(())
     }
 
-    /// Takes bytes until a capsule is whole, or all of them.
+    /// Takes bytes until a capsule is whole, or all of them, and puts its item at the back of the list.
     fn step(
         &mut self,
         alloc: Global,
@@ -97,23 +131,35 @@ impl Reader {
         items: &mut Vec<Item>,
     ) -> Result<usize, NoMemory>
         ensures within { IfOk result (λ used. used ≤ length piece.now) }
-        ensures some { IfOk result (λ used. (control : Bool) (bytes : List ℕ) →
-            Stands self.old control bytes → 0 < length piece.now → 0 < used) }
+        ensures some { IfOk result (TakesSome self.old piece.now) }
         ensures went { IfOk result (λ used.
             Reads self.old self.new (take used piece.now) items.old.items items.new.items) }
     {
-        if take_in_place(&mut self.state, piece)? {
-            return Ok(piece.len());
-        }
-        let state = mem::replace(&mut self.state, State::Spent);
-        let Step { state, told, used } = advance(alloc, self.control, state, piece)?;
-        self.state = state;
-        match told {
+        let Taken { item, used } = self.advance(alloc, piece)?;
+        match item {
             None => Ok(used),
             Some(item) => {
                 items.push(item)?;
                 Ok(used)
             }
         }
+    }
+
+    /// Takes bytes until a capsule is whole, or all of them.
+    fn advance(&mut self, alloc: Global, piece: &[u8]) -> Result<Taken, NoMemory>
+        ensures within { IfOk result (λ taken. taken.used ≤ length piece.now) }
+        ensures some { IfOk result (λ taken. TakesSome self.old piece.now taken.used) }
+        ensures went { IfOk result (λ taken. Went self.old self.new (take taken.used piece.now) (option_to_list taken.item)) }
+    {
+        if take_in_place(&mut self.state, piece)? {
+            return Ok(Taken {
+                item: None,
+                used: piece.len(),
+            });
+        }
+        let state = mem::replace(&mut self.state, State::Spent);
+        let Step { state, told, used } = advance(alloc, self.control, state, piece)?;
+        self.state = state;
+        Ok(Taken { item: told, used })
     }
 }

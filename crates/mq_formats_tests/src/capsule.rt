@@ -1,7 +1,7 @@
 //! Data streams, with what the standards make of them.
-ghost use Rattle.std.specs.Prelude.{◌<◌, ◌≤◌, length};
+ghost use Rattle.std.specs.Prelude.{◌<◌, ◌≤◌, IfOk, length};
 
-use mq_capsule::{CapsuleFault, Item, Reader, Truncated, write_control, write_datagram};
+use mq_capsule::{CapsuleFault, Item, Reader, Taken, Truncated, write_control, write_datagram};
 use mq_wire::WireFault;
 use std::alloc::Global;
 use std::process::Abort;
@@ -154,6 +154,15 @@ fn text_of(alloc: Global, item: &Item) -> Result<String, Fail> {
     }
 }
 
+/// Adds an item.
+fn add_item(alloc: Global, item: &Item, text: &mut String) -> Result<(), Fail> {
+    if !text.is_empty() {
+        text.push_str("; ")?;
+    }
+    text.push_str(text_of(alloc, item)?.as_str())?;
+    Ok(())
+}
+
 /// Adds the items of a piece.
 fn add_items(
     alloc: Global,
@@ -162,12 +171,38 @@ fn add_items(
     text: &mut String,
 ) -> Result<(), Fail> {
     for item in reader.feed(alloc, piece)?.as_slice() {
-        if !text.is_empty() {
-            text.push_str("; ")?;
-        }
-        text.push_str(text_of(alloc, item)?.as_str())?;
+        add_item(alloc, item, text)?;
     }
     Ok(())
+}
+
+/// Adds the item with which the front of a piece ends, and answers how many bytes that front has.
+fn add_next(
+    alloc: Global,
+    reader: &mut Reader,
+    piece: &[u8],
+    text: &mut String,
+) -> Result<usize, Fail>
+    ensures { IfOk result (λ used. used ≤ length piece.now) }
+{
+    let Taken { item, used } = reader.next(alloc, piece)?;
+    if let Some(item) = item {
+        add_item(alloc, &item, text)?;
+    }
+    Ok(used)
+}
+
+/// The items of bytes, which are taken one at a time.
+fn items_by_one(alloc: Global, control: bool, bytes: &[u8]) -> Result<String, Fail> {
+    let mut reader = Reader::new(control);
+    let mut text = String::new(alloc);
+    let mut left = bytes;
+    for _ in 0..bytes.len() {
+        let used = add_next(alloc, &mut reader, left, &mut text)?;
+        let (_, rest) = left.split_at(used);
+        left = rest;
+    }
+    Ok(text)
 }
 
 /// The items of bytes that come in pieces of this size.
@@ -194,7 +229,7 @@ fn items_of_two(alloc: Global, control: bool, bytes: &[u8], at: usize) -> Result
     Ok(text)
 }
 
-/// What a stream says, in pieces of every size and in every two pieces.
+/// What a stream says, whole, in pieces of every size and in every two pieces.
 fn check(
     rt: &impl Abort,
     alloc: Global,
@@ -203,6 +238,8 @@ fn check(
     want: &str,
 ) -> Result<(), Fail> {
     let bytes = hex::decode(alloc, stream)?;
+    let seen = items_by_one(alloc, control, bytes.as_slice())?;
+    assert!(rt; seen.as_str() == want, "{stream} by one");
     for size in 1..=bytes.len() {
         let seen = items_in(alloc, control, bytes.as_slice(), size)?;
         assert!(rt; seen.as_str() == want, "{stream} in pieces of {size}");

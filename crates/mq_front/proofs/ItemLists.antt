@@ -1,10 +1,6 @@
 -- What items ask for, one behind the other.
 use Rattle.std.proofs.Common.{◌≡◌, ℕ, ◌+◌, Bool, true, false, cond, ◌||◌, List, [], ◌∷◌, ◌++◌, refl, sym, ap, ◌∙◌, subst, arith, append_assoc, append-nil}
-use Rattle.std.proofs.lemmas.List.{nil_from_length}
-use Rattle.std.specs.Iterator.{Yields}
 use Rattle.std.specs.List.{list_any}
-use Rattle.std.specs.Vec.Iter.{into_iter_items, into_iter_len, into_iter_steps}
-use Rattle.std.specs.declared.vec.IntoIter.{IntoIter}
 use Rattle.mq_addr.specs.declared.kind.Kind.{Kind}
 use Rattle.mq_capsule.specs.declared.item.Item.{Item}
 use Rattle.mq_machine.specs.declared.act.Act.TheVariants as act
@@ -89,11 +85,3 @@ puts_more o n k xs i old mid new next b c was puts next_is =
       u.1 ∙ ap (λ (d : Bool). d || close_in (F k b)) was.2 ∙ sym (any_both acts (F k b)) ∙ ap close_in whole,
       subst AllMayAct whole (all_both _ acts (F k b) was.3 u.2),
     )
-
--- what the iterator of a vector has given is a front of its items
-pub taken_front : {X A : Type 0} (s : IntoIter X A) (xs : List X) (t : IntoIter X A) → Yields into_iter_steps s xs t → into_iter_items s ≡ xs ++ into_iter_items t
-taken_front s [] t y = ap into_iter_items y
-taken_front s (x ∷ xs) t y = y.1.0 ∙ ap (λ ys. x ∷ ys) (taken_front y.0 xs t y.2)
-
-pub none_left : {X A : Type 0} (it : IntoIter X A) → into_iter_len it ≡ 0 → into_iter_items it ≡ []
-none_left it none = nil_from_length (into_iter_items it) (let is = it.rest.ok in omega arith)

@@ -1,5 +1,6 @@
 pub mod Limits
 pub mod ItemLists
+mod Pieces
 pub mod Values
 pub mod Tables
 mod Asking

@@ -4,7 +4,7 @@ ghost use Rattle.mq_front.specs.Data.{IsStream, Takes, EndsAs};
 
 use crate::dues::Dues;
 use crate::goal::{has_values, kind_of};
-use crate::items::{Carrier, put_if, put_items};
+use crate::items::{Carrier, put_if, read_items};
 use mq_addr::Kind;
 use mq_capsule::Reader;
 use mq_machine::StreamAct;
@@ -65,13 +65,12 @@ impl DataStream {
     ) -> Result<(), NoMemory>
         ensures { OnOk result (Takes mtu self.old bytes.now ends due.old due.new self.new) }
     {
-        let items = self.reader.feed(alloc, bytes)?;
         let carrier = Carrier {
             stream: self.id,
             kind: self.kind,
             mtu,
         };
-        let asked = put_items(alloc, carrier, self.n, items.into_vec(), due)?;
+        let asked = read_items(alloc, carrier, self.n, &mut self.reader, bytes, due)?;
         self.n = asked.n;
         let act = StreamAct::Close { why: self.end() };
         put_if(is_last(ends, asked.closes), self.id, act, due)

@@ -58,6 +58,7 @@ fn read_other(
 }
 
 /// Reads a piece behind so many bytes of the preface.
+#[inline(never)]
 fn read_first<T: Tunnels>(
     alloc: Global,
     setup: &Setup,

@@ -74,6 +74,7 @@ fn lead(
 
 /// What the answer to the bytes of a head leads to: a request with its data behind, or one that is refused. Where they wait for
 /// more bytes, nothing.
+#[inline(never)]
 pub fn behind_head(
     alloc: Global,
     setup: &Setup,

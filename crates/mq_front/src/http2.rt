@@ -56,6 +56,7 @@ impl Http2 {
 
     /// Takes the bytes of one read, and puts what they ask for at the back of the list: requests, judged by the setup
     /// of the proxy, and the capsules of their data streams. After an `Err` it is of no use.
+    #[inline(never)]
     pub fn read<T: Tunnels>(
         &mut self,
         alloc: Global,

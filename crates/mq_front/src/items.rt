@@ -4,11 +4,11 @@ ghost use Rattle.std.specs.Option.{IfSome, option_to_list};
 ghost use Rattle.mq_addr.specs.declared.kind.Kind.TheVariants as kind;
 ghost use Rattle.mq_iptun.specs.Acts.{MayAct};
 ghost use Rattle.mq_machine.specs.Reading.{udp_act, in_context, item_acts, is_payload, is_close, on_stream};
-ghost use Rattle.mq_front.specs.Items.{PutsItem, PutsUnless, PutsItems};
+ghost use Rattle.mq_front.specs.Items.{PutsItem, PutsUnless, PutsMore, ReadsItems};
 
 use crate::dues::Dues;
 use mq_addr::Kind;
-use mq_capsule::Item;
+use mq_capsule::{Item, Reader, Taken};
 use mq_iptun::{item_act, next_number};
 use mq_machine::{Act, Due, StreamAct};
 use mq_talk::{Cause, Why};
@@ -178,22 +178,47 @@ fn put_next(
     Ok(Asked { n, closes })
 }
 
-/// Puts what the items ask for at the back of the list, behind a close nothing. `first` is the number of their first payload.
-pub fn put_items(
+/// The same, where an item was told.
+fn put_told(
+    alloc: Global,
+    carrier: Carrier,
+    asked: Asked,
+    told: Option<Item>,
+    due: &mut Dues,
+) -> Result<Asked, NoMemory>
+    ensures { IfOk result (λ next. PutsMore carrier asked told due.old due.new next) }
+{
+    match told {
+        None => Ok(asked),
+        Some(item) => put_next(alloc, carrier, asked, item, due),
+    }
+}
+
+/// Reads a piece of the data stream, and puts what its items ask for at the back of the list, behind a close nothing. `first`
+/// is the number of their first payload.
+pub fn read_items(
     alloc: Global,
     carrier: Carrier,
     first: u64,
-    items: Vec<Item>,
+    reader: &mut Reader,
+    piece: &[u8],
     due: &mut Dues,
 ) -> Result<Asked, NoMemory>
-    ensures { IfOk result (λ asked. PutsItems carrier first items.items due.old due.new asked.n asked.closes) }
+    ensures { IfOk result (λ asked. ReadsItems carrier first reader.old reader.new piece.now due.old due.new asked.n asked.closes) }
 {
     let mut asked = Asked {
         n: first,
         closes: false,
     };
-    for item in items {
-        asked = put_next(alloc, carrier, asked, item, due)?;
+    let mut left = piece;
+    for _ in 0..piece.len() {
+        if left.is_empty() {
+            return Ok(asked);
+        }
+        let Taken { item, used } = reader.next(alloc, left)?;
+        asked = put_told(alloc, carrier, asked, item, due)?;
+        let (_, after) = left.split_at(used);
+        left = after;
     }
     Ok(asked)
 }
