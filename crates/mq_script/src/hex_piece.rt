@@ -14,11 +14,23 @@ const MOST_PAYLOAD: usize = 65_527;
 /// The most bytes of a packet.
 const MOST_PACKET: usize = 65_535;
 
-/// Whether a text has no capital hex digit, which `hex::decode` takes.
+/// Whether a byte is no capital hex digit.
+fn is_no_capital(digit: u8) -> bool
+    ensures { IsTrue result ↔ ((digit < 65) ⊎ (70 < digit)) }
+{
+    digit < b'A' || digit > b'F'
+}
+
+/// Whether a text has no capital hex digit, which `hex::decode` takes. It looks at each byte, so that it can look at many at
+/// once.
 fn lacks_capitals(text: &[u8]) -> bool
     ensures { IsTrue result ↔ All (λ digit. (digit < 65) ⊎ (70 < digit)) text.now }
 {
-    text.iter().all(|digit| *digit < b'A' || *digit > b'F')
+    let mut lacks = true;
+    for digit in text {
+        lacks &= is_no_capital(*digit);
+    }
+    lacks
 }
 
 /// The bytes that a text spells in hex, in pairs of digits from `0` to `9` and `a` to `f`. There are some.
@@ -61,7 +73,7 @@ pub fn parse_packet(alloc: Global, text: &[u8]) -> Result<Bytes, LineFault>
 }
 
 /// The byte, where there is just one.
-fn single(bytes: &[u8]) -> Option<u8>
+pub fn single(bytes: &[u8]) -> Option<u8>
     ensures { IsFound (λ byte. bytes.now ≡ byte ∷ []) result }
 {
     match bytes {

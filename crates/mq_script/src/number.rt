@@ -2,9 +2,11 @@
 ghost use Rattle.mq_play.specs.Lines.{IsActor, most_room};
 ghost use Rattle.mq_play.specs.Parts.{IsName, IsNumber, IsNumberOr};
 ghost use Rattle.mq_script.specs.Reading.{IsFound};
-ghost use Rattle.std.specs.Prelude.{codes};
+ghost use Rattle.std.specs.Prelude.{◌≡◌, ℕ, ◌≤◌, Some, IfSome, codes};
+ghost use Rattle.mq_text.specs.Number.{Spells};
 
-use mq_text::parse_number;
+use crate::hex_piece::single;
+use mq_text::{parse_number, reads_one};
 
 /// The number that stands for the network.
 pub const NET: u32 = u32::MAX;
@@ -15,11 +17,37 @@ pub const LAST_WORKER: u32 = 3;
 /// The most bytes that a link is said to take.
 const MOST_ROOM: u32 = 2_147_483_647;
 
+/// The number that a text of one digit spells.
+fn digit_of(text: &[u8]) -> Option<u64>
+    ensures { IfSome result (Spells text.now) }
+{
+    let digit = single(text)?;
+    if digit < b'0' || digit > b'9' {
+        return None;
+    }
+    Some(u64::from(digit - b'0'))
+}
+
+/// The number, up to a limit, that a text spells in decimal. Most have one digit, which needs no more.
+fn number_up_to(limit: u64, text: &[u8]) -> Option<u64>
+    ensures some { IfSome result (λ n. (n ≤ limit) × Spells text.now n) }
+    ensures none { (n : ℕ) → n ≤ limit → Spells text.now n → result ≡ Some n }
+{
+    let Some(number) = digit_of(text) else {
+        return parse_number(limit, text);
+    };
+    reads_one();
+    if number > limit {
+        return None;
+    }
+    Some(number)
+}
+
 /// The number within these limits that a text spells in decimal.
 pub fn number_in(low: u32, high: u32, text: &[u8]) -> Option<u32>
     ensures { IsFound (IsNumber low high text.now) result }
 {
-    let number = parse_number(u64::from(high), text)?;
+    let number = number_up_to(u64::from(high), text)?;
     if number < u64::from(low) {
         return None;
     }
