@@ -60,6 +60,7 @@ impl<L: WriteReady> Ring<L> {
     }
 
     /// The connection at a place, which is over, leaves the ring, and is kept until its link is taken.
+    #[inline(never)]
     fn leave(&mut self, place: usize)
         requires { place < vec_len self.old.conns }
         ensures left { self.new.conns.items ≡ remove self.old.conns.items place }

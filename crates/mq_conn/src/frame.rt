@@ -277,6 +277,7 @@ impl Conn {
     }
 
     /// Frames the capsule whose turn it is, or as much of it as there is room for.
+    #[inline(never)]
     pub fn frame(&mut self) -> Result<Note, NoMemory>
         ensures frames { Frames (IsConn self.old) (IsConn self.new) (Starves self.old self.new) result }
         ensures spent { Refuses self.old (is_ok result) }

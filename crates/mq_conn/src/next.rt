@@ -101,6 +101,7 @@ impl Conn {
     }
 
     /// An ending connection closes its tunnels, and is then over once nothing is owed.
+    #[inline(never)]
     fn want_ending(&self, why: End) -> Want
         ensures { (s : machine.Conn) → IsConn self.now s → self.now.ending ≡ Some why → WantIs self.now.pump result (want_of s) }
     {
@@ -226,6 +227,7 @@ fn want_of(alloc: Global, tunnel: &Tunnel, act: &StreamAct) -> Result<Want, NoMe
 }
 
 /// The book is asked for these addresses. Where too many control values wait, the tunnel is to close instead.
+#[inline(never)]
 fn want_assign(alloc: Global, tunnel: &Tunnel, asked: &[Asked]) -> Result<Want, NoMemory>
     ensures { (pump : ℕ) → MayAssign asked.now → WantsOf pump (stream_want (tunnel_is tunnel.now) (asks.Assign asked.now)) result }
 {
@@ -241,6 +243,7 @@ fn want_assign(alloc: Global, tunnel: &Tunnel, asked: &[Asked]) -> Result<Want, 
 }
 
 /// The book is asked whether a tunnel may lead to these ranges.
+#[inline(never)]
 fn want_advertise(alloc: Global, tunnel: u32, ranges: &[Range]) -> Result<Want, NoMemory>
     ensures { (pump : ℕ) → MayAdvertise ranges.now → WantsOf pump (machine_want.Ask (Call.Advertise tunnel ranges.now)) result }
 {

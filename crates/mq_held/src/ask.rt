@@ -46,6 +46,7 @@ impl<L> Held<L> {
     }
 
     /// Asks the book what it wants to ask: that its tunnel opens, or closes.
+    #[inline(never)]
     pub fn ask<O: Office>(&mut self, call: Call, office: &mut O) -> Result<Heard, NoMemory>
         requires sound { IsSound (O.seen office.old) }
         requires may { MayCall (O.seen office.old).config (O.seen office.old).entries (O.seen office.old).actor call }

@@ -51,6 +51,7 @@ impl<L> Held<L> {
     }
 
     /// Binds the port that it wants.
+    #[inline(never)]
     pub fn bind<P: Ports>(
         &mut self,
         addr: Addr,

@@ -12,6 +12,7 @@ use mq_talk::{Note, Office, Origin};
 
 impl<L> Held<L> {
     /// Asks the book whether the packet that it wants judged may go on, and where (RFC 9484, section 4.7).
+    #[inline(never)]
     pub fn judge<O: Office>(&mut self, tunnel: u32, flow: &Flow, office: &mut O) -> Note
         requires may { MayJudge (O.seen office.old) (O.seen office.old).actor (Origin.Tunnel tunnel) }
         ensures gives { (s : machine.Conn) → IsConn self.old.conn s → (n : ℕ) → want_of s ≡ Judge tunnel n flow.now

@@ -13,6 +13,7 @@ use mq_talk::{Mail, Note};
 impl<L> Held<L> {
     /// Pushes the parcel that it wants to push, or drops it where the inbox of its place is full. So many workers have an inbox
     /// before the pump's.
+    #[inline(never)]
     pub fn push<M: Mail>(&mut self, workers: u32, mail: &mut M) -> Note
         requires wants { (s : machine.Conn) × (parcel : Parcel) × IsConn self.old.conn s × (want_of s ≡ Push parcel) × HasInbox workers parcel.to }
         requires inboxes { M.count mail.old ≡ workers + 1 }

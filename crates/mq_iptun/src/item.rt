@@ -28,6 +28,7 @@ pub fn act_of(alloc: Global, mtu: u32, n: u64, item: Item) -> Result<ItemAct, No
 
 /// What an item of the data stream of a tunnel for IP packets asks for, where its payload is number `n` and a packet has
 /// at most `mtu` bytes: nothing, or one act, which isn't `Payload` or `Push`. A packet's bytes move.
+#[inline(never)]
 pub fn item_act(alloc: Global, mtu: u32, n: u64, item: Item) -> Result<Option<StreamAct>, NoMemory>
     ensures is { IfOk result (λ act. item_acts kind.Ip mtu n item ≡ option_to_list act) }
     ensures limits { IfOk result (λ act. IfSome act MayAct) }

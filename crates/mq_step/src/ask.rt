@@ -109,6 +109,7 @@ fn close<L, P: Ports, O: Office>(
 }
 
 /// Asks the book what it wants to ask: that a tunnel opens or closes, or for addresses or ways of one.
+#[inline(never)]
 pub fn ask<L, P: Ports, O: Office>(
     held: &mut Held<L>,
     call: Call,

@@ -20,6 +20,7 @@ use mq_talk::Note;
 use mq_wire::NoMemory;
 
 /// Binds the port that it wants. One that was bound in vain is handed back.
+#[inline(never)]
 pub fn bind<L, P: Ports>(
     held: &mut Held<L>,
     addr: Addr,

@@ -42,6 +42,7 @@ impl Workers {
     }
 
     /// The pump takes a step.
+    #[inline(never)]
     pub(crate) fn pump(&mut self) -> Result<Option<Note>, NoMemory>
         requires { (s : machine.State) × IsWorld self.old s }
         ensures { (s : machine.State) → IsWorld self.old s → (t : machine.State) × IsWorld self.new t × ActorGives s ThePump result t }

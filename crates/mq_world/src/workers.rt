@@ -123,6 +123,7 @@ impl Workers {
     }
 
     /// A new link is offered to a worker.
+    #[inline(never)]
     pub(crate) fn offer(&mut self, actor: u32) -> Result<(), WorldFault>
         requires { (s : machine.State) × IsWorld self.old s }
         ensures { (s : machine.State) → IsWorld self.old s → Happens (IsWorld self.new) s (Conn actor) result }
@@ -174,6 +175,7 @@ impl Workers {
     }
 
     /// The end of a link arrives, and is said.
+    #[inline(never)]
     pub(crate) fn finish(&mut self, conn: u32) -> Result<(), WorldFault>
         requires { (s : machine.State) × IsWorld self.old s }
         ensures { (s : machine.State) → IsWorld self.old s → Happens (IsWorld self.new) s (End conn) result }
