@@ -1,6 +1,6 @@
 #!/usr/bin/env bash
 # Times an inbox with room for 256 parcels, by one, two and four pushers and one popper, and a lane of 32, beside plain Rust
-# that does the same through `sync_channel` and through a ring of atomics: two million of each, wall time, the best of five
+# that does the same through `sync_channel` and through a ring of atomics: 400,000 of each, wall time, the best of five
 # runs. And one parcel in an inbox and out of it, in one thread. Build the tests first: rt test in
 # crates/mq_actors_tests.
 set -eu
@@ -17,7 +17,7 @@ fi
 python3 - "$program" "$plain" <<'PY'
 import subprocess, sys, time
 program, plain = sys.argv[1:]
-count = 2_000_000
+count = 400_000
 
 def best(words):
     times = []

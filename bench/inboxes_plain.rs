@@ -1,5 +1,5 @@
-// What tests of mq_mail do, in plain Rust: `inboxes_plain channel|ring PUSHERS` pushes two million parcels of 40 bytes from so
-// many threads through a queue of 256 and pops them in another; `inboxes_plain lane` puts two million numbers through a
+// What tests of mq_mail do, in plain Rust: `inboxes_plain channel|ring PUSHERS` pushes 400,000 parcels of 40 bytes from so
+// many threads through a queue of 256 and pops them in another; `inboxes_plain lane` puts 400,000 numbers through a
 // channel of 32. Each parcel is looked at as it is popped: those of one pusher are numbered in order.
 use std::cell::UnsafeCell;
 use std::env;
@@ -8,7 +8,7 @@ use std::sync::atomic::{AtomicUsize, Ordering};
 use std::sync::mpsc::{TrySendError, sync_channel};
 use std::thread;
 
-const ALL: u64 = 2_000_000;
+const ALL: u64 = 400_000;
 
 struct Parcel {
     from: u32,

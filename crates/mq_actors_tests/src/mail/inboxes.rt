@@ -396,7 +396,7 @@ fn is_delivered<R: Threads + Wait + Sync>(
 #[test]
 fn two_threads_push_and_one_pops(rt: HostRuntime) -> Result<(), Fail> {
     for &(capacity, left) in &[(1, 0), (1, 1), (2, 0), (16, 10), (256, 256), (2_000, 7)] {
-        for _ in 0..50 {
+        for _ in 0..5 {
             assert!(rt;
                 is_delivered(&rt, rt.alloc(), capacity, left)?,
                 "{capacity}"

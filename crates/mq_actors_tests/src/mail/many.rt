@@ -18,7 +18,7 @@ use std::thread;
 use std::thread::Threads;
 
 /// All parcels of a run together.
-const ALL: u64 = 2_000_000;
+const ALL: u64 = 400_000;
 
 /// What one thread does: it pushes so many parcels to inbox 4, or pops so many there.
 #[derive(Drop)]
@@ -96,7 +96,7 @@ fn is_delivered_by<R: Threads + Wait + Sync>(
 #[test]
 fn one_puts(rt: HostRuntime) -> Result<(), Fail> {
     let (lane, into, out) = make_lane(rt.alloc(), 32)?;
-    assert!(rt; are_taken(&rt, lane, into, out, 2_000_000));
+    assert!(rt; are_taken(&rt, lane, into, out, ALL as u32));
     Ok(())
 }
 
