@@ -1,9 +1,9 @@
 -- What a reader has read.
-use Rattle.std.proofs.Common.{◌≡◌, ◌≢◌, ℕ, ◌+◌, ◌<◌, ◌≤◌, Bool, true, false, not, ltb, eqb, ◌↔◌, List, [], ◌∷◌, ◌++◌, length, take, Option, Some, None, option_to_list, refl, sym, ap, subst, ◌∙◌, arith, append_assoc, append-nil}
+use Rattle.std.proofs.Common.{◌≡◌, ◌≢◌, ℕ, ◌+◌, ◌<◌, ◌≤◌, Bool, true, false, not, ltb, eqb, ◌↔◌, List, [], ◌∷◌, ◌++◌, length, take, drop, Option, Some, None, option_to_list, refl, sym, ap, subst, ◌∙◌, arith, append_assoc, append-nil}
 use Rattle.std.specs.List.{filter_map, list_any}
 use Rattle.std.proofs.lemmas.List.Elements.{filter_map-append}
 use Rattle.std.proofs.lemmas.List.Folds.{list_any-append}
-use Rattle.std.proofs.lemmas.Bool.{both_ways, or_from, or_right, lt-ltb, ne_eqb}
+use Rattle.std.proofs.lemmas.Bool.{both_ways, or_from, or_right, lt-ltb, ne_eqb, eqb-true}
 use Rattle.std.proofs.lemmas.List.{length-append}
 use Rattle.mq_capsule.specs.declared.front.Front.{Front}
 use Rattle.mq_capsule.specs.declared.front.Plan.TheVariants.{Keep, Skip}
@@ -11,17 +11,18 @@ use Rattle.mq_capsule.specs.declared.item.Item.{Item}
 use Rattle.mq_capsule.specs.declared.state.State.{State}
 use Rattle.mq_capsule.specs.declared.state.State.TheVariants as state
 use Rattle.mq_capsule.specs.declared.step.Step.{Step}
+use Rattle.mq_capsule.specs.declared.step.Whole.{Whole}
 use Rattle.mq_capsule.specs.declared.reader.Reader.{Reader}
 use Rattle.mq_capsule.specs.Capsule.{Capsule, AreCapsules, head_of}
 use Rattle.mq_capsule.specs.Items.{ItemsOf, EndsInside, item_of, head_items, is_bad, max_control, up_to_bad, said}
 use Rattle.mq_capsule.specs.Fronts.{front_of}
-use Rattle.mq_capsule.specs.Steps.{Holds, IsOpen, IsEnded, IsAt, IsStep, StaysEnded, is_begun}
-use Rattle.mq_capsule.specs.Readers.{HasRead, Stands, Went, kept, room_of}
+use Rattle.mq_capsule.specs.Steps.{Holds, IsOpen, IsEnded, IsAt, IsStep, StaysEnded, IsIn, GoesFar, is_begun, is_between, kept_item}
+use Rattle.mq_capsule.specs.Readers.{HasRead, LeavesNone, Stands, Went, kept, room_of}
 use Rattle.mq_capsule.proofs.Fronts.{front_none, front_front}
 use Rattle.mq_capsule.proofs.Capsules.{capsules_on, capsules_one}
 use Rattle.mq_capsule.proofs.Items.{up_sound, up_any, items_behind, items_ended, items_one}
 use Rattle.mq_capsule.proofs.Plans.{KeepMeans, front_means}
-use Rattle.mq_capsule.proofs.Steps.{kept_len}
+use Rattle.mq_capsule.proofs.Steps.{kept_len, whole_kept, front_nothing}
 
 -- One reading behind another.
 
@@ -107,6 +108,22 @@ some_used old before piece step before_is some ended control bytes stands there 
     let Q : State → Type 0 = λ s. IsAt control s bytes stands.0 in
     some_step control before piece step (subst P read.control_is some) ended bytes stands.0 (subst Q (sym before_is) read.at) there
 
+far_step : (control : Bool) (s : State) (piece : List ℕ) (step : Step) → ((rest : List ℕ) → Holds control s rest → GoesFar piece step)
+    → StaysEnded s piece step → (bytes : List ℕ) (items : List Item) → IsAt control s bytes items → GoesFar piece step
+far_step control (state.Front head) piece step far ended bytes items at = far at.rest at.holds
+far_step control (state.Keep what bytes' missing) piece step far ended bytes items at = far at.rest at.holds
+far_step control (state.Skip what missing) piece step far ended bytes items at = far at.rest at.holds
+far_step control state.Ended piece step far ended bytes items at = λ less. absurd (omega (arith, ended.2, less))
+far_step control state.Spent piece step far ended bytes items at = absurd at
+
+pub far_used : (old new : Reader) (before : State) (piece : List ℕ) (step : Step) → before ≡ old.state → new.state ≡ step.state
+    → ((rest : List ℕ) → Holds old.control before rest → GoesFar piece step) → StaysEnded before piece step → step.used < length piece → LeavesNone old new
+far_used old new before piece step before_is new_is far ended less control bytes stands =
+    let read = stands.1 in
+    let P : Bool → Type 0 = λ c. (rest : List ℕ) → Holds c before rest → GoesFar piece step in
+    let Q : State → Type 0 = λ s. IsAt control s bytes stands.0 in
+    ap is_begun new_is ∙ far_step control before piece step (subst P read.control_is far) ended bytes stands.0 (subst Q (sym before_is) read.at) less
+
 -- one piece after the other
 pub went_on : (a b c : Reader) (piece next : List ℕ) (more later : List Item) → Went a b piece more → Went b c next later → Went a c (piece ++ next) (more ++ later)
 went_on a b c piece next more later first second control bytes items read =
@@ -120,11 +137,51 @@ went_nothing r control bytes items read =
     let P : List ℕ → List Item → Type 0 = λ x y. HasRead r control x y in
     subst (λ (x : List ℕ). P x (items ++ [])) (sym (append-nil bytes)) (subst (P bytes) (sym (append-nil items)) read)
 
--- The ends of reading a piece.
+-- A capsule that is whole in one piece.
 
 nothing : (bytes : List ℕ) → length bytes ≡ 0 → bytes ≡ []
 nothing [] e = refl
 nothing (b ∷ bytes) e = absurd (omega arith)
+
+between_holds : (control : Bool) (s : State) (rest : List ℕ) → is_between s ≡ true → Holds control s rest → (rest ≡ []) × Holds control s []
+between_holds control (state.Front head) rest between holds =
+    let none = nothing head.items (eqb-true (length head.items) 0 between) in
+    (holds.0 ∙ none, (sym none, front_nothing control))
+between_holds control (state.Keep what bytes' missing) rest between holds = absurd cc
+between_holds control (state.Skip what missing) rest between holds = absurd cc
+between_holds control state.Ended rest between holds = absurd holds
+between_holds control state.Spent rest between holds = absurd holds
+
+between_open : (s : State) (piece : List ℕ) (step : Step) → is_between s ≡ true → StaysEnded s piece step
+between_open (state.Front head) piece step between = tt
+between_open (state.Keep what bytes' missing) piece step between = tt
+between_open (state.Skip what missing) piece step between = tt
+between_open state.Ended piece step between = absurd cc
+between_open state.Spent piece step between = tt
+
+pub whole_went : (old : Reader) (piece : List ℕ) (whole : Whole) (item : Item) → is_between old.state ≡ true → IsIn old.control piece whole
+    → item ≡ kept_item whole.what (take whole.length (drop whole.front piece)) → Went old old (take (whole.front + whole.length) piece) (item ∷ [])
+whole_went old piece whole item between is_in item_is =
+    let step : Step = record { state = old.state; told = Some item; used = whole.front + whole.length } in
+    let gives : (rest : List ℕ) → Holds old.control old.state rest → IsStep old.control rest piece step = λ rest holds.
+    let b = between_holds old.control old.state rest between holds in
+    let P : List ℕ → Type 0 = λ r. IsStep old.control r piece step in
+    subst P (sym b.0) (whole_kept old.control piece (take whole.length (drop whole.front piece)) whole.what whole.length whole.front item old.state
+    is_in.0 is_in.1 refl item_is b.1) in
+    went_step old old.state piece step (Some item) refl refl gives (between_open old.state piece step between)
+
+pub whole_leaves : (s : State) → is_between s ≡ true → is_begun s ≡ false
+whole_leaves (state.Front head) between = ap not between
+whole_leaves (state.Keep what bytes' missing) between = absurd cc
+whole_leaves (state.Skip what missing) between = absurd cc
+whole_leaves state.Ended between = refl
+whole_leaves state.Spent between = refl
+
+pub whole_some : (control : Bool) (piece : List ℕ) (whole : Whole) → IsIn control piece whole → 0 < whole.front + whole.length
+whole_some control piece whole is_in =
+    omega (arith, (front_front control piece (record { plan = Keep whole.what whole.length; used = whole.front }) is_in.0).some)
+
+-- The ends of reading a piece.
 
 -- all of it was read
 pub went_all : (start now : Reader) (done left piece : List ℕ) (more : List Item) → Went start now done more → done ++ left ≡ piece → length left ≡ 0

@@ -305,3 +305,16 @@ kept_first control rest p what size bytes p_is none seen =
           ∙ ap (λ (n : ℕ). Some (record { plan = Keep what n; used = length rest })) count;
       bytes_are = none ∙ sym (drop_all (length rest) rest (omega arith));
     }
+
+-- A capsule that is whole in one piece.
+
+pub whole_kept : (control : Bool) (piece value : List ℕ) (what : Kept) (size used : ℕ) (item : Item) (s : State)
+    → front_of control piece ≡ Some (record { plan = Keep what size; used = used }) → used + size ≤ length piece → value ≡ take size (drop used piece)
+    → item ≡ kept_item what value → Holds control s [] → IsStep control [] piece (record { state = s; told = Some item; used = used + size })
+whole_kept control piece value what size used item s seen within value_is item_is holds =
+    let front : Front = record { plan = Keep what size; used = used } in
+    let all : front_of control (take (length piece) piece) ≡ Some front = ap (front_of control) (take_all (length piece) piece (omega arith)) ∙ seen in
+    let cut = front_cut control [] piece (length piece) used front (front_nothing control) all (omega arith) (omega arith) in
+    step_behind control [] piece used (record { state = s; told = Some item; used = size })
+    (kept_ends control (take used piece) (drop used piece) what [] value size s item (kept_first control (take used piece) (Keep what size) what size [] refl refl cut.front_is)
+    value_is (omega (arith, within, length-drop used piece)) item_is holds)

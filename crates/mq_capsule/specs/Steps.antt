@@ -1,5 +1,5 @@
 -- What a reader keeps of an unfinished capsule, and what a step of it does.
-use Rattle.std.specs.Prelude.{◌≡◌, ℕ, ◌+◌, ◌<◌, List, [], ◌++◌, length, take, drop, Option, Some, None, Bool, true, false, not, ◌==◌, option_to_list}
+use Rattle.std.specs.Prelude.{◌≡◌, ℕ, ◌+◌, ◌<◌, ◌≤◌, List, [], ◌++◌, length, take, drop, Option, Some, None, Bool, true, false, not, ◌==◌, option_to_list}
 use Rattle.std.specs.List.{filter_map, list_any}
 use Rattle.mq_capsule.specs.declared.front.Plan.{Plan}
 use Rattle.mq_capsule.specs.declared.front.Plan.TheVariants.{Keep, Skip}
@@ -12,6 +12,7 @@ use Rattle.mq_capsule.specs.declared.item.Item.TheVariants as item
 use Rattle.mq_capsule.specs.declared.state.State.{State}
 use Rattle.mq_capsule.specs.declared.state.State.TheVariants as state
 use Rattle.mq_capsule.specs.declared.step.Step.{Step}
+use Rattle.mq_capsule.specs.declared.step.Whole.{Whole}
 use Rattle.mq_capsule.specs.Capsule.{Capsule, AreCapsules, head_of}
 use Rattle.mq_capsule.specs.Items.{ItemsOf, item_of, head_items, is_bad}
 use Rattle.mq_capsule.specs.Fronts.{front_of}
@@ -54,6 +55,14 @@ is_begun (state.Skip what missing) = true
 is_begun state.Ended = false
 is_begun state.Spent = false
 
+-- nothing was read of the capsule that comes next
+abbrev pub is_between : State → Bool
+is_between (state.Front head) = length head.items == 0
+is_between (state.Keep what bytes missing) = false
+is_between (state.Skip what missing) = false
+is_between state.Ended = false
+is_between state.Spent = false
+
 -- the bytes are whole capsules that say these items, none bad, and a rest that the state holds
 pub record IsOpen (control : Bool) (s : State) (bytes : List ℕ) (items : List Item) : Type 0 where
   pub capsules : List Capsule
@@ -81,6 +90,11 @@ IsAt control state.Spent bytes items = ⊥
 pub record IsStep (control : Bool) (rest piece : List ℕ) (s : Step) : Type 0 where
   pub at : IsAt control s.state (rest ++ take s.used piece) (option_to_list s.told)
 
+-- a capsule that is kept, whose front the piece begins with, and whose bytes the piece has
+abbrev pub IsIn : Bool → List ℕ → Whole → Type 0
+IsIn control piece whole =
+    (front_of control piece ≡ Some (record { plan = Keep whole.what whole.length; used = whole.front })) × (whole.front + whole.length ≤ length piece)
+
 -- a step that took the whole piece, with which nothing is whole
 abbrev pub all_taken : State → List ℕ → Step
 all_taken s piece = record { state = s; told = None; used = length piece }
@@ -92,6 +106,10 @@ LeadsTo control s piece step = (rest : List ℕ) → Holds control s rest → Is
 -- and it takes a byte at least, where there is one
 abbrev pub TakesSome : Bool → State → List ℕ → ℕ → Type 0
 TakesSome control s piece used = (rest : List ℕ) → Holds control s rest → 0 < length piece → 0 < used
+
+-- it takes all of the piece, or leaves nothing unfinished
+abbrev pub GoesFar : List ℕ → Step → Type 0
+GoesFar piece step = step.used < length piece → is_begun step.state ≡ false
 
 -- from a front that has just come
 abbrev pub LeadsFrom : Plan → List ℕ → Step → Type 0

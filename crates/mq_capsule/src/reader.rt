@@ -1,12 +1,12 @@
 //! The reader of capsules, from pieces in any cutting.
 ghost use Rattle.std.specs.Prelude.{◌≡◌, ℕ, ◌<◌, ◌≤◌, List, [], Bool, true, length, take, option_to_list, IfOk, OnOk, OnErr, IsErr};
 ghost use Rattle.mq_capsule.specs.Items.{max_control};
-ghost use Rattle.mq_capsule.specs.Readers.{Stands, StandsOn, GivesItems, AreSized, TellsBegun, IsSpent, Reads, TakesSome, Went};
+ghost use Rattle.mq_capsule.specs.Readers.{Stands, StandsOn, GivesItems, AreSized, TellsBegun, IsSpent, Reads, TakesSome, LeavesNone, Went};
 ghost use Rattle.mq_capsule.specs.Readers.{KeepsAtMost, KeepsFew};
 
 use super::item::{Item, Truncated};
 use super::state::State;
-use super::step::{Step, advance, take_in_place};
+use super::step::{Step, advance, take_in_place, take_whole, whole_in};
 use arrayvec::ArrayVec;
 use mq_wire::{NoMemory, Seq};
 use std::alloc::Global;
@@ -73,6 +73,7 @@ impl Reader {
     pub fn next(&mut self, alloc: Global, piece: &[u8]) -> Result<Taken, NoMemory>
         ensures within { IfOk result (λ taken. taken.used ≤ length piece.now) }
         ensures some { IfOk result (λ taken. TakesSome self.old piece.now taken.used) }
+        ensures far { IfOk result (λ taken. taken.used < length piece.now → LeavesNone self.old self.new) }
         ensures items { IfOk result (λ taken. GivesItems self.old (take taken.used piece.now) (option_to_list taken.item)) }
         ensures sized { IfOk result (λ taken. AreSized self.old (option_to_list taken.item)) }
         ensures stands { IfOk result (λ taken. StandsOn self.old self.new (take taken.used piece.now)) }
@@ -145,10 +146,30 @@ impl Reader {
         }
     }
 
-    /// Takes bytes until a capsule is whole, or all of them.
+    /// Takes bytes until a capsule is whole, or all of them. One that is whole in the piece is read where it lies.
     fn advance(&mut self, alloc: Global, piece: &[u8]) -> Result<Taken, NoMemory>
         ensures within { IfOk result (λ taken. taken.used ≤ length piece.now) }
         ensures some { IfOk result (λ taken. TakesSome self.old piece.now taken.used) }
+        ensures far { IfOk result (λ taken. taken.used < length piece.now → LeavesNone self.old self.new) }
+        ensures went { IfOk result (λ taken. Went self.old self.new (take taken.used piece.now) (option_to_list taken.item)) }
+    {
+        if self.state.is_between() {
+            if let Some(whole) = whole_in(self.control, piece) {
+                let item = take_whole(alloc, whole, piece)?;
+                return Ok(Taken {
+                    item: Some(item),
+                    used: whole.front + whole.length,
+                });
+            }
+        }
+        self.go_on(alloc, piece)
+    }
+
+    /// The same, from any state.
+    fn go_on(&mut self, alloc: Global, piece: &[u8]) -> Result<Taken, NoMemory>
+        ensures within { IfOk result (λ taken. taken.used ≤ length piece.now) }
+        ensures some { IfOk result (λ taken. TakesSome self.old piece.now taken.used) }
+        ensures far { IfOk result (λ taken. taken.used < length piece.now → LeavesNone self.old self.new) }
         ensures went { IfOk result (λ taken. Went self.old self.new (take taken.used piece.now) (option_to_list taken.item)) }
     {
         if take_in_place(&mut self.state, piece)? {

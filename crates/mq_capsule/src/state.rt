@@ -1,6 +1,6 @@
 //! What a reader keeps of a capsule that isn't whole.
 ghost use Rattle.std.specs.Prelude.{◌≡◌};
-ghost use Rattle.mq_capsule.specs.Steps.{is_begun};
+ghost use Rattle.mq_capsule.specs.Steps.{is_begun, is_between};
 
 use super::front::{Kept, Skipped};
 use arrayvec::ArrayVec;
@@ -30,6 +30,16 @@ pub enum State {
 }
 
 impl State {
+    /// Whether nothing was read of the capsule that comes next.
+    pub fn is_between(&self) -> bool
+        ensures { result ≡ is_between self.now }
+    {
+        match self {
+            State::Front { bytes } => bytes.is_empty(),
+            _ => false,
+        }
+    }
+
     /// Whether bytes of an unfinished capsule were read.
     pub fn is_begun(&self) -> bool
         ensures { result ≡ is_begun self.now }

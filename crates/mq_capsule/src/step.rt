@@ -1,7 +1,7 @@
 //! One step of reading: bytes of a piece, until a capsule is whole or the piece ends.
-ghost use Rattle.std.specs.Prelude.{◌≡◌, ◌<◌, ◌≤◌, Bool, true, false, None, length, IfOk};
+ghost use Rattle.std.specs.Prelude.{◌≡◌, ◌+◌, ◌<◌, ◌≤◌, Bool, true, false, None, length, take, drop, ℕ, List, IfOk, IfSome};
 ghost use Rattle.mq_capsule.specs.Fronts.{front_of};
-ghost use Rattle.mq_capsule.specs.Steps.{IsStep, LeadsTo, LeadsFrom, LeadsFromKept, LeadsFromSkipped, TakesSome};
+ghost use Rattle.mq_capsule.specs.Steps.{IsIn, IsStep, LeadsTo, LeadsFrom, LeadsFromKept, LeadsFromSkipped, TakesSome, GoesFar, Holds};
 ghost use Rattle.mq_capsule.specs.Steps.{StaysEnded, all_taken, kept_item, skipped_item};
 
 use super::front::{Front, Kept, Plan, Skipped};
@@ -22,10 +22,50 @@ pub struct Step {
     pub used: usize,
 }
 
+/// A capsule that is kept and is whole in one piece, whose first byte is that of the piece.
+#[derive(Clone, Copy)]
+pub struct Whole {
+    pub what: Kept,
+    /// How many bytes its front has.
+    pub front: usize,
+    /// How many are kept behind that.
+    pub length: usize,
+}
+
+/// The capsule that a piece begins with, where it is kept and is whole there.
+pub fn whole_in(control: bool, piece: &[u8]) -> Option<Whole>
+    ensures { IfSome result (λ whole. IsIn control piece.now whole) }
+{
+    let front = Front::of(control, piece)?;
+    let Plan::Keep { what, length } = front.plan else {
+        return None;
+    };
+    if length > (piece.len() - front.used) as u64 {
+        return None;
+    }
+    Some(Whole {
+        what,
+        front: front.used,
+        length: length as usize,
+    })
+}
+
+/// What that capsule says.
+pub fn take_whole(alloc: Global, whole: Whole, piece: &[u8]) -> Result<Item, NoMemory>
+    requires { whole.front + whole.length ≤ length piece.now }
+    ensures { IfOk result (λ item. item ≡ kept_item whole.what (take whole.length (drop whole.front piece.now))) }
+{
+    let (_, behind) = piece.split_at(whole.front);
+    let (value, _) = behind.split_at(whole.length);
+    let bytes = Vec::from_slice(alloc, value)?;
+    Ok(whole.what.item(bytes))
+}
+
 /// A step from any state.
 pub fn advance(alloc: Global, control: bool, state: State, piece: &[u8]) -> Result<Step, NoMemory>
     ensures within { IfOk result (λ s. s.used ≤ length piece.now) }
     ensures some { IfOk result (λ s. TakesSome control state piece.now s.used) }
+    ensures far { IfOk result (λ s. (rest : List ℕ) → Holds control state rest → GoesFar piece.now s) }
     ensures gives { IfOk result (λ s. LeadsTo control state piece.now s) }
     ensures ended { IfOk result (λ s. StaysEnded state piece.now s) }
 {
@@ -84,6 +124,7 @@ fn read_front(
 ) -> Result<Step, NoMemory>
     ensures within { IfOk result (λ s. s.used ≤ length piece.now) }
     ensures some { IfOk result (λ s. front_of control front.items ≡ None → 0 < length piece.now → 0 < s.used) }
+    ensures far { IfOk result (λ s. GoesFar piece.now s) }
     ensures gives { IfOk result (λ s.
         front_of control front.items ≡ None → IsStep control front.items piece.now s) }
 {
@@ -116,6 +157,7 @@ fn read_front(
 /// Takes the first bytes behind a front.
 fn begin(alloc: Global, plan: Plan, piece: &[u8]) -> Result<Step, NoMemory>
     ensures within { IfOk result (λ s. s.used ≤ length piece.now) }
+    ensures far { IfOk result (λ s. GoesFar piece.now s) }
     ensures gives { IfOk result (λ s. LeadsFrom plan piece.now s) }
 {
     match plan {
@@ -133,6 +175,7 @@ fn begin(alloc: Global, plan: Plan, piece: &[u8]) -> Result<Step, NoMemory>
 fn read_kept(what: Kept, bytes: Vec<u8>, missing: u64, piece: &[u8]) -> Result<Step, NoMemory>
     ensures within { IfOk result (λ s. s.used ≤ length piece.now) }
     ensures some { IfOk result (λ s. 0 < missing → 0 < length piece.now → 0 < s.used) }
+    ensures far { IfOk result (λ s. GoesFar piece.now s) }
     ensures gives { IfOk result (λ s. LeadsFromKept what bytes.items missing piece.now s) }
 {
     let mut bytes = bytes;
@@ -164,6 +207,7 @@ fn read_kept(what: Kept, bytes: Vec<u8>, missing: u64, piece: &[u8]) -> Result<S
 fn read_past(what: Skipped, missing: u64, piece: &[u8]) -> Step
     ensures within { result.used ≤ length piece.now }
     ensures some { 0 < missing → 0 < length piece.now → 0 < result.used }
+    ensures far { GoesFar piece.now result }
     ensures gives { LeadsFromSkipped what missing piece.now result }
 {
     if (piece.len() as u64) < missing {

@@ -1,4 +1,4 @@
-use Rattle.std.proofs.Common.{◌≡◌, ℕ, List, ◌++◌, take, None, ◌∙◌, sym, ap, subst, arith}
+use Rattle.std.proofs.Common.{◌≡◌, ℕ, List, ◌++◌, length, take, None, ◌∙◌, sym, ap, subst, arith}
 use Rattle.mq_capsule.specs.Fronts.{front_of}
 use Rattle.mq_capsule.specs.Steps.{IsStep}
 use Rattle.mq_capsule.proofs.Fronts.{front_none}
@@ -37,3 +37,9 @@ returns-in_ok-state-in-Some-clause-gives c = λ none.
     let P : List ℕ → Type 0 = λ p. IsStep c.args.control rest p c.in_ok-state-in-Some.field-0 in
     step_behind c.args.control c.args.front.items piece c.saturating_sub-lacking.result c.in_ok-state-in-Some.field-0
     (subst P c.split_at-in-Some.ensures.back (c.in_ok-state-in-Some.ensures.gives c.args.control rest front))
+
+-- a front has fewer bytes than there is room for
+pub returns-in-None-clause-far : goal.returns-in-None-clause-far
+returns-in-None-clause-far c = λ less.
+    let seen = front_none c.args.control c.as_slice.result.now (sym c.in-None.ensures.is) in
+    absurd (omega (arith, less, seen, ap length c.as_slice.ensures.value, c.in-Ok.ensures.len))

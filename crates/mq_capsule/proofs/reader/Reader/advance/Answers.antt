@@ -1,19 +1,14 @@
-use Rattle.std.proofs.Common.{None, refl, ◌∙◌}
-use Rattle.mq_capsule.specs.Steps.{all_taken}
-use Rattle.mq_capsule.proofs.Readers.{went_step, some_used}
+use Rattle.std.proofs.Common.{sym, ◌∙◌}
+use Rattle.mq_capsule.proofs.Readers.{whole_went, whole_some, whole_leaves}
 use Rattle.mq_capsule.proofs.reader.Reader.advance.Goals as goal
 
-pub returns-clause-some : goal.returns-clause-some
-returns-clause-some c =
-    some_used c.args.self.now c.replace-state.result c.args.piece.now c.in_ok-state.field-0
-    (c.replace-state.ensures.value ∙ c.in_ok-take_in_place.ensures.leaves c.if-branch.false) c.in_ok-state.ensures.some c.in_ok-state.ensures.ended
+pub returns-in-Some-clause-some : goal.returns-in-Some-clause-some
+returns-in-Some-clause-some c = λ control bytes stands there. whole_some c.args.self.now.control c.args.piece.now c.in-Some.whole c.in-Some.ensures
 
-pub returns-clause-went : goal.returns-clause-went
-returns-clause-went c =
-    went_step c.args.self.now c.replace-state.result c.args.piece.now c.in_ok-state.field-0 c.in_ok-state.field-0.told (c.replace-state.ensures.value ∙ c.in_ok-take_in_place.ensures.leaves c.if-branch.false) refl
-    c.in_ok-state.ensures.gives c.in_ok-state.ensures.ended
+pub returns-in-Some-clause-went : goal.returns-in-Some-clause-went
+returns-in-Some-clause-went c =
+    whole_went c.args.self.now c.args.piece.now c.in-Some.whole c.in_ok-item.item (sym c.is_between.ensures ∙ c.if-is_between.true) c.in-Some.ensures
+    c.in_ok-item.ensures
 
-pub returns-then-branch-clause-went : goal.returns-then-branch-clause-went
-returns-then-branch-clause-went c =
-    went_step c.args.self.now c.args.self.now.state c.args.piece.now (all_taken c.take_in_place.new.state c.args.piece.now) None refl refl
-    (c.in_ok-take_in_place.ensures.takes c.if-branch.true c.args.self.now.control) (c.in_ok-take_in_place.ensures.open c.if-branch.true)
+pub returns-in-Some-clause-far : goal.returns-in-Some-clause-far
+returns-in-Some-clause-far c = λ less control bytes stands. whole_leaves c.args.self.now.state (sym c.is_between.ensures ∙ c.if-is_between.true)
