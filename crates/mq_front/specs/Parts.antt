@@ -14,6 +14,7 @@ use Rattle.mq_machine.specs.Reading.{EventsAsk, EndsBy, HeadBrings, Other, Strea
 use Rattle.mq_machine.specs.State as machine
 use Rattle.mq_machine.specs.State.{Stream, Tunnel, OverHttp1}
 use Rattle.mq_front.specs.declared.front.Front.{Front}
+use Rattle.mq_front.specs.declared.front.Front.TheVariants as front
 use Rattle.mq_front.specs.declared.http1.Http1.{Http1 as One}
 use Rattle.mq_front.specs.declared.http2.Http2.{Http2 as Many}
 use Rattle.mq_front.specs.Fronts.{IsHttp1, OverFrames, ReadsTo}
@@ -62,6 +63,13 @@ EndsData one reason = (streams : List Stream) (owed : List ℕ) → IsHttp1 one 
     → (inside : Bool) × EndsBy OverHttp1 streams inside × (reason ≡ (if inside then why.Truncated else why.End))
 
 -- ---- the first bytes
+
+-- a part of a head of HTTP/1.1 came
+abbrev pub IsInHead : Front → Type 0
+IsInHead (front.Preface count) = ⊥
+IsInHead (front.Head reader) = Unit {0}
+IsInHead (front.Http1 one) = ⊥
+IsInHead (front.Http2 many) = ⊥
 
 -- bytes behind a part of the preface
 abbrev pub ReadsBehind : Setup → List Tunnel → ℕ → List ℕ → List Due → List Due → Front → Type 0

@@ -4,10 +4,9 @@ ghost use Rattle.mq_front.specs.Data.{IsStream, Takes, EndsAs};
 
 use crate::dues::Dues;
 use crate::goal::{has_values, kind_of};
-use crate::items::{Carrier, put_if, read_items};
+use crate::items::{Carrier, close_if, read_items};
 use mq_addr::Kind;
 use mq_capsule::Reader;
-use mq_machine::StreamAct;
 use mq_talk::{Goal, Why};
 use mq_wire::NoMemory;
 use std::alloc::Global;
@@ -72,7 +71,6 @@ impl DataStream {
         };
         let asked = read_items(alloc, carrier, self.n, &mut self.reader, bytes, due)?;
         self.n = asked.n;
-        let act = StreamAct::Close { why: self.end() };
-        put_if(is_last(ends, asked.closes), self.id, act, due)
+        close_if(is_last(ends, asked.closes), self.id, self.end(), due)
     }
 }

@@ -12,7 +12,7 @@ ghost use Rattle.mq_front.specs.Streams.{HasNone, IsPlaceOf};
 use crate::data::DataStream;
 use crate::dues::Dues;
 use crate::goal::goal_act;
-use crate::items::put_if;
+use crate::items::close_if;
 use crate::judge::Verdict;
 use crate::request::judge_request;
 use mq_h2::StreamEvent;
@@ -97,7 +97,7 @@ fn lead(
     ensures { OnOk result (Leads id goal ends due.old due.new streams.old.items streams.new.items) }
 {
     due.push(Due::Do(goal_act(id, goal)))?;
-    put_if(ends, id, StreamAct::Close { why: Why::End }, due)?;
+    close_if(ends, id, Why::End, due)?;
     streams.push(DataStream::new(id, goal))?;
     Ok(())
 }

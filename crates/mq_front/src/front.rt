@@ -3,9 +3,9 @@ ghost use Rattle.std.specs.Prelude.{◌≡◌, ◌==◌, ◌++◌, ◌≤◌, if
 ghost use Rattle.mq_machine.specs.Done.{success, refusal};
 ghost use Rattle.mq_machine.specs.Settle.{spending, updating};
 ghost use Rattle.mq_machine.specs.State as machine;
-ghost use Rattle.mq_machine.specs.State.{Stream};
+ghost use Rattle.mq_machine.specs.State.{Stream, Tunnel};
 ghost use Rattle.mq_machine.specs.Steps.{frame_size};
-ghost use Rattle.mq_front.specs.Parts.{ReadsOther, ReadsBehind};
+ghost use Rattle.mq_front.specs.Parts.{IsInHead, ReadsOther, ReadsBehind};
 ghost use Rattle.mq_front.specs.Fronts.{IsFront, HasPut, Puts, Reads, Closed, Frames, CanSpend, Finishes};
 
 use crate::dues::Dues;
@@ -122,6 +122,49 @@ impl Front {
         }
     }
 
+    /// Reads a piece behind so many bytes of the preface.
+    #[inline(never)]
+    fn read_preface<T: Tunnels>(
+        &mut self,
+        alloc: Global,
+        setup: &Setup,
+        tunnels: &T,
+        count: usize,
+        piece: &[u8],
+        due: &mut Dues,
+    ) -> Result<(), NoMemory>
+        ensures { OnOk result (ReadsBehind setup.now (T.list tunnels.now) count piece.now due.old due.new self.new) }
+    {
+        *self = read_first(alloc, setup, tunnels, count, piece, due)?;
+        Ok(())
+    }
+
+    /// Reads a piece behind a part of a head.
+    #[inline(never)]
+    fn read_head(
+        &mut self,
+        alloc: Global,
+        setup: &Setup,
+        piece: &[u8],
+        due: &mut Dues,
+    ) -> Result<(), NoMemory>
+        requires { IsInHead self.old }
+        ensures { OnOk result ((ts : List Tunnel) → Reads setup.now ts piece.now due.old due.new self.old self.new) }
+    {
+        match self {
+            Front::Head(reader) => {
+                let step = reader.feed(alloc, piece)?;
+                if let Some(one) = behind_head(alloc, setup, step, piece, due)? {
+                    *self = Front::Http1(one);
+                }
+                Ok(())
+            }
+            Front::Preface(_) => unreachable!(),
+            Front::Http1(_) => unreachable!(),
+            Front::Http2(_) => unreachable!(),
+        }
+    }
+
     /// Takes the bytes of one read, and puts what they ask for at the back of the list: requests, judged by the setup
     /// of the proxy, and the capsules of their data streams. After an `Err` it is of no use.
     pub fn read<T: Tunnels>(
@@ -137,16 +180,9 @@ impl Front {
         match self {
             Front::Preface(count) => {
                 let count = *count;
-                *self = read_first(alloc, setup, tunnels, count, piece, due)?;
-                Ok(())
+                self.read_preface(alloc, setup, tunnels, count, piece, due)
             }
-            Front::Head(reader) => {
-                let step = reader.feed(alloc, piece)?;
-                if let Some(one) = behind_head(alloc, setup, step, piece, due)? {
-                    *self = Front::Http1(one);
-                }
-                Ok(())
-            }
+            Front::Head(_) => self.read_head(alloc, setup, piece, due),
             Front::Http1(one) => one.read(alloc, setup.mtu, piece, due),
             Front::Http2(many) => {
                 reads_stand_apart();

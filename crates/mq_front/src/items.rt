@@ -1,8 +1,10 @@
 //! What the items of a data stream ask for.
-ghost use Rattle.std.specs.Prelude.{◌≡◌, ◌+◌, ◌++◌, ◌∷◌, [], IfOk, OnOk, if◌then◌else◌};
+ghost use Rattle.std.specs.Prelude.{◌≡◌, ◌+◌, ◌++◌, ◌∷◌, [], ℕ, true, IfOk, OnOk, if◌then◌else◌};
 ghost use Rattle.std.specs.Option.{IfSome, option_to_list};
 ghost use Rattle.mq_addr.specs.declared.kind.Kind.TheVariants as kind;
+ghost use Rattle.mq_capsule.specs.declared.item.Item.TheVariants as item;
 ghost use Rattle.mq_iptun.specs.Acts.{MayAct};
+ghost use Rattle.mq_machine.specs.declared.act.StreamAct.TheVariants as asks;
 ghost use Rattle.mq_machine.specs.Reading.{udp_act, in_context, item_acts, is_payload, is_close, on_stream};
 ghost use Rattle.mq_front.specs.Items.{PutsItem, PutsUnless, PutsMore, ReadsItems};
 
@@ -108,23 +110,48 @@ fn put_act(stream: u32, act: StreamAct, due: &mut Dues) -> Result<bool, NoMemory
     Ok(closes)
 }
 
-/// Puts an act of a data stream at the back of the list, or nothing.
-pub(crate) fn put_if(
-    puts: bool,
-    stream: u32,
-    act: StreamAct,
-    due: &mut Dues,
-) -> Result<(), NoMemory>
-    ensures { OnOk result (due.new ≡ due.old ++ on_stream stream (if puts then act ∷ [] else [])) }
+/// Asks for the close of a tunnel, at the back of the list.
+#[inline(never)]
+fn put_close(stream: u32, why: Why, due: &mut Dues) -> Result<(), NoMemory>
+    ensures { OnOk result (due.new ≡ due.old ++ on_stream stream (asks.Close why ∷ [])) }
 {
-    if puts {
-        put_act(stream, act, due)?;
+    put_act(stream, StreamAct::Close { why }, due)?;
+    Ok(())
+}
+
+/// Asks for the close of a tunnel, at the back of the list, or for nothing.
+pub(crate) fn close_if(closes: bool, stream: u32, why: Why, due: &mut Dues) -> Result<(), NoMemory>
+    ensures { OnOk result (due.new ≡ due.old ++ on_stream stream (if closes then asks.Close why ∷ [] else [])) }
+{
+    if closes {
+        return put_close(stream, why, due);
     }
     Ok(())
 }
 
+/// Whether a datagram of a tunnel is a payload for its UDP port, as nearly all are.
+fn is_for_port(kind: Kind, context: u64, payload: &Bytes) -> bool
+    ensures { (mtu n : ℕ) → result ≡ true → item_acts kind mtu n (item.Datagram context payload.now) ≡ asks.Payload n payload.now ∷ [] }
+{
+    match kind {
+        Kind::Udp => context == 0 && payload.as_slice().len() <= MAX_UDP,
+        Kind::Ip => false,
+    }
+}
+
+/// Puts a payload for a port at the back of the list.
+fn put_payload(stream: u32, n: u64, payload: Bytes, due: &mut Dues) -> Result<(), NoMemory>
+    ensures { OnOk result (due.new ≡ due.old ++ on_stream stream (asks.Payload n payload ∷ [])) }
+{
+    due.push(Due::Do(Act::OfStream {
+        stream,
+        act: StreamAct::Payload { n, payload },
+    }))
+}
+
 /// Puts what an item asks for at the back of the list, and answers whether it closes the tunnel.
-fn put_item(
+#[inline(never)]
+fn put_any(
     alloc: Global,
     carrier: Carrier,
     n: u64,
@@ -136,6 +163,43 @@ fn put_item(
     match act_of(alloc, carrier, n, item)? {
         Some(act) => put_act(carrier.stream, act, due),
         None => Ok(false),
+    }
+}
+
+/// The same for a datagram. A payload for a port is put as it is: an act has the size of the largest, so that each move of
+/// one costs.
+fn put_datagram(
+    alloc: Global,
+    carrier: Carrier,
+    n: u64,
+    context: u64,
+    payload: Bytes,
+    due: &mut Dues,
+) -> Result<bool, NoMemory>
+    ensures { IfOk result (λ closes. PutsItem carrier n (item.Datagram context payload) due.old due.new closes) }
+{
+    if is_for_port(carrier.kind, context, &payload) {
+        put_payload(carrier.stream, n, payload, due)?;
+        return Ok(false);
+    }
+    put_any(alloc, carrier, n, Item::Datagram { context, payload }, due)
+}
+
+/// The same for an item.
+fn put_item(
+    alloc: Global,
+    carrier: Carrier,
+    n: u64,
+    item: Item,
+    due: &mut Dues,
+) -> Result<bool, NoMemory>
+    ensures { IfOk result (λ closes. PutsItem carrier n item due.old due.new closes) }
+{
+    match item {
+        Item::Datagram { context, payload } => {
+            put_datagram(alloc, carrier, n, context, payload, due)
+        }
+        other => put_any(alloc, carrier, n, other, due),
     }
 }
 

@@ -6,5 +6,5 @@ use Rattle.mq_front.proofs.event.lead.Goals as goal
 
 pub returns : goal.returns
 returns c =
-    leads_there c.args.id c.args.goal c.args.ends c.args.due.now c.push.new.self c.put_if.new.due c.args.streams.now.items c.push-2.new.self.items c.new.result
-    (c.in_ok-push.ensures ∙ ap (λ (a : Act). c.args.due.now ++ due.Do a ∷ []) c.goal_act.ensures) c.in_ok-put_if.ensures c.in_ok-push-2.ensures.items c.new.ensures
+    leads_there c.args.id c.args.goal c.args.ends c.args.due.now c.push.new.self c.close_if.new.due c.args.streams.now.items c.push-2.new.self.items c.new.result
+    (c.in_ok-push.ensures ∙ ap (λ (a : Act). c.args.due.now ++ due.Do a ∷ []) c.goal_act.ensures) c.in_ok-close_if.ensures c.in_ok-push-2.ensures.items c.new.ensures
