@@ -1,5 +1,5 @@
 -- What the code's word for a want stands for.
-use Rattle.std.specs.Prelude.{◌≡◌, ℕ, List, Bool, true, false, Result, Ok, Err}
+use Rattle.std.specs.Prelude.{◌≡◌, ℕ, List, Bool, true, false, Option, Some, None, Result, Ok, Err}
 use Rattle.mq_iptun.specs.Acts.{MayAsk}
 use Rattle.mq_talk.specs.declared.book.Call.TheVariants as call
 use Rattle.mq_talk.specs.declared.goal.Goal.TheVariants as goal
@@ -47,6 +47,11 @@ IsWant (want.SendUdp tunnel n) m = (payload : List ℕ) × (m ≡ machine.Send t
 IsWant (want.Ended why) m = m ≡ machine.Over why
 IsWant (want.Judge tunnel n flow) m = m ≡ machine.Judge tunnel n flow
 IsWant (want.Push to) m = (parcel : Parcel) × (m ≡ machine.Push parcel)
+
+-- the tunnel of which it wants to send a payload, where one is told
+abbrev pub SendsTo : Option ℕ → machine.Want → Type 0
+SendsTo None m = Unit {0}
+SendsTo (Some tunnel) m = (n : ℕ) × (payload : List ℕ) × (m ≡ machine.Send tunnel n payload)
 
 -- ---- what `next` promises
 

@@ -6,13 +6,13 @@ ghost use Rattle.mq_machine.specs.Steps as steps;
 ghost use Rattle.mq_machine.specs.Steps.{is_nothing};
 ghost use Rattle.mq_machine.specs.Lawful.{IsUdp};
 ghost use Rattle.mq_machine.specs.Want as machine_want;
-ghost use Rattle.mq_machine.specs.Want.{want_of, stream_want, tunnel_want};
+ghost use Rattle.mq_machine.specs.Want.{want_of, act_want, due_want, stream_want, tunnel_want};
 ghost use Rattle.mq_machine.specs.declared.act.StreamAct.TheVariants as asks;
 ghost use Rattle.mq_machine.specs.declared.act.Due.{Due};
 ghost use Rattle.mq_machine.specs.declared.act.Due.TheVariants.{Do};
-ghost use Rattle.mq_conn.specs.Conns.{IsConn, find_on, tunnel_is};
+ghost use Rattle.mq_conn.specs.Conns.{IsConn, Past, find_on, state, tunnel_is};
 ghost use Rattle.mq_conn.specs.Frames.{Gives};
-ghost use Rattle.mq_conn.specs.Wants.{WantIs, Wants, WantsOf};
+ghost use Rattle.mq_conn.specs.Wants.{SendsTo, WantIs, Wants, WantsOf};
 ghost use Rattle.mq_talk.specs.declared.note.Why.{Why};
 
 use crate::conn::{Conn, First, Tunnel, gives_up};
@@ -62,10 +62,62 @@ impl Conn {
     {
         match self.ending {
             None => self.first.is_some() || !self.due.is_empty(),
-            Some(why) => match self.want_ending(why) {
-                Want::Nothing => false,
-                _ => true,
+            Some(why) => self.wants_ending(why),
+        }
+    }
+
+    /// Whether an ending connection wants something.
+    #[inline(never)]
+    fn wants_ending(&self, why: End) -> bool
+        ensures { (s : machine.Conn) → IsConn self.now s → self.now.ending ≡ Some why → result ≡ not (is_nothing (want_of s)) }
+    {
+        match self.want_ending(why) {
+            Want::Nothing => false,
+            _ => true,
+        }
+    }
+
+    /// The tunnel of which it wants to send a payload to the port, where that is seen at once: it is what `next` tells as `SendUdp`,
+    /// and what most connections want that want something.
+    pub fn sends(&self) -> Option<u32>
+        ensures { (s : machine.Conn) → IsConn self.now s → SendsTo result (want_of s) }
+    {
+        if self.ending.is_some() || self.first.is_some() {
+            return None;
+        }
+        match self.due.first() {
+            None => None,
+            Some(due) => self.sends_due(due),
+        }
+    }
+
+    fn sends_due(&self, due: &Due) -> Option<u32>
+        ensures { (p : Past) (rest : List Due) → SendsTo result (due_want (state self.now p) (due.now ∷ rest)) }
+    {
+        match due {
+            Due::Do(act) => self.sends_act(act),
+            _ => None,
+        }
+    }
+
+    fn sends_act(&self, act: &Act) -> Option<u32>
+        ensures { (p : Past) → SendsTo result (act_want (state self.now p) act.now) }
+    {
+        match act {
+            Act::OfStream { stream, act } => self.sends_stream(*stream, act),
+            _ => None,
+        }
+    }
+
+    fn sends_stream(&self, stream: u32, act: &StreamAct) -> Option<u32>
+        ensures { SendsTo result (tunnel_want (find_on self.now stream) act.now) }
+    {
+        match act {
+            StreamAct::Payload { .. } => match self.on(stream) {
+                None => None,
+                Some(tunnel) => Some(tunnel.id),
             },
+            _ => None,
         }
     }
 

@@ -79,6 +79,7 @@ fn answer<L, P: Ports, O: Office, M: Mail>(
 }
 
 /// Does what the connection wants, where that can be done now.
+#[inline(never)]
 fn act_now<L, P: Ports, O: Office, M: Mail>(
     held: &mut Held<L>,
     pump: u32,
@@ -118,9 +119,9 @@ fn act_now<L, P: Ports, O: Office, M: Mail>(
     }
 }
 
-/// Does what the connection wants, where that can be done now. Where memory is refused, the connection is ending. One that wants
-/// nothing is quiet, which is asked first: it is so most of the time. The pump has the inbox of this number, behind those of the
-/// workers.
+/// Does what the connection wants, where that can be done now. Where memory is refused, the connection is ending. Whether it
+/// wants nothing, or to send a payload, is asked first: it is so most of the time. The pump has the inbox of this number, behind
+/// those of the workers.
 pub fn act<L, P: Ports, O: Office, M: Mail>(
     held: &mut Held<L>,
     pump: u32,
@@ -153,6 +154,9 @@ pub fn act<L, P: Ports, O: Office, M: Mail>(
 {
     if !held.conn.wants() {
         return Ok(Stepped::Quiet);
+    }
+    if let Some(tunnel) = held.conn.sends() {
+        return Ok(send(held, tunnel, table));
     }
     act_now(held, pump, table, office, mail)
 }

@@ -1,9 +1,10 @@
-use Rattle.std.proofs.Common.{◌≡◌, false, not, refl, ◌∙◌, sym}
+use Rattle.std.proofs.Common.{◌≡◌, false, not, refl, ◌∙◌, sym, ap}
 use Rattle.mq_machine.specs.Acting.{binder}
 use Rattle.mq_machine.specs.Want.{Want, Nothing, Say, Bind, Ask, Judge, Push, Send, Over, want_of}
 use Rattle.mq_machine.specs.Steps.{is_nothing}
 use Rattle.mq_step.proofs.Filling.{none_changed}
 use Rattle.mq_step.proofs.Binding.{Stays, quiet}
+use Rattle.mq_step.proofs.Standing.{same_apart}
 use Rattle.mq_step.proofs.want.act.Goals as goal
 
 -- where it wants something is false, it wants nothing
@@ -34,3 +35,16 @@ returns-then-not-wants-clause-closes g c = λ s held tunnel closes.
 
 pub returns-then-not-wants-clause-apart : goal.returns-then-not-wants-clause-apart
 returns-then-not-wants-clause-apart g c = c.requires.known.1.apart
+
+pub returns-in-Some-clause-gives : goal.returns-in-Some-clause-gives
+returns-in-Some-clause-gives g c = λ o n so sn s held.
+    let sends = c.in-Some.ensures s.conn held.conn in
+    c.send.ensures.gives o n so sn (g.O.Office.seen c.args.office.now) s held sends.0 sends.1 sends.2 (g.M.Mail.count c.args.mail.now) (g.M.Mail.boxes c.args.mail.now) c.requires.inboxes
+
+pub returns-in-Some-clause-closes : goal.returns-in-Some-clause-closes
+returns-in-Some-clause-closes g c = λ s held tunnel closes.
+    let sends = c.in-Some.ensures s.conn held.conn in
+    absurd (let e = sym sends.2 ∙ closes in cc)
+
+pub returns-in-Some-clause-apart : goal.returns-in-Some-clause-apart
+returns-in-Some-clause-apart g c = same_apart c.args.held.now.ports.items c.send.new.held.ports.items (ap (λ h. h.ports.items) c.send.ensures.rest) c.requires.known.1.apart

@@ -9,7 +9,7 @@ use Rattle.mq_conn.specs.declared.want.Want.{Want}
 use Rattle.mq_conn.specs.Wants.{IsWant}
 use Rattle.mq_step.specs.Holds.{HasInboxes, IsHeld}
 use Rattle.mq_step.proofs.Filling.{none_changed}
-use Rattle.mq_step.proofs.Cores.{judge_live, push_has, said_alive}
+use Rattle.mq_step.proofs.Cores.{judge_live, push_has}
 use Rattle.mq_step.proofs.Asking.{live_mine}
 use Rattle.mq_step.proofs.Telling.{judges, push_keeps, pushes}
 use Rattle.mq_step.proofs.Seeing.{sight_of, sight_sees}

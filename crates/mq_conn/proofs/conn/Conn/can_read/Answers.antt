@@ -1,4 +1,4 @@
-use Rattle.std.proofs.Common.{◌≡◌, Some, None, true, false, List, [], ◌∷◌, ℕ, length, not, Option, Bool, slice_get, ◌∙◌, refl, sym, ap, subst}
+use Rattle.std.proofs.Common.{◌∙◌, sym}
 use Rattle.mq_conn.proofs.Wanting.{reads_so, reads_not}
 use Rattle.mq_conn.proofs.conn.Conn.can_read.Goals as goal
 

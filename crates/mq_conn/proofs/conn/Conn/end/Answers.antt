@@ -1,6 +1,4 @@
-use Rattle.std.proofs.Common.{◌≡◌, Some, None, true, false, List, [], ◌∷◌, ◌++◌, ℕ, ◌<◌, ◌≤◌, length, drop, not, Option, Bool, slice_get, ◌∙◌, refl, sym, ap, subst, arith}
-use Rattle.std.proofs.lemmas.Option.{get_or_from_slice_get, slice_get-get_or}
-use Rattle.mq_conn.specs.declared.conn.Tunnel.{Tunnel}
+use Rattle.std.proofs.Common.{List, ℕ, refl, subst}
 use Rattle.mq_front.specs.declared.finish.Finish.{Finish}
 use Rattle.mq_front.specs.declared.finish.Finish.TheVariants.{Closes, Ends}
 use Rattle.mq_front.specs.Fronts.{IsFront, Finishes}

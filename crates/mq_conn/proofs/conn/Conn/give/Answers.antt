@@ -1,6 +1,4 @@
-use Rattle.std.proofs.Common.{◌≡◌, Some, None, true, false, List, [], ◌∷◌, ◌++◌, ℕ, ◌<◌, ◌≤◌, length, drop, not, Option, Bool, slice_get, ◌∙◌, refl, sym, ap, subst, arith}
-use Rattle.std.proofs.lemmas.Option.{get_or_from_slice_get, slice_get-get_or}
-use Rattle.mq_conn.specs.declared.conn.Tunnel.{Tunnel}
+use Rattle.std.proofs.Common.{refl}
 use Rattle.mq_conn.proofs.Wanting.{gives_so, gives_none}
 use Rattle.mq_conn.proofs.conn.Conn.give.Goals as goal
 

@@ -1,7 +1,6 @@
 use Rattle.std.proofs.Common.{ℕ, List, Option, Ok, sym, subst, ◌≡◌, arith}
 use Rattle.mq_talk.specs.declared.note.Note.TheVariants as note
 use Rattle.mq_machine.specs.Done.{first_waiting}
-use Rattle.mq_machine.specs.State.{kind_of}
 use Rattle.mq_conn.specs.declared.conn.Conn.{Conn}
 use Rattle.mq_conn.specs.Closing.{OpensOn}
 use Rattle.mq_conn.specs.Queues.{values_of}

@@ -1,4 +1,4 @@
-use Rattle.std.proofs.Common.{◌≡◌, ◌+◌, ◌∷◌, ◌++◌, [], Some, List, length, slice_get, slice_set, ◌∙◌, refl, sym, ap}
+use Rattle.std.proofs.Common.{◌≡◌, ◌∷◌, ◌++◌, [], Some, List, length, slice_get, slice_set, ◌∙◌, refl, sym, ap}
 use Rattle.std.specs.Vec.{with_item}
 use Rattle.std.proofs.lemmas.Option.{get_or_from_slice_get, slice_get-get_or}
 use Rattle.mq_machine.specs.State.{Waiting}

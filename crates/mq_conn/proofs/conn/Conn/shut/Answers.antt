@@ -1,4 +1,4 @@
-use Rattle.std.proofs.Common.{◌≡◌, Some, None, true, false, List, [], ◌∷◌, ℕ, length, not, Option, Bool, slice_get, ◌∙◌, refl, sym, ap, subst}
+use Rattle.std.proofs.Common.{◌≡◌, Some, List, ◌∙◌, sym, subst}
 use Rattle.std.proofs.lemmas.Option.{get_or_from_slice_get}
 use Rattle.mq_talk.specs.declared.note.Why.TheVariants.{Port}
 use Rattle.mq_conn.specs.declared.conn.First.TheVariants.{Close}

@@ -1,6 +1,4 @@
-use Rattle.std.proofs.Common.{◌≡◌, Some, None, true, false, List, [], ◌∷◌, ◌++◌, ℕ, ◌<◌, ◌≤◌, length, drop, not, Option, Bool, slice_get, ◌∙◌, refl, sym, ap, subst, arith}
-use Rattle.std.proofs.lemmas.Option.{get_or_from_slice_get, slice_get-get_or}
-use Rattle.mq_conn.specs.declared.conn.Tunnel.{Tunnel}
+use Rattle.std.proofs.Common.{true}
 use Rattle.mq_conn.proofs.Framing.{frames_so, same_at, turn_goes, turn_unspent}
 use Rattle.mq_conn.proofs.conn.Conn.try_frame.Goals as goal
 
