@@ -47,8 +47,20 @@ impl<L: Drop> Ring<L> {
     }
 
     /// Accepts the oldest offered link, while fewer than 32 connections are live, where the seat of the offered links is in this
-    /// part of the ring. Where memory is refused, the link stays offered.
+    /// part of the ring. Where memory is refused, the link stays offered. Most of the time none is offered, which is asked first.
+    #[inline(always)]
     pub(crate) fn accept(&mut self, alloc: Global, upper: bool) -> Result<Option<Note>, NoMemory>
+        ensures ring { (self.new.id ≡ self.old.id) × (self.new.setup ≡ self.old.setup) }
+        ensures gives { AcceptGives upper self.old self.new result }
+    {
+        if self.offered.len() == 0 {
+            return Ok(None);
+        }
+        self.accept_first(alloc, upper)
+    }
+
+    #[inline(never)]
+    fn accept_first(&mut self, alloc: Global, upper: bool) -> Result<Option<Note>, NoMemory>
         ensures ring { (self.new.id ≡ self.old.id) × (self.new.setup ≡ self.old.setup) }
         ensures gives { AcceptGives upper self.old self.new result }
     {

@@ -70,6 +70,7 @@ impl<L: Drop> Ring<L> {
     }
 
     /// Takes a parcel from its inbox, where that seat is in this part of the ring: its packet comes to its tunnel.
+    #[inline(always)]
     pub(crate) fn pop<M: Mail>(&mut self, upper: bool, mail: &mut M) -> Option<Note>
         ensures gives { InboxGives (M.count mail.old) (M.boxes mail.old) (M.actor mail.old) upper self.old self.new result (M.boxes mail.new) }
         ensures ring { (self.new.id ≡ self.old.id) × (self.new.setup ≡ self.old.setup) }
@@ -80,8 +81,19 @@ impl<L: Drop> Ring<L> {
         if !is_in(1, self.next_seat, upper) {
             return None;
         }
-        let parcel = mail.pop()?;
+        match mail.pop() {
+            None => None,
+            Some(parcel) => Some(self.come_next(parcel)),
+        }
+    }
+
+    /// A packet comes to its tunnel, where a connection has that, in the turn of the inbox.
+    #[inline(never)]
+    fn come_next(&mut self, parcel: Parcel) -> Note
+        ensures comes { ComesTo parcel.to parcel self.old.conns.items self.new.conns.items result }
+        ensures rest { self.new ≡ record self.old { conns = self.new.conns; next_seat = 2 } }
+    {
         self.next_seat = 2;
-        Some(self.come(parcel))
+        self.come(parcel)
     }
 }

@@ -52,8 +52,23 @@ where
     would_take(seat.key, held.conn.payload().len(), table)
 }
 
-/// Whether what it wants could be done now.
+/// Whether what it wants could be done now. Most of the time it wants nothing, which is asked first.
 fn could_do<L: Link, P: Ports>(held: &Held<L>, table: &PortTable<P>) -> bool
+where
+    P::P: SendReady,
+    ensures { (s : machine.Held) → IsHeld P.P.most table.now.table held.now s
+        → TellsConn (record { most = P.P.most; link = L.holds; link_counts = L.counts; port = P.P.holds; port_counts = P.P.counts }) table.now.table held.now s
+        → result ≡ can_do s.ports (want_of s.conn) }
+{
+    if !held.conn.wants() {
+        return false;
+    }
+    could_do_next(held, table)
+}
+
+/// Whether what it wants next could be done now.
+#[inline(never)]
+fn could_do_next<L: Link, P: Ports>(held: &Held<L>, table: &PortTable<P>) -> bool
 where
     P::P: SendReady,
     ensures { (s : machine.Held) → IsHeld P.P.most table.now.table held.now s

@@ -4,7 +4,7 @@ use Rattle.mq_machine.specs.State.{new_conn}
 use Rattle.mq_conn.specs.declared.conn.Conn.{Conn as Core}
 use Rattle.mq_conn.specs.Conns.{IsConn}
 use Rattle.mq_actor.proofs.Fronts.{same_front}
-use Rattle.mq_actor.proofs.ring.Ring.accept.Goals as goal
+use Rattle.mq_actor.proofs.ring.Ring.accept_first.Goals as goal
 
 pub returns : goal.returns
 returns g c =
