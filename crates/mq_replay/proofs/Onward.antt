@@ -1,5 +1,5 @@
 -- Steps that go on from a state are steps from the start.
-use Rattle.std.proofs.Common.{◌≡◌, ℕ, zero, suc, ◌<◌, Bool, true, false, List, [], ◌∷◌, ◌++◌, length, Ok, Err, refl, sym, ap, subst, ◌∙◌, arith, append_assoc, append-nil, inr}
+use Rattle.std.proofs.Common.{◌≡◌, ℕ, zero, suc, ◌<◌, Bool, true, false, List, [], ◌∷◌, ◌++◌, length, Option, Some, None, Ok, Err, refl, sym, ap, subst, ◌∙◌, arith, append_assoc, append-nil, inr}
 use Rattle.std.specs.Prelude.{nat_lt, if◌then◌else◌}
 use Rattle.std.specs.List.{AllByRecursion}
 use Rattle.std.proofs.lemmas.Bool.{lt-ltb}
@@ -12,15 +12,16 @@ use Rattle.mq_machine.specs.Turn.{Actor, WorkerOf, ThePump, Turn, Quiet, has_tur
 use Rattle.mq_play.specs.Play.{Fate, Noted, Silent, StepsTo, Until, TheEnd, SomeStop, Runs}
 use Rattle.mq_play.specs.Text.{printed, Idle, Says}
 use Rattle.mq_talk.specs.declared.note.Note.{Note}
-use Rattle.mq_replay.specs.Listening.{HearsTo}
+use Rattle.mq_replay.specs.Listening.{HearsTo, HearsTold}
 use Rattle.mq_replay.specs.declared.steps.Moved.TheVariants as moved
+use Rattle.mq_world.specs.declared.stepped.Acted.TheVariants as acted
 use Rattle.mq_world.specs.declared.stepped.Stepped.TheVariants as stepped
 use Rattle.mq_world.specs.declared.stepped.Stepped.TheVariants.{Did, Refused}
 use Rattle.mq_replay.specs.Playing.{IsAt, Acts, StepTo, RunsTo, IsCutOff}
 use Rattle.mq_output.specs.declared.stop.Stop.{Stop}
 use Rattle.mq_output.specs.declared.stop.Stop.TheVariants.{BadLine, WriteFault, NoMemory}
 use Rattle.mq_world.specs.declared.world.World.{World}
-use Rattle.mq_world.specs.Worlds.{IsWorld, actor_at, StepOf, StepGives}
+use Rattle.mq_world.specs.Worlds.{IsWorld, actor_at, answered, StepOf, StepGives}
 
 -- a step leaves the number of workers
 pub steps_same : (s : State) (actor : Actor) (fate : Fate) (shown : List ℕ) (t : State) → StepsTo s actor fate shown t → length t.workers ≡ length s.workers
@@ -162,3 +163,21 @@ pub step_unheard : (May : Fate → Type 0) (w : World) (s : State) (actor : Acto
 step_unheard May w s actor why e =
     let P : Stop → Type 0 = λ stop. StepTo May w s actor [] (Err stop) in
     subst P (sym e) refl
+
+-- a step was taken, and what it told was heard
+pub told_did : {A : Type 0} (May : Fate → Type 0) (Hears : A → A → List ℕ → Type 0) (o p : A) (Was : State → Type 0) (w : World) (number : ℕ) (told : Option Note) (done : Unit {0})
+    → HearsTold Hears o p told (Ok done) → ((s : State) → Was s → StepGives (IsWorld w) s (event.Step number) (answered (Ok acted.Did) told)) → May Noted → IsTurnOrQuiet
+    → (shown : List ℕ) × Hears o p shown × ((s : State) (actor : Actor) → Was s → IsAt s number actor → StepTo May w s actor shown (Ok moved.Acted))
+told_did May Hears o p Was w number None done heard gives may law = absurd (let e = heard.1 in cc)
+told_did May Hears o p Was w number (Some note) done heard gives may law = (printed (Says note), heard, λ s actor is at. step_did w s number actor note may law at (gives s is))
+
+-- or the sink failed, or memory ran out before that
+pub told_stops : {A : Type 0} (May : Fate → Type 0) (Hears : A → A → List ℕ → Type 0) (o p : A) (Was : State → Type 0) (w : World) (number : ℕ) (told : Option Note) (why : Stop)
+    → HearsTold Hears o p told (Err why) → ((s : State) → Was s → StepGives (IsWorld w) s (event.Step number) (answered (Ok acted.Did) told)) → May Noted → IsTurnOrQuiet
+    → (shown : List ℕ) × Hears o p shown × ((s : State) (actor : Actor) → Was s → IsAt s number actor → StepTo May w s actor shown (Err why))
+told_stops May Hears o p Was w number None why heard gives may law =
+    let same : why ≡ NoMemory = (let e = heard.1 in cc) in
+    ([], heard.0, λ s actor is at. step_unheard May w s actor why same)
+told_stops May Hears o p Was w number (Some note) why heard gives may law =
+    let failed = step_unnoted May Hears o p w w (printed (Says note)) why heard in
+    (failed.0, failed.1, λ s actor is at. failed.2 s actor (step_did w s number actor note may law at (gives s is)))

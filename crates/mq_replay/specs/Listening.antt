@@ -1,7 +1,9 @@
 -- What who hears a play promises.
-use Rattle.std.specs.Prelude.{ℕ, List, [], Result, Ok, Err}
+use Rattle.std.specs.Prelude.{◌≡◌, ℕ, List, [], Option, Some, None, Result, Ok, Err}
 use Rattle.mq_machine.specs.Silent.{Reached}
 use Rattle.mq_play.specs.Play.{Fate, Noted, Silent}
+use Rattle.mq_play.specs.Text.{printed, Says}
+use Rattle.mq_talk.specs.declared.note.Note.{Note}
 use Rattle.mq_output.specs.declared.stop.Stop.{Stop}
 use Rattle.mq_output.specs.declared.stop.Stop.TheVariants.{BadLine, WriteFault, NoMemory}
 use Rattle.mq_wire.specs.declared.NoMemory as wire
@@ -12,6 +14,11 @@ HearsTo Hears old new text (Ok done) = Hears old new text
 HearsTo Hears old new text (Err WriteFault) = Hears old new text
 HearsTo Hears old new text (Err NoMemory) = Hears old new []
 HearsTo Hears old new text (Err BadLine) = ⊥
+
+-- what a step told was heard; where it told nothing, the play stops
+abbrev pub HearsTold : {A : Type 0} → (A → A → List ℕ → Type 0) → A → A → Option Note → Result (Unit {0}) Stop → Type 0
+HearsTold Hears old new None result = Hears old new [] × (result ≡ Err NoMemory)
+HearsTold Hears old new (Some note) result = HearsTo Hears old new (printed (Says note)) result
 
 -- the play goes on behind a step that was refused memory only where that may be heard
 abbrev pub GoesOnBehind : (Fate → Type 0) → Result (Unit {0}) wire.NoMemory → Type 0

@@ -23,6 +23,8 @@ use Rattle.mq_play.specs.Events.{at_link, happen, has_link, is_missing, new_work
 use Rattle.mq_play.specs.Lines.{most_packet, most_payload}
 use Rattle.mq_plain.specs.Served.{Plain, Serves}
 use Rattle.mq_plain.specs.Taking.{Common, shared_of}
+use Rattle.mq_world.specs.declared.stepped.Acted.{Acted}
+use Rattle.mq_world.specs.declared.stepped.Acted.TheVariants as acted
 use Rattle.mq_world.specs.declared.stepped.Stepped.{Stepped}
 use Rattle.mq_world.specs.declared.stepped.Stepped.TheVariants.{Done, Did, Idle, Refused}
 use Rattle.mq_world.specs.declared.stepped.WorldFault.{WorldFault}
@@ -152,11 +154,23 @@ ActorGives s actor (Ok (Some note)) t = Turn s actor note t
 ActorGives s actor (Ok None) t = Quiet s actor × (t ≡ s)
 ActorGives s actor (Err refused) t = (reached : Reached) × SilentTurn s actor reached t
 
--- as the world answers these
-abbrev pub stepped_by : Result (Option Note) NoMemory → Stepped
-stepped_by (Ok (Some note)) = Did note
-stepped_by (Ok None) = Idle
-stepped_by (Err refused) = Refused
+-- as the world answers it
+abbrev pub ActorDoes : State → Actor → Stepped → State → Type 0
+ActorDoes s actor (Did note) t = Turn s actor note t
+ActorDoes s actor Idle t = Quiet s actor × (t ≡ s)
+ActorDoes s actor Refused t = (reached : Reached) × SilentTurn s actor reached t
+ActorDoes s actor Done t = ⊥
+
+-- what was told of it, with its note
+abbrev pub answer_of : Acted → Option Note → Stepped
+answer_of acted.Did (Some note) = Did note
+answer_of acted.Did None = Done
+answer_of acted.Idle told = Idle
+answer_of acted.Refused told = Refused
+
+abbrev pub answered : Result Acted WorldFault → Option Note → Result Stepped WorldFault
+answered (Ok acted) told = Ok (answer_of acted told)
+answered (Err why) told = Err why
 
 abbrev pub done_by : Result ⊤ WorldFault → Result Stepped WorldFault
 done_by (Ok done) = Ok Done

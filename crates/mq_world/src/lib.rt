@@ -9,7 +9,7 @@ mod tunnel;
 mod workers;
 mod world;
 
-pub use stepped::{Stepped, WorldFault};
+pub use stepped::{Acted, Stepped, WorldFault};
 pub use told::Told;
 pub use workers::Workers;
 pub use world::World;

@@ -7,9 +7,9 @@ ghost use Rattle.mq_play.specs.Events.{happen};
 ghost use Rattle.mq_play.specs.Lines.{most_packet};
 ghost use Rattle.mq_talk.specs.Offices.{IsSound};
 ghost use Rattle.mq_mem.specs.Offices.{seen_of};
-ghost use Rattle.mq_world.specs.Worlds.{ActorGives, Happens, IsWorld};
+ghost use Rattle.mq_world.specs.Worlds.{ActorDoes, ActorGives, Happens, IsWorld, answer_of};
 
-use crate::stepped::WorldFault;
+use crate::stepped::{Acted, WorldFault};
 use crate::workers::Workers;
 use mq_talk::Note;
 use mq_wire::{Bytes, NoMemory};
@@ -41,9 +41,23 @@ impl Workers {
         let _legal = self.office.book().history();
     }
 
-    /// The pump takes a step.
+    /// The pump takes a step, whose note is put into `told`.
     #[inline(never)]
-    pub(crate) fn pump(&mut self) -> Result<Option<Note>, NoMemory>
+    pub(crate) fn pump(&mut self, told: &mut Option<Note>) -> Acted
+        requires { (s : machine.State) × IsWorld self.old s }
+        ensures { (s : machine.State) → IsWorld self.old s → (t : machine.State) × IsWorld self.new t × ActorDoes s ThePump (answer_of result told.new) t }
+    {
+        match self.step_pump() {
+            Ok(Some(note)) => {
+                *told = Some(note);
+                Acted::Did
+            }
+            Ok(None) => Acted::Idle,
+            Err(NoMemory) => Acted::Refused,
+        }
+    }
+
+    fn step_pump(&mut self) -> Result<Option<Note>, NoMemory>
         requires { (s : machine.State) × IsWorld self.old s }
         ensures { (s : machine.State) → IsWorld self.old s → (t : machine.State) × IsWorld self.new t × ActorGives s ThePump result t }
     {

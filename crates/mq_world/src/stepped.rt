@@ -17,6 +17,17 @@ pub enum Stepped {
     Refused,
 }
 
+/// What a step of an actor came to, whose note is told in room of the caller: a note moves through fewer hands so.
+#[derive(Clone, Copy, Debug, PartialEq, Eq)]
+pub enum Acted {
+    /// The actor took a step, of which there is a note.
+    Did,
+    /// The actor has no step, and nothing changed.
+    Idle,
+    /// The actor's step was refused memory, as with `Stepped::Refused`.
+    Refused,
+}
+
 /// Why nothing happened.
 #[derive(Clone, Copy, Debug, PartialEq, Eq, Error)]
 pub enum WorldFault {

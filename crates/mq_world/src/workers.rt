@@ -13,10 +13,10 @@ ghost use Rattle.mq_play.specs.Play.{actors_of};
 ghost use Rattle.mq_play.specs.Settings.{IsPlan};
 ghost use Rattle.mq_plain.specs.Coming.{changed};
 ghost use Rattle.mq_world.specs.declared.stepped.WorldFault.TheVariants as fault;
-ghost use Rattle.mq_world.specs.Worlds.{AreUntouched, Happens, IsUnused, IsWorld, LinkHappens, StepGives, ActorGives, stepped_by, told_of};
+ghost use Rattle.mq_world.specs.Worlds.{AreUntouched, Happens, IsUnused, IsWorld, LinkHappens, StepGives, ActorDoes, ActorGives, answer_of, answered, told_of};
 
 use crate::rests::mark;
-use crate::stepped::{Stepped, WorldFault};
+use crate::stepped::{Acted, WorldFault};
 use crate::told::Told;
 use crate::tunnel::opener_of;
 use mq_machine::Setup;
@@ -274,35 +274,41 @@ impl Workers {
         self.workers.len() as u32
     }
 
-    /// An actor takes a step. The pump's number is the count of workers.
-    pub(crate) fn act(&mut self, actor: u32) -> Result<Stepped, WorldFault>
+    /// An actor takes a step, whose note is put into `told`. The pump's number is the count of workers.
+    pub(crate) fn act(&mut self, actor: u32, told: &mut Option<Note>) -> Result<Acted, WorldFault>
         requires { (s : machine.State) × IsWorld self.old s }
-        ensures { (s : machine.State) → IsWorld self.old s → StepGives (IsWorld self.new) s (Step actor) result }
+        ensures { (s : machine.State) → IsWorld self.old s → StepGives (IsWorld self.new) s (Step actor) (answered result told.new) }
     {
         let count = self.count();
         if actor > count {
             return Err(WorldFault::Missing);
         }
         if actor == count {
-            return Ok(stepped(self.pump()));
+            return Ok(self.pump(told));
         }
-        Ok(stepped(self.step(actor)))
+        Ok(self.step(actor, told))
     }
 
     /// The worker of this number takes a step. One that rests isn't asked, and one that has no step is asked whether it rests.
-    fn step(&mut self, number: u32) -> Result<Option<Note>, NoMemory>
+    fn step(&mut self, number: u32, told: &mut Option<Note>) -> Acted
         requires stands { (s : machine.State) × IsWorld self.old s }
         requires number { number < length self.old.workers.items }
-        ensures { (s : machine.State) → IsWorld self.old s → (t : machine.State) × IsWorld self.new t × ActorGives s (WorkerOf number) result t }
+        ensures { (s : machine.State) → IsWorld self.old s → (t : machine.State) × IsWorld self.new t × ActorDoes s (WorkerOf number) (answer_of result told.new) t }
     {
         if self.is_at_rest(number) {
-            return Ok(None);
+            return Acted::Idle;
         }
-        let given = self.turn(number);
-        if let Ok(None) = given {
-            self.look(number);
+        match self.turn(number) {
+            Ok(Some(note)) => {
+                *told = Some(note);
+                Acted::Did
+            }
+            Ok(None) => {
+                self.look(number);
+                Acted::Idle
+            }
+            Err(NoMemory) => Acted::Refused,
         }
-        given
     }
 
     /// The worker of this number is asked for a step.
@@ -337,16 +343,5 @@ impl Workers {
             }
         }
         self.pump_is_quiet()
-    }
-}
-
-/// What the step of an actor gave.
-fn stepped(given: Result<Option<Note>, NoMemory>) -> Stepped
-    ensures { result ≡ stepped_by given }
-{
-    match given {
-        Ok(Some(note)) => Stepped::Did(note),
-        Ok(None) => Stepped::Idle,
-        Err(NoMemory) => Stepped::Refused,
     }
 }

@@ -1,18 +1,20 @@
 //! A world in memory.
 ghost use Rattle.std.specs.Prelude.{◌≡◌, IfOk, length, not};
 ghost use Rattle.std.specs.List.{list_any};
+ghost use Rattle.mq_machine.specs.declared.event.Event.TheVariants.{Step};
 ghost use Rattle.mq_machine.specs.State.{State};
 ghost use Rattle.mq_machine.specs.Turn.{has_turn};
 ghost use Rattle.mq_play.specs.Events.{state_of};
 ghost use Rattle.mq_play.specs.Play.{actors_of};
 ghost use Rattle.mq_play.specs.Settings.{IsPlan};
-ghost use Rattle.mq_world.specs.Worlds.{IsServed, IsWorld, StepGives, done_by};
+ghost use Rattle.mq_world.specs.Worlds.{IsServed, IsWorld, StepGives, answer_of, answered, done_by};
 
-use crate::stepped::{Stepped, WorldFault};
+use crate::stepped::{Acted, Stepped, WorldFault};
 use crate::workers::Workers;
 use mq_machine::Event;
 use mq_plain::LinkEvent;
 use mq_play::Plan;
+use mq_talk::Note;
 use mq_wire::NoMemory;
 use std::alloc::Global;
 use std::marker::Model;
@@ -70,25 +72,43 @@ impl World {
         requires { IsServed event }
         ensures { (s : State) → IsWorld self.old s → StepGives (IsWorld self.new) s event result }
     {
-        match event {
-            Event::Conn { actor } => done(self.inside.offer(actor)),
-            Event::Piece { conn, bytes } => done(self.inside.piece(conn, bytes)),
-            Event::End { conn } => done(self.inside.finish(conn)),
-            Event::Room { conn, room } => done(self.inside.change(conn, LinkEvent::Room(room))),
-            Event::FailRead { conn } => done(self.inside.change(conn, LinkEvent::FailRead)),
-            Event::FailWrite { conn } => done(self.inside.change(conn, LinkEvent::FailWrite)),
-            Event::Datagram { tunnel, bytes } => done(self.inside.arrive(tunnel, bytes)),
-            Event::FailPort { tunnel } => done(self.inside.fail_send(tunnel)),
+        let happened = match event {
+            Event::Step { actor } => return self.step_of(actor),
+            Event::Piece { conn, bytes } => self.inside.piece(conn, bytes),
+            Event::Datagram { tunnel, bytes } => self.inside.arrive(tunnel, bytes),
+            Event::Packet { count, bytes } => self.inside.packet(count, &bytes),
+            Event::Conn { actor } => self.inside.offer(actor),
+            Event::End { conn } => self.inside.finish(conn),
+            Event::Room { conn, room } => self.inside.change(conn, LinkEvent::Room(room)),
+            Event::FailRead { conn } => self.inside.change(conn, LinkEvent::FailRead),
+            Event::FailWrite { conn } => self.inside.change(conn, LinkEvent::FailWrite),
+            Event::FailPort { tunnel } => self.inside.fail_send(tunnel),
             Event::FailBind => {
                 self.inside.fail_bind();
-                Ok(Stepped::Done)
+                Ok(())
             }
-            Event::Step { actor } => self.inside.act(actor),
             Event::FailNet => {
                 self.inside.fail_net();
-                Ok(Stepped::Done)
+                Ok(())
             }
-            Event::Packet { count, bytes } => done(self.inside.packet(count, &bytes)),
+        };
+        done(happened)
+    }
+
+    /// An actor takes a step, as with `Event::Step`. Its note is put into `told`, where it took one.
+    pub fn act(&mut self, actor: u32, told: &mut Option<Note>) -> Result<Acted, WorldFault>
+        ensures { (s : State) → IsWorld self.old s → StepGives (IsWorld self.new) s (Step actor) (answered result told.new) }
+    {
+        self.inside.act(actor, told)
+    }
+
+    fn step_of(&mut self, actor: u32) -> Result<Stepped, WorldFault>
+        ensures { (s : State) → IsWorld self.old s → StepGives (IsWorld self.new) s (Step actor) result }
+    {
+        let mut told = None;
+        match self.act(actor, &mut told) {
+            Ok(acted) => Ok(answer_of(acted, told)),
+            Err(why) => Err(why),
         }
     }
 
@@ -97,6 +117,20 @@ impl World {
         ensures { (s : State) → IsWorld self.now s → result ≡ not (list_any (has_turn s) (actors_of s)) }
     {
         self.inside.are_quiet()
+    }
+}
+
+/// What a step came to, with its note.
+fn answer_of(acted: Acted, told: Option<Note>) -> Stepped
+    ensures { result ≡ answer_of acted told }
+{
+    match acted {
+        Acted::Did => match told {
+            Some(note) => Stepped::Did(note),
+            None => Stepped::Done,
+        },
+        Acted::Idle => Stepped::Idle,
+        Acted::Refused => Stepped::Refused,
     }
 }
 

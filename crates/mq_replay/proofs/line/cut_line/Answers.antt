@@ -1,4 +1,4 @@
-use Rattle.std.proofs.Common.{◌≡◌, sym, ◌∙◌, ap, drop}
+use Rattle.std.proofs.Common.{◌≡◌, ◌∙◌, ap, drop}
 use Rattle.mq_replay.proofs.Newlines.{nowhere, cut_there}
 use Rattle.mq_replay.proofs.line.cut_line.Goals as goal
 

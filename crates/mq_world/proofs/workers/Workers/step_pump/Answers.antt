@@ -5,7 +5,7 @@ use Rattle.mq_mem.specs.Offices.{Office as OfficeOf, seen_of}
 use Rattle.mq_net.specs.Sims.{told}
 use Rattle.mq_pump.specs.Holds.{IsPump, pump_sight}
 use Rattle.mq_world.proofs.Pumping.{count_is, pumped}
-use Rattle.mq_world.proofs.workers.Workers.pump.Goals as goal
+use Rattle.mq_world.proofs.workers.Workers.step_pump.Goals as goal
 
 pub turn_to-requires-2 : goal.turn_to-requires-2
 turn_to-requires-2 c =
