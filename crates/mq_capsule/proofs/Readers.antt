@@ -11,13 +11,13 @@ use Rattle.mq_capsule.specs.declared.item.Item.{Item}
 use Rattle.mq_capsule.specs.declared.state.State.{State}
 use Rattle.mq_capsule.specs.declared.state.State.TheVariants as state
 use Rattle.mq_capsule.specs.declared.step.Step.{Step}
-use Rattle.mq_capsule.specs.declared.step.Whole.{Whole}
+use Rattle.mq_capsule.specs.declared.step.WholeCapsule.{WholeCapsule}
 use Rattle.mq_capsule.specs.declared.reader.Reader.{Reader}
 use Rattle.mq_capsule.specs.Capsule.{Capsule, AreCapsules, head_of}
 use Rattle.mq_capsule.specs.Items.{ItemsOf, EndsInside, item_of, head_items, is_bad, max_control, up_to_bad, said}
 use Rattle.mq_capsule.specs.Fronts.{front_of}
-use Rattle.mq_capsule.specs.Steps.{Holds, IsOpen, IsEnded, IsAt, IsStep, StaysEnded, IsIn, GoesFar, is_begun, is_between, kept_item}
-use Rattle.mq_capsule.specs.Readers.{HasRead, LeavesNone, Stands, Went, kept, room_of}
+use Rattle.mq_capsule.specs.Steps.{Holds, IsOpen, IsEnded, IsAt, IsStep, StaysEnded, BeginsWhole, GoesFar, is_begun, is_between, kept_item}
+use Rattle.mq_capsule.specs.Readers.{HasRead, Stands, StopsAtBoundary, Went, kept, room_of}
 use Rattle.mq_capsule.proofs.Fronts.{front_none, front_front}
 use Rattle.mq_capsule.proofs.Capsules.{capsules_on, capsules_one}
 use Rattle.mq_capsule.proofs.Items.{up_sound, up_any, items_behind, items_ended, items_one}
@@ -116,14 +116,6 @@ far_step control (state.Skip what missing) piece step far ended bytes items at =
 far_step control state.Ended piece step far ended bytes items at = λ less. absurd (omega (arith, ended.2, less))
 far_step control state.Spent piece step far ended bytes items at = absurd at
 
-pub far_used : (old new : Reader) (before : State) (piece : List ℕ) (step : Step) → before ≡ old.state → new.state ≡ step.state
-    → ((rest : List ℕ) → Holds old.control before rest → GoesFar piece step) → StaysEnded before piece step → step.used < length piece → LeavesNone old new
-far_used old new before piece step before_is new_is far ended less control bytes stands =
-    let read = stands.1 in
-    let P : Bool → Type 0 = λ c. (rest : List ℕ) → Holds c before rest → GoesFar piece step in
-    let Q : State → Type 0 = λ s. IsAt control s bytes stands.0 in
-    ap is_begun new_is ∙ far_step control before piece step (subst P read.control_is far) ended bytes stands.0 (subst Q (sym before_is) read.at) less
-
 -- one piece after the other
 pub went_on : (a b c : Reader) (piece next : List ℕ) (more later : List Item) → Went a b piece more → Went b c next later → Went a c (piece ++ next) (more ++ later)
 went_on a b c piece next more later first second control bytes items read =
@@ -159,7 +151,7 @@ between_open (state.Skip what missing) piece step between = tt
 between_open state.Ended piece step between = absurd cc
 between_open state.Spent piece step between = tt
 
-pub whole_went : (old : Reader) (piece : List ℕ) (whole : Whole) (item : Item) → is_between old.state ≡ true → IsIn old.control piece whole
+pub whole_went : (old : Reader) (piece : List ℕ) (whole : WholeCapsule) (item : Item) → is_between old.state ≡ true → BeginsWhole old.control piece whole
     → item ≡ kept_item whole.what (take whole.length (drop whole.front piece)) → Went old old (take (whole.front + whole.length) piece) (item ∷ [])
 whole_went old piece whole item between is_in item_is =
     let step : Step = record { state = old.state; told = Some item; used = whole.front + whole.length } in
@@ -170,14 +162,7 @@ whole_went old piece whole item between is_in item_is =
     is_in.0 is_in.1 refl item_is b.1) in
     went_step old old.state piece step (Some item) refl refl gives (between_open old.state piece step between)
 
-pub whole_leaves : (s : State) → is_between s ≡ true → is_begun s ≡ false
-whole_leaves (state.Front head) between = ap not between
-whole_leaves (state.Keep what bytes' missing) between = absurd cc
-whole_leaves (state.Skip what missing) between = absurd cc
-whole_leaves state.Ended between = refl
-whole_leaves state.Spent between = refl
-
-pub whole_some : (control : Bool) (piece : List ℕ) (whole : Whole) → IsIn control piece whole → 0 < whole.front + whole.length
+pub whole_some : (control : Bool) (piece : List ℕ) (whole : WholeCapsule) → BeginsWhole control piece whole → 0 < whole.front + whole.length
 whole_some control piece whole is_in =
     omega (arith, (front_front control piece (record { plan = Keep whole.what whole.length; used = whole.front }) is_in.0).some)
 
@@ -316,3 +301,40 @@ at_begun control (state.Skip what missing) bytes items at =
     begun_open control (state.Skip what missing) bytes items true at (sym (lt-ltb 0 (length at.rest) (omega (arith, a.within, a.some))))
 at_begun control state.Ended bytes items at = (λ yes. absurd cc, λ ends. absurd (begun_ended control bytes items at ends))
 at_begun control state.Spent bytes items at = absurd at
+
+-- A boundary.
+
+between_begun : (s : State) → is_between s ≡ true → is_begun s ≡ false
+between_begun (state.Front head) between = ap not between
+between_begun (state.Keep what bytes' missing) between = absurd cc
+between_begun (state.Skip what missing) between = absurd cc
+between_begun state.Ended between = refl
+between_begun state.Spent between = refl
+
+-- where the state that comes of it isn't begun
+boundary : (old new : Reader) (piece : List ℕ) (more : List Item) → Went old new piece more
+    → ((control : Bool) (bytes : List ℕ) → Stands old control bytes → is_begun new.state ≡ false)
+    → (control : Bool) (bytes : List ℕ) → Stands old control bytes → EndsInside control (bytes ++ piece) → ⊥
+boundary old new piece more went closed control bytes stands ends =
+    let next = went control bytes stands.0 stands.1 in
+    let begun = (at_begun control new.state (bytes ++ piece) (stands.0 ++ more) next.at).1 ends in
+    both_ways (is_begun new.state) (closed control bytes stands) begun
+
+pub step_boundary : (old : Reader) (before : State) (piece : List ℕ) (step : Step) → before ≡ old.state
+    → ((rest : List ℕ) → Holds old.control before rest → IsStep old.control rest piece step)
+    → ((rest : List ℕ) → Holds old.control before rest → GoesFar piece step) → StaysEnded before piece step
+    → StopsAtBoundary old piece step.used
+step_boundary old before piece step before_is gives far ended less =
+    let new : Reader = record { control = old.control; state = step.state } in
+    let went = went_step old before piece step step.told before_is refl gives ended in
+    let P : Bool → Type 0 = λ c. (rest : List ℕ) → Holds c before rest → GoesFar piece step in
+    boundary old new (take step.used piece) (option_to_list step.told) went
+    (λ control bytes stands.
+    let Q : State → Type 0 = λ s. IsAt control s bytes stands.0 in
+    far_step control before piece step (subst P stands.1.control_is far) ended bytes stands.0 (subst Q (sym before_is) stands.1.at) less)
+
+pub whole_boundary : (old : Reader) (piece : List ℕ) (whole : WholeCapsule) (item : Item) → is_between old.state ≡ true → BeginsWhole old.control piece whole
+    → item ≡ kept_item whole.what (take whole.length (drop whole.front piece)) → StopsAtBoundary old piece (whole.front + whole.length)
+whole_boundary old piece whole item between is_in item_is less =
+    boundary old old (take (whole.front + whole.length) piece) (item ∷ []) (whole_went old piece whole item between is_in item_is)
+    (λ control bytes stands. between_begun old.state between)

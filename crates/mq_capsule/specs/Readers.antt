@@ -1,5 +1,5 @@
 -- What a reader stands for: the bytes that it was fed.
-use Rattle.std.specs.Prelude.{◌≡◌, ℕ, ◌<◌, ◌≤◌, ◌↔◌, List, ◌++◌, length, Option, Some, None, Bool, false}
+use Rattle.std.specs.Prelude.{◌≡◌, ℕ, ◌<◌, ◌≤◌, ◌↔◌, List, ◌++◌, length, take, Option, Some, None, Bool}
 use Rattle.std.specs.List.{AllByRecursion}
 use Rattle.mq_capsule.specs.declared.front.Front.{Front}
 use Rattle.mq_capsule.specs.declared.front.Plan.{Plan}
@@ -11,7 +11,7 @@ use Rattle.mq_capsule.specs.declared.reader.Reader.{Reader}
 use Rattle.mq_capsule.specs.Capsule.{Capsule, AreCapsules}
 use Rattle.mq_capsule.specs.Items.{ItemsOf, IsSized, EndsInside}
 use Rattle.mq_capsule.specs.Fronts.{front_of}
-use Rattle.mq_capsule.specs.Steps.{IsAt, is_begun}
+use Rattle.mq_capsule.specs.Steps.{IsAt}
 
 -- the reader was fed these bytes, and gave these items
 pub record HasRead (r : Reader) (control : Bool) (bytes : List ℕ) (items : List Item) : Type 0 where
@@ -30,13 +30,15 @@ StandsOn old new piece = (control : Bool) (bytes : List ℕ) → Stands old cont
 abbrev pub TellsBegun : Reader → Type 0 → Type 0
 TellsBegun r answer = (control : Bool) (bytes : List ℕ) → Stands r control bytes → answer ↔ EndsInside control bytes
 
--- so many bytes of a piece were taken: one at least, where it has one
-abbrev pub TakesSome : Reader → List ℕ → ℕ → Type 0
-TakesSome r piece used = (control : Bool) (bytes : List ℕ) → Stands r control bytes → 0 < length piece → 0 < used
+-- of a piece that isn't empty, a byte was taken at least
+abbrev pub TakesByte : Reader → List ℕ → ℕ → Type 0
+TakesByte r piece used = (control : Bool) (bytes : List ℕ) → Stands r control bytes → 0 < length piece → 0 < used
 
--- of whatever it was fed no capsule is unfinished then
-abbrev pub LeavesNone : Reader → Reader → Type 0
-LeavesNone old new = (control : Bool) (bytes : List ℕ) → Stands old control bytes → is_begun new.state ≡ false
+-- where bytes of a piece are left, the data stream doesn't end inside a capsule with those that were taken
+abbrev pub StopsAtBoundary : Reader → List ℕ → ℕ → Type 0
+StopsAtBoundary r piece used =
+    used < length piece → (control : Bool) (bytes : List ℕ) → Stands r control bytes
+    → EndsInside control (bytes ++ take used piece) → ⊥
 
 -- memory ran out in the reader
 abbrev pub IsSpent : Reader → Type 0

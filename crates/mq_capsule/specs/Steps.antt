@@ -12,7 +12,7 @@ use Rattle.mq_capsule.specs.declared.item.Item.TheVariants as item
 use Rattle.mq_capsule.specs.declared.state.State.{State}
 use Rattle.mq_capsule.specs.declared.state.State.TheVariants as state
 use Rattle.mq_capsule.specs.declared.step.Step.{Step}
-use Rattle.mq_capsule.specs.declared.step.Whole.{Whole}
+use Rattle.mq_capsule.specs.declared.step.WholeCapsule.{WholeCapsule}
 use Rattle.mq_capsule.specs.Capsule.{Capsule, AreCapsules, head_of}
 use Rattle.mq_capsule.specs.Items.{ItemsOf, item_of, head_items, is_bad}
 use Rattle.mq_capsule.specs.Fronts.{front_of}
@@ -55,7 +55,7 @@ is_begun (state.Skip what missing) = true
 is_begun state.Ended = false
 is_begun state.Spent = false
 
--- nothing was read of the capsule that comes next
+-- the next byte begins a capsule; where nothing is read any more none does
 abbrev pub is_between : State → Bool
 is_between (state.Front head) = length head.items == 0
 is_between (state.Keep what bytes missing) = false
@@ -90,9 +90,9 @@ IsAt control state.Spent bytes items = ⊥
 pub record IsStep (control : Bool) (rest piece : List ℕ) (s : Step) : Type 0 where
   pub at : IsAt control s.state (rest ++ take s.used piece) (option_to_list s.told)
 
--- a capsule that is kept, whose front the piece begins with, and whose bytes the piece has
-abbrev pub IsIn : Bool → List ℕ → Whole → Type 0
-IsIn control piece whole =
+-- the piece begins with this capsule, which is kept, and has all its bytes
+abbrev pub BeginsWhole : Bool → List ℕ → WholeCapsule → Type 0
+BeginsWhole control piece whole =
     (front_of control piece ≡ Some (record { plan = Keep whole.what whole.length; used = whole.front })) × (whole.front + whole.length ≤ length piece)
 
 -- a step that took the whole piece, with which nothing is whole
@@ -104,8 +104,8 @@ abbrev pub LeadsTo : Bool → State → List ℕ → Step → Type 0
 LeadsTo control s piece step = (rest : List ℕ) → Holds control s rest → IsStep control rest piece step
 
 -- and it takes a byte at least, where there is one
-abbrev pub TakesSome : Bool → State → List ℕ → ℕ → Type 0
-TakesSome control s piece used = (rest : List ℕ) → Holds control s rest → 0 < length piece → 0 < used
+abbrev pub StepTakesByte : Bool → State → List ℕ → ℕ → Type 0
+StepTakesByte control s piece used = (rest : List ℕ) → Holds control s rest → 0 < length piece → 0 < used
 
 -- it takes all of the piece, or leaves nothing unfinished
 abbrev pub GoesFar : List ℕ → Step → Type 0

@@ -1,7 +1,7 @@
 //! The reader of capsules, from pieces in any cutting.
 ghost use Rattle.std.specs.Prelude.{◌≡◌, ℕ, ◌<◌, ◌≤◌, List, [], Bool, true, length, take, option_to_list, IfOk, OnOk, OnErr, IsErr};
 ghost use Rattle.mq_capsule.specs.Items.{max_control};
-ghost use Rattle.mq_capsule.specs.Readers.{Stands, StandsOn, GivesItems, AreSized, TellsBegun, IsSpent, Reads, TakesSome, LeavesNone, Went};
+ghost use Rattle.mq_capsule.specs.Readers.{Stands, StandsOn, GivesItems, AreSized, TellsBegun, IsSpent, Reads, TakesByte, StopsAtBoundary, Went};
 ghost use Rattle.mq_capsule.specs.Readers.{KeepsAtMost, KeepsFew};
 
 use super::item::{Item, Truncated};
@@ -67,13 +67,14 @@ impl Reader {
         }
     }
 
-    /// Takes bytes of the piece until a capsule is whole, or all of them. What is left of the piece is for the next call. So no
-    /// list of items is made. After an `Err` the reader is of no use: every later call answers the same.
+    /// Takes bytes of the piece until a capsule is whole or can't be one, or all of them. What is left of the piece is for the
+    /// next call, so that no list of items is made. Behind a `Bad` each call takes all of its piece, and gives no item. After an
+    /// `Err` the reader is of no use: every later call answers the same.
     #[inline]
     pub fn next(&mut self, alloc: Global, piece: &[u8]) -> Result<Taken, NoMemory>
         ensures within { IfOk result (λ taken. taken.used ≤ length piece.now) }
-        ensures some { IfOk result (λ taken. TakesSome self.old piece.now taken.used) }
-        ensures far { IfOk result (λ taken. taken.used < length piece.now → LeavesNone self.old self.new) }
+        ensures some { IfOk result (λ taken. TakesByte self.old piece.now taken.used) }
+        ensures boundary { IfOk result (λ taken. StopsAtBoundary self.old piece.now taken.used) }
         ensures items { IfOk result (λ taken. GivesItems self.old (take taken.used piece.now) (option_to_list taken.item)) }
         ensures sized { IfOk result (λ taken. AreSized self.old (option_to_list taken.item)) }
         ensures stands { IfOk result (λ taken. StandsOn self.old self.new (take taken.used piece.now)) }
@@ -124,7 +125,7 @@ impl Reader {
         Ok(())
     }
 
-    /// Takes bytes until a capsule is whole, or all of them, and puts its item at the back of the list.
+    /// Takes bytes until a capsule is whole or can't be one, or all of them, and puts its item at the back of the list.
     fn step(
         &mut self,
         alloc: Global,
@@ -132,7 +133,7 @@ impl Reader {
         items: &mut Vec<Item>,
     ) -> Result<usize, NoMemory>
         ensures within { IfOk result (λ used. used ≤ length piece.now) }
-        ensures some { IfOk result (TakesSome self.old piece.now) }
+        ensures some { IfOk result (TakesByte self.old piece.now) }
         ensures went { IfOk result (λ used.
             Reads self.old self.new (take used piece.now) items.old.items items.new.items) }
     {
@@ -146,11 +147,12 @@ impl Reader {
         }
     }
 
-    /// Takes bytes until a capsule is whole, or all of them. One that is whole in the piece is read where it lies.
+    /// Takes bytes until a capsule is whole or can't be one, or all of them. One that is kept, begins with the piece and is whole
+    /// in it is read where it lies.
     fn advance(&mut self, alloc: Global, piece: &[u8]) -> Result<Taken, NoMemory>
         ensures within { IfOk result (λ taken. taken.used ≤ length piece.now) }
-        ensures some { IfOk result (λ taken. TakesSome self.old piece.now taken.used) }
-        ensures far { IfOk result (λ taken. taken.used < length piece.now → LeavesNone self.old self.new) }
+        ensures some { IfOk result (λ taken. TakesByte self.old piece.now taken.used) }
+        ensures boundary { IfOk result (λ taken. StopsAtBoundary self.old piece.now taken.used) }
         ensures went { IfOk result (λ taken. Went self.old self.new (take taken.used piece.now) (option_to_list taken.item)) }
     {
         if self.state.is_between() {
@@ -168,8 +170,8 @@ impl Reader {
     /// The same, from any state.
     fn go_on(&mut self, alloc: Global, piece: &[u8]) -> Result<Taken, NoMemory>
         ensures within { IfOk result (λ taken. taken.used ≤ length piece.now) }
-        ensures some { IfOk result (λ taken. TakesSome self.old piece.now taken.used) }
-        ensures far { IfOk result (λ taken. taken.used < length piece.now → LeavesNone self.old self.new) }
+        ensures some { IfOk result (λ taken. TakesByte self.old piece.now taken.used) }
+        ensures boundary { IfOk result (λ taken. StopsAtBoundary self.old piece.now taken.used) }
         ensures went { IfOk result (λ taken. Went self.old self.new (take taken.used piece.now) (option_to_list taken.item)) }
     {
         if take_in_place(&mut self.state, piece)? {

@@ -30,7 +30,7 @@ pub enum State {
 }
 
 impl State {
-    /// Whether nothing was read of the capsule that comes next.
+    /// Whether the next byte begins a capsule. Where nothing is read any more none does.
     pub fn is_between(&self) -> bool
         ensures { result ≡ is_between self.now }
     {

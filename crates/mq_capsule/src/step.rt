@@ -1,7 +1,7 @@
-//! One step of reading: bytes of a piece, until a capsule is whole or the piece ends.
+//! One step of reading: bytes of a piece, until a capsule is whole or can't be one, or the piece ends.
 ghost use Rattle.std.specs.Prelude.{◌≡◌, ◌+◌, ◌<◌, ◌≤◌, Bool, true, false, None, length, take, drop, ℕ, List, IfOk, IfSome};
 ghost use Rattle.mq_capsule.specs.Fronts.{front_of};
-ghost use Rattle.mq_capsule.specs.Steps.{IsIn, IsStep, LeadsTo, LeadsFrom, LeadsFromKept, LeadsFromSkipped, TakesSome, GoesFar, Holds};
+ghost use Rattle.mq_capsule.specs.Steps.{BeginsWhole, IsStep, LeadsTo, LeadsFrom, LeadsFromKept, LeadsFromSkipped, StepTakesByte, GoesFar, Holds};
 ghost use Rattle.mq_capsule.specs.Steps.{StaysEnded, all_taken, kept_item, skipped_item};
 
 use super::front::{Front, Kept, Plan, Skipped};
@@ -24,7 +24,7 @@ pub struct Step {
 
 /// A capsule that is kept and is whole in one piece, whose first byte is that of the piece.
 #[derive(Clone, Copy)]
-pub struct Whole {
+pub struct WholeCapsule {
     pub what: Kept,
     /// How many bytes its front has.
     pub front: usize,
@@ -33,8 +33,8 @@ pub struct Whole {
 }
 
 /// The capsule that a piece begins with, where it is kept and is whole there.
-pub fn whole_in(control: bool, piece: &[u8]) -> Option<Whole>
-    ensures { IfSome result (λ whole. IsIn control piece.now whole) }
+pub fn whole_in(control: bool, piece: &[u8]) -> Option<WholeCapsule>
+    ensures { IfSome result (λ whole. BeginsWhole control piece.now whole) }
 {
     let front = Front::of(control, piece)?;
     let Plan::Keep { what, length } = front.plan else {
@@ -43,7 +43,7 @@ pub fn whole_in(control: bool, piece: &[u8]) -> Option<Whole>
     if length > (piece.len() - front.used) as u64 {
         return None;
     }
-    Some(Whole {
+    Some(WholeCapsule {
         what,
         front: front.used,
         length: length as usize,
@@ -51,7 +51,7 @@ pub fn whole_in(control: bool, piece: &[u8]) -> Option<Whole>
 }
 
 /// What that capsule says.
-pub fn take_whole(alloc: Global, whole: Whole, piece: &[u8]) -> Result<Item, NoMemory>
+pub fn take_whole(alloc: Global, whole: WholeCapsule, piece: &[u8]) -> Result<Item, NoMemory>
     requires { whole.front + whole.length ≤ length piece.now }
     ensures { IfOk result (λ item. item ≡ kept_item whole.what (take whole.length (drop whole.front piece.now))) }
 {
@@ -64,7 +64,7 @@ pub fn take_whole(alloc: Global, whole: Whole, piece: &[u8]) -> Result<Item, NoM
 /// A step from any state.
 pub fn advance(alloc: Global, control: bool, state: State, piece: &[u8]) -> Result<Step, NoMemory>
     ensures within { IfOk result (λ s. s.used ≤ length piece.now) }
-    ensures some { IfOk result (λ s. TakesSome control state piece.now s.used) }
+    ensures some { IfOk result (λ s. StepTakesByte control state piece.now s.used) }
     ensures far { IfOk result (λ s. (rest : List ℕ) → Holds control state rest → GoesFar piece.now s) }
     ensures gives { IfOk result (λ s. LeadsTo control state piece.now s) }
     ensures ended { IfOk result (λ s. StaysEnded state piece.now s) }
