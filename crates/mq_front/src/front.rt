@@ -57,7 +57,7 @@ fn read_other(
     }
 }
 
-/// Reads a piece behind so many bytes of the preface.
+/// What a piece leads to behind so many bytes of the preface.
 #[inline(never)]
 fn read_first<T: Tunnels>(
     alloc: Global,
@@ -122,7 +122,7 @@ impl Front {
         }
     }
 
-    /// Reads a piece behind so many bytes of the preface.
+    /// Reads a piece behind so many bytes of the preface, and becomes what it leads to.
     #[inline(never)]
     fn read_preface<T: Tunnels>(
         &mut self,

@@ -149,9 +149,9 @@ fn put_payload(stream: u32, n: u64, payload: Bytes, due: &mut Dues) -> Result<()
     }))
 }
 
-/// Puts what an item asks for at the back of the list, and answers whether it closes the tunnel.
+/// Puts what an item asks for at the back of the list, as an act that is made first, and answers whether it closes the tunnel.
 #[inline(never)]
-fn put_any(
+fn put_by_act(
     alloc: Global,
     carrier: Carrier,
     n: u64,
@@ -166,8 +166,8 @@ fn put_any(
     }
 }
 
-/// The same for a datagram. A payload for a port is put as it is: an act has the size of the largest, so that each move of
-/// one costs.
+/// The same for a datagram. A payload for a port is put at once: an act that is made first has the size of the largest, and
+/// each move of it costs.
 fn put_datagram(
     alloc: Global,
     carrier: Carrier,
@@ -182,10 +182,10 @@ fn put_datagram(
         put_payload(carrier.stream, n, payload, due)?;
         return Ok(false);
     }
-    put_any(alloc, carrier, n, Item::Datagram { context, payload }, due)
+    put_by_act(alloc, carrier, n, Item::Datagram { context, payload }, due)
 }
 
-/// The same for an item.
+/// The same for any item: a payload for a port is put at once, all else as an act that is made first.
 fn put_item(
     alloc: Global,
     carrier: Carrier,
@@ -199,7 +199,7 @@ fn put_item(
         Item::Datagram { context, payload } => {
             put_datagram(alloc, carrier, n, context, payload, due)
         }
-        other => put_any(alloc, carrier, n, other, due),
+        other => put_by_act(alloc, carrier, n, other, due),
     }
 }
 
