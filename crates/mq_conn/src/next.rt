@@ -77,8 +77,8 @@ impl Conn {
         }
     }
 
-    /// The tunnel of which it wants to send a payload to the port, where that is seen at once: it is what `next` tells as `SendUdp`,
-    /// and what most connections want that want something.
+    /// The tunnel of which it wants to send a payload to the port, if that is what it wants: what `next` tells as `SendUdp`, and
+    /// what most connections want that want something.
     pub fn sends(&self) -> Option<u32>
         ensures { (s : machine.Conn) → IsConn self.now s → SendsTo result (want_of s) }
     {
@@ -113,10 +113,7 @@ impl Conn {
         ensures { SendsTo result (tunnel_want (find_on self.now stream) act.now) }
     {
         match act {
-            StreamAct::Payload { .. } => match self.on(stream) {
-                None => None,
-                Some(tunnel) => Some(tunnel.id),
-            },
+            StreamAct::Payload { .. } => self.live(stream),
             _ => None,
         }
     }
