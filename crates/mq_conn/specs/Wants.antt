@@ -48,7 +48,7 @@ IsWant (want.Ended why) m = m ≡ machine.Over why
 IsWant (want.Judge tunnel n flow) m = m ≡ machine.Judge tunnel n flow
 IsWant (want.Push to) m = (parcel : Parcel) × (m ≡ machine.Push parcel)
 
--- the tunnel of which it wants to send a payload, and none where it wants something else
+-- the tunnel of which it wants to send a payload, and none where it wants no send
 abbrev pub SendsTo : Option ℕ → machine.Want → Type 0
 SendsTo None m = (tunnel n : ℕ) (payload : List ℕ) → m ≡ machine.Send tunnel n payload → ⊥
 SendsTo (Some tunnel) m = (n : ℕ) × (payload : List ℕ) × (m ≡ machine.Send tunnel n payload)
