@@ -2,7 +2,7 @@
 use Rattle.std.proofs.Common.{◌≡◌, ℕ, zero, suc, ◌<◌, Bool, true, false, List, [], ◌∷◌, ◌++◌, length, Option, Some, None, Ok, Err, refl, sym, ap, subst, ◌∙◌, arith, append_assoc, append-nil, inr}
 use Rattle.std.specs.Prelude.{nat_lt, if◌then◌else◌}
 use Rattle.std.specs.List.{AllByRecursion}
-use Rattle.std.proofs.lemmas.Bool.{lt-ltb}
+use Rattle.std.proofs.lemmas.Bool.{lt-ltb, ltb-true}
 use Rattle.std.proofs.lemmas.List.{length-set}
 use Rattle.mq_machine.specs.State.{State}
 use Rattle.mq_machine.specs.declared.event.Event.TheVariants as event
@@ -20,6 +20,8 @@ use Rattle.mq_world.specs.declared.stepped.Stepped.TheVariants.{Did, Refused}
 use Rattle.mq_replay.specs.Playing.{IsAt, Acts, StepTo, RunsTo, IsCutOff}
 use Rattle.mq_output.specs.declared.stop.Stop.{Stop}
 use Rattle.mq_output.specs.declared.stop.Stop.TheVariants.{BadLine, WriteFault, NoMemory}
+use Rattle.mq_world.specs.declared.stepped.WorldFault.{WorldFault}
+use Rattle.mq_world.specs.declared.stepped.WorldFault.TheVariants as fault
 use Rattle.mq_world.specs.declared.world.World.{World}
 use Rattle.mq_world.specs.Worlds.{IsWorld, actor_at, answered, StepOf, StepGives}
 
@@ -158,26 +160,24 @@ step_unnoted May Hears o p w after text WriteFault h = (text, h, λ s actor did.
 step_unnoted May Hears o p w after text NoMemory h = ([], h, λ s actor did. refl)
 step_unnoted May Hears o p w after text BadLine h = absurd h
 
--- a step was refused memory, and the play stops
-pub step_unheard : (May : Fate → Type 0) (w : World) (s : State) (actor : Actor) (why : Stop) → why ≡ NoMemory → StepTo May w s actor [] (Err why)
-step_unheard May w s actor why e =
-    let P : Stop → Type 0 = λ stop. StepTo May w s actor [] (Err stop) in
-    subst P (sym e) refl
+-- the number of an actor names one
+pub step_missing : (May : Fate → Type 0) (w : World) (s : State) (number : ℕ) (actor : Actor) (why : WorldFault) → IsAt s number actor → StepGives (IsWorld w) s (event.Step number) (Err why)
+    → StepTo May w s actor [] (Ok moved.Idle)
+step_missing May w s number actor fault.Missing at told = absurd (let within = at.within in let past = ltb-true (length s.workers) number told.0 in omega (arith, within, past))
+step_missing May w s number actor fault.NoMemory at told = absurd (told.0 number refl)
 
 -- a step was taken, and what it told was heard
 pub told_did : {A : Type 0} (May : Fate → Type 0) (Hears : A → A → List ℕ → Type 0) (o p : A) (Was : State → Type 0) (w : World) (number : ℕ) (told : Option Note) (done : Unit {0})
     → HearsTold Hears o p told (Ok done) → ((s : State) → Was s → StepGives (IsWorld w) s (event.Step number) (answered (Ok acted.Did) told)) → May Noted → IsTurnOrQuiet
     → (shown : List ℕ) × Hears o p shown × ((s : State) (actor : Actor) → Was s → IsAt s number actor → StepTo May w s actor shown (Ok moved.Acted))
-told_did May Hears o p Was w number None done heard gives may law = absurd (let e = heard.1 in cc)
+told_did May Hears o p Was w number None done heard gives may law = ([], heard, λ s actor is at. absurd ((gives s is).0 number refl))
 told_did May Hears o p Was w number (Some note) done heard gives may law = (printed (Says note), heard, λ s actor is at. step_did w s number actor note may law at (gives s is))
 
 -- or the sink failed, or memory ran out before that
 pub told_stops : {A : Type 0} (May : Fate → Type 0) (Hears : A → A → List ℕ → Type 0) (o p : A) (Was : State → Type 0) (w : World) (number : ℕ) (told : Option Note) (why : Stop)
     → HearsTold Hears o p told (Err why) → ((s : State) → Was s → StepGives (IsWorld w) s (event.Step number) (answered (Ok acted.Did) told)) → May Noted → IsTurnOrQuiet
     → (shown : List ℕ) × Hears o p shown × ((s : State) (actor : Actor) → Was s → IsAt s number actor → StepTo May w s actor shown (Err why))
-told_stops May Hears o p Was w number None why heard gives may law =
-    let same : why ≡ NoMemory = (let e = heard.1 in cc) in
-    ([], heard.0, λ s actor is at. step_unheard May w s actor why same)
+told_stops May Hears o p Was w number None why heard gives may law = absurd heard
 told_stops May Hears o p Was w number (Some note) why heard gives may law =
     let failed = step_unnoted May Hears o p w w (printed (Says note)) why heard in
     (failed.0, failed.1, λ s actor is at. failed.2 s actor (step_did w s number actor note may law at (gives s is)))

@@ -15,9 +15,10 @@ HearsTo Hears old new text (Err WriteFault) = Hears old new text
 HearsTo Hears old new text (Err NoMemory) = Hears old new []
 HearsTo Hears old new text (Err BadLine) = ⊥
 
--- what a step told was heard; where it told nothing, the play stops
+-- what a step told was heard; where it told nothing, nothing was
 abbrev pub HearsTold : {A : Type 0} → (A → A → List ℕ → Type 0) → A → A → Option Note → Result (Unit {0}) Stop → Type 0
-HearsTold Hears old new None result = Hears old new [] × (result ≡ Err NoMemory)
+HearsTold Hears old new None (Ok done) = Hears old new []
+HearsTold Hears old new None (Err why) = ⊥
 HearsTold Hears old new (Some note) result = HearsTo Hears old new (printed (Says note)) result
 
 -- the play goes on behind a step that was refused memory only where that may be heard

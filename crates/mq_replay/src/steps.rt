@@ -37,14 +37,14 @@ pub fn number_of(world: &World, name: u32) -> Option<u32>
     (name < count).then_some(name)
 }
 
-/// What a step told is heard. A step that an actor took has told something.
+/// What a step told is heard. A step that an actor took told something.
 fn hear<L: Listener>(told: &Option<Note>, listener: &mut L) -> Result<(), Stop>
     ensures says { HearsTold L.hears listener.old listener.new told.now result }
     ensures counts { StopCounts (L.faults listener.old) (L.faults listener.new) result }
 {
     match told {
         Some(note) => listener.note(note),
-        None => Err(Stop::NoMemory),
+        None => Ok(()),
     }
 }
 
@@ -71,8 +71,8 @@ fn take_told<L: Listener>(
             Ok(Moved::Acted)
         }
         Ok(Acted::Idle) => Ok(Moved::Idle),
-        // Each actor of the world has a number.
-        Err(_) => Err(Stop::NoMemory),
+        // No actor has this number.
+        Err(_) => Ok(Moved::Idle),
     }
 }
 

@@ -1,7 +1,7 @@
 use Rattle.std.proofs.Common.{[]}
 use Rattle.std.proofs.lemmas.Result.{err_from_is_err_and}
 use Rattle.mq_world.specs.Worlds.{IsWorld}
-use Rattle.mq_replay.proofs.Onward.{step_refused, step_idle, told_did, told_stops}
+use Rattle.mq_replay.proofs.Onward.{step_refused, step_idle, step_missing, told_did, told_stops}
 use Rattle.mq_replay.proofs.steps.take_told.Goals as goal
 
 pub returns-in_ok-hear-in-Ok-Did-clause-step : goal.returns-in_ok-hear-in-Ok-Did-clause-step
@@ -32,4 +32,11 @@ returns-in-Ok-Idle-clause-step g c = (
   λ s actor is at.
       let told = rw c.in-Ok-Idle.field-0-is at (c.in-Ok-Idle.ensures s is) in
       step_idle g.L.Listener.may_hear c.act.new.self s c.args.number actor at told,
+)
+
+pub returns-in-Err-clause-step : goal.returns-in-Err-clause-step
+returns-in-Err-clause-step g c = (
+  [],
+  g.met.L.Listener.hears_none _,
+  λ s actor is at. step_missing g.L.Listener.may_hear c.act.new.self s c.args.number actor _ at (c.in-Err.ensures s is),
 )
