@@ -6,8 +6,7 @@ use Rattle.mq_talk.specs.declared.place.Place.{Place}
 use Rattle.mq_talk.specs.declared.place.Place.TheVariants as place
 use Rattle.mq_talk.specs.Mails.{Inboxes}
 use Rattle.mq_held.specs.declared.held.Held.{Held as HeldBy}
-use Rattle.mq_step.specs.declared.stepped.Stepped.{Stepped}
-use Rattle.mq_step.specs.declared.stepped.Stepped.TheVariants.{Quiet, Did, Ended}
+use Rattle.mq_step.specs.Notes.{SteppedWith, Quiet, Did, Ended, Noteless}
 use Rattle.mq_actor.specs.declared.ring.Ring.{Ring}
 use Rattle.mq_actor.specs.Ended.{conn_numbers, offer_numbers, numbers_in, LeftAlone, AreLeft}
 use Rattle.mq_actor.specs.declared.offer.Offer.{Offer as OfferBy}
@@ -113,10 +112,11 @@ module _ {L Q : Type 0} (words : Words L Q) (conns offers : List ℕ) (upper : B
         offered = ap (λ (z : Ring L). offer_numbers z) gives.1 ∙ all.offered;
       }
 
-  acted_left : (mid : Moment L Q) (place : ℕ) (was held : HeldBy L) (stepped : Result Stepped NoMemory) (result : Result (Option Note) NoMemory)
+  acted_left : (mid : Moment L Q) (place : ℕ) (was held : HeldBy L) (stepped : Result SteppedWith NoMemory) (result : Result (Option Note) NoMemory)
       → numbers_of_all mid.conns ≡ conns → slice_get mid.conns place ≡ Some was → held.number ≡ was.number
       → LeavesRing place was held mid.conns r s stepped result → AreLeft conns offers s
   acted_left mid place was held (Ok Quiet) result numbers at same leaves = absurd leaves
+  acted_left mid place was held (Ok Noteless) result numbers at same leaves = absurd leaves
   acted_left mid place was held (Ok (Did said)) result numbers at same leaves =
       all_left conns offers s (record {
         none = ap (λ (z : Ring L). z.ended) leaves.2 ∙ all.none;

@@ -28,6 +28,7 @@ pub mod Pointwise
 pub mod Turning
 pub mod Between
 pub mod Neighbours
+pub mod Noting
 pub mod Lefts
 pub mod Acted
 pub mod Outcomes

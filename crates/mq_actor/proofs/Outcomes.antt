@@ -10,8 +10,7 @@ use Rattle.mq_machine.specs.State.{Offer, Worker, Orders}
 use Rattle.mq_machine.specs.Turn.{Of, tries_of}
 use Rattle.mq_machine.specs.Acting.{Outside, HasTold, Known, StepGives, Writes}
 use Rattle.mq_held.specs.declared.held.Held.{Held as HeldBy}
-use Rattle.mq_step.specs.declared.stepped.Stepped.{Stepped}
-use Rattle.mq_step.specs.declared.stepped.Stepped.TheVariants.{Quiet, Did, Ended}
+use Rattle.mq_step.specs.Notes.{SteppedWith, Quiet, Did, Ended, Noteless}
 use Rattle.mq_step.specs.Holds.{IsHeld}
 use Rattle.mq_step.specs.Rooms.{HasRooms}
 use Rattle.mq_step.specs.Whole.{Sees}
@@ -61,7 +60,7 @@ module _ {L Q : Type 0} (words : Words L Q) (r m : Ring L) (old mid new : Moment
   acting = here words r m old mid new count tried offers_tried inbox_tried so o n sees x is place was now at untried
 
   -- what the step of the connection gives, by the worker's setup and by what was seen at first
-  given : (stepped : Result Stepped NoMemory) → Acts words m.setup mid new stepped was now → SeesConn words new.table now n
+  given : (stepped : Result SteppedWith NoMemory) → Acts words m.setup mid new stepped was now → SeesConn words new.table now n
       → Gives x.setup tries_of Anything o n old.seen new.seen old.boxes new.boxes (IsHeld words.most new.table now) acting.s stepped
   given stepped acts sees_now =
       let S : Setup → Type 0 = λ z. Gives z tries_of Anything o n mid.seen new.seen mid.boxes new.boxes (IsHeld words.most new.table now) acting.s stepped in
@@ -99,9 +98,10 @@ module _ {L Q : Type 0} (words : Words L Q) (r m : Ring L) (old mid new : Moment
       let M : Option (HeldBy L) → Type 0 = λ z. MatchOption z ⊤ (λ h. SeesConn words new.table h n) in
       subst M e later.ended
 
-  by_stepped : (orders : Orders) (stepped : Result Stepped NoMemory) (result : Result (Option Note) NoMemory) → Acts words m.setup mid new stepped was now
+  by_stepped : (orders : Orders) (stepped : Result SteppedWith NoMemory) (result : Result (Option Note) NoMemory) → Acts words m.setup mid new stepped was now
       → LeavesRing place was now mid.conns m s stepped result → Gave orders result
   by_stepped orders (Ok Quiet) result acts leaves = absurd leaves
+  by_stepped orders (Ok Noteless) result acts leaves = absurd leaves
   by_stepped orders (Ok (Did said)) result acts leaves =
       let items = leaves.1 in
       let eq = leaves.2 in

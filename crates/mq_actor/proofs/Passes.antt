@@ -1,13 +1,12 @@
 -- The connections of a part of the ring, each in its turn.
-use Rattle.std.proofs.Common.{◌≡◌, ◌⊎◌, ◌↔◌, inl, inr, ℕ, ◌+◌, ◌<◌, ◌≤◌, Bool, List, length, slice_get, Option, Some, None, Result, Ok, Err}
+use Rattle.std.proofs.Common.{◌≡◌, ◌⊎◌, ◌↔◌, inl, inr, ℕ, ◌+◌, ◌<◌, ◌≤◌, Bool, List, length, slice_get, Option, Some, None, Result, Ok, Err, sym}
 use Rattle.std.proofs.Common.{refl, ap, subst, ◌∙◌, arith}
 use Rattle.std.specs.Result.{IsErr}
 use Rattle.std.proofs.lemmas.Bool.{cases_lt}
 use Rattle.mq_wire.specs.declared.NoMemory.{NoMemory}
 use Rattle.mq_talk.specs.declared.note.Note.{Note}
 use Rattle.mq_held.specs.declared.held.Held.{Held as HeldBy}
-use Rattle.mq_step.specs.declared.stepped.Stepped.{Stepped}
-use Rattle.mq_step.specs.declared.stepped.Stepped.TheVariants.{Quiet, Did, Ended}
+use Rattle.mq_step.specs.Notes.{SteppedWith, Quiet, Did, Ended, Noteless}
 use Rattle.mq_step.proofs.Others.{at_within}
 use Rattle.mq_actor.specs.declared.ring.Ring.{Ring}
 use Rattle.mq_actor.specs.Seen.{Words, Moment}
@@ -50,13 +49,19 @@ pass_ends {L} words old new upper from place all passed =
 
 -- ---- from the ring as it was at the start
 
-leaves_from : {L : Type 0} (place : ℕ) (was now : HeldBy L) (conns : List (HeldBy L)) (r s mid : Ring L) (stepped : Result Stepped NoMemory)
+leaves_from : {L : Type 0} (place : ℕ) (was now : HeldBy L) (conns : List (HeldBy L)) (r s mid : Ring L) (stepped : Result SteppedWith NoMemory)
     (result : Result (Option Note) NoMemory) → LeavesRing place was now conns (record r { conns = mid.conns; rooms = mid.rooms }) s stepped result
     → LeavesRing place was now conns r s stepped result
 leaves_from place was now conns r s mid (Ok (Did note)) result leaves = leaves
 leaves_from place was now conns r s mid (Ok (Ended note)) result leaves = leaves
 leaves_from place was now conns r s mid (Ok Quiet) result leaves = leaves
+leaves_from place was now conns r s mid (Ok Noteless) result leaves = leaves
 leaves_from place was now conns r s mid (Err refused) result leaves = leaves
+
+-- its note is what was told
+pub told_passes : {L Q : Type 0} (words : Words L Q) (upper : Bool) (r s : Ring L) (old new : Moment L Q) (told : Option Note) (said : Note) → told ≡ Some said
+    → PassGives words upper r s old new (Ok (Some said)) → PassGives words upper r s old new (Ok told)
+told_passes words upper r s old new told said is gives = let P : Option Note → Type 0 = λ z. PassGives words upper r s old new (Ok z) in subst P (sym is) gives
 
 module _ {L Q : Type 0} (words : Words L Q) (upper : Bool) (place : ℕ) (r mid s : Ring L) (old now new : Moment L Q) where
   -- what acted in the ring as it is acted in the ring as it was
@@ -76,11 +81,12 @@ module _ {L Q : Type 0} (words : Words L Q) (upper : Bool) (place : ℕ) (r mid 
       }
 
   -- The connection at this place did something.
-  pub pass_stops : (did : Option Note) → (did ≡ None → ⊥) → mid ≡ record r { conns = mid.conns; rooms = mid.rooms }
+  pub pass_stops : (did : Option Note) (said : Note) → did ≡ Some said → mid ≡ record r { conns = mid.conns; rooms = mid.rooms }
       → Passed words old now (before upper r.next_seat place) → HaveOwnPorts now.conns → TryGives words upper place mid s now new (Ok did)
-      → PassGives words upper r s old new (Ok did)
-  pass_stops None some same passed own gives = absurd (some refl)
-  pass_stops (Some note) some same passed own gives = record { mid = now; place = place; passed = passed; ports = own; acted = acted_from (Ok (Some note)) same gives }
+      → PassGives words upper r s old new (Ok (Some said))
+  pass_stops did said is same passed own gives =
+      let G : Option Note → Type 0 = λ z. TryGives words upper place mid s now new (Ok z) in
+      record { mid = now; place = place; passed = passed; ports = own; acted = acted_from (Ok (Some said)) same (subst G is gives) }
 
   -- It was refused memory.
   pub pass_fails : (why : NoMemory) (result : Result (Option Note) NoMemory) → IsErr result → mid ≡ record r { conns = mid.conns; rooms = mid.rooms }

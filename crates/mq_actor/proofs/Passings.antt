@@ -14,8 +14,7 @@ use Rattle.mq_machine.specs.Want.{Want, Nothing, Say, Bind, Ask, Judge, Push, Se
 use Rattle.mq_machine.specs.Turn.{Try, Act, Frame, Write, Read, Receive, tries_of}
 use Rattle.mq_machine.specs.Acting.{Outside, ConnWaited, Rose, WantWaited, Binder}
 use Rattle.mq_held.specs.declared.held.Held.{Held as HeldBy}
-use Rattle.mq_step.specs.declared.stepped.Stepped.{Stepped}
-use Rattle.mq_step.specs.declared.stepped.Stepped.TheVariants.{Quiet}
+use Rattle.mq_step.specs.Notes.{SteppedWith, Quiet}
 use Rattle.mq_step.specs.Holds.{IsHeld, IsKnown, SeatsApart}
 use Rattle.mq_step.specs.Whole.{Sees}
 use Rattle.mq_step.specs.Gives.{Asked, Waited}
@@ -236,7 +235,7 @@ known_passed words old new tried p k =
 -- ---- one was tried
 
 -- of the same connection
-pub same_acts : {L Q : Type 0} (words : Words L Q) (setup : Setup) (old new : Moment L Q) (r : Result Stepped NoMemory) (held was now : HeldBy L) → held ≡ was
+pub same_acts : {L Q : Type 0} (words : Words L Q) (setup : Setup) (old new : Moment L Q) (r : Result SteppedWith NoMemory) (held was now : HeldBy L) → held ≡ was
     → Acts words setup old new r held now → Acts words setup old new r was now
 same_acts {L} words setup old new r held was now e acts = let P : HeldBy L → Type 0 = λ h. Acts words setup old new r h now in subst P e acts
 

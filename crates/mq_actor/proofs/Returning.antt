@@ -74,6 +74,10 @@ module _ {L Q : Type 0} (words : Words L Q) (self : Ring L) (old : Moment L Q) (
   err_promise s new refused (Ok did) is gives = absurd cc
   err_promise s new refused (Err why) is gives = gives
 
+  -- the note is what was told
+  pub told_promise : (s : Ring L) (new : Moment L Q) (told : Option Note) (said : Note) → told ≡ Some said → Promise s new (Ok (Some said)) → Promise s new (Ok told)
+  told_promise s new told said is gives = let P : Option Note → Type 0 = λ z. Promise s new (Ok z) in subst P (sym is) gives
+
   worker_begun : (x : Worker) → IsWorker words.most old.table self x → IsWorker words.most old.table (begun self) x
   worker_begun x is = record {
     id = is.id;

@@ -13,8 +13,7 @@ use Rattle.mq_machine.specs.Acting.{Outside, Known}
 use Rattle.mq_conn.specs.Conns.{IsConn}
 use Rattle.mq_held.specs.declared.held.Held.{Held as HeldBy}
 use Rattle.mq_held.specs.declared.held.PortSeat.{PortSeat}
-use Rattle.mq_step.specs.declared.stepped.Stepped.{Stepped}
-use Rattle.mq_step.specs.declared.stepped.Stepped.TheVariants.{Quiet, Did, Ended}
+use Rattle.mq_step.specs.Notes.{SteppedWith, Quiet, Did, Ended, Noteless}
 use Rattle.mq_step.specs.Holds.{IsHeld, ArePorts, SeatsApart}
 use Rattle.mq_step.specs.Whole.{Sees, filled}
 use Rattle.mq_step.specs.Wanted.{with_prepared}
@@ -71,7 +70,7 @@ module _ {L Q : Type 0} (words : Words L Q) (r m : Ring L) (old mid new : Moment
       subst AreDistinct (ap (λ (ns : List ℕ). ns ++ os) (sym e)) (subst A (sym so.starts) is.numbers)
 
   -- what the step of the connection gives, as an outside sees it alone
-  given : (stepped : Result Stepped NoMemory) → Acts words m.setup mid new stepped was now
+  given : (stepped : Result SteppedWith NoMemory) → Acts words m.setup mid new stepped was now
       → Gives x.setup tries_of Anything o (lone_sight words new.binds new.table now) old.seen new.seen old.boxes new.boxes (IsHeld words.most new.table now) acting.s stepped
   given stepped acts =
       let n : Outside = lone_sight words new.binds new.table now in
@@ -110,9 +109,10 @@ module _ {L Q : Type 0} (words : Words L Q) (r m : Ring L) (old mid new : Moment
   no_orders = record { bind = false }
 
   -- whatever it came to
-  pub acted_seen : (stepped : Result Stepped NoMemory) (result : Result (Option Note) NoMemory) → Acts words m.setup mid new stepped was now
+  pub acted_seen : (stepped : Result SteppedWith NoMemory) (result : Result (Option Note) NoMemory) → Acts words m.setup mid new stepped was now
       → LeavesRing place was now mid.conns m s stepped result → (n : Outside) × SeesRing words new.table new.binds s n
   acted_seen (Ok Quiet) result acts leaves = absurd leaves
+  acted_seen (Ok Noteless) result acts leaves = absurd leaves
   acted_seen (Ok (Did said)) result acts leaves =
       let gives = given (Ok (Did said)) acts no_orders in
       let d = gives.1 in

@@ -7,8 +7,7 @@ use Rattle.mq_wire.specs.declared.NoMemory.{NoMemory}
 use Rattle.mq_talk.specs.declared.note.Note.{Note}
 use Rattle.mq_machine.specs.declared.setup.Setup.{Setup}
 use Rattle.mq_held.specs.declared.held.Held.{Held as HeldBy}
-use Rattle.mq_step.specs.declared.stepped.Stepped.{Stepped}
-use Rattle.mq_step.specs.declared.stepped.Stepped.TheVariants.{Quiet, Did, Ended}
+use Rattle.mq_step.specs.Notes.{SteppedWith, Quiet, Did, Ended}
 use Rattle.mq_actor.specs.declared.ring.Ring.{Ring}
 use Rattle.mq_actor.specs.Seen.{Words, Moment}
 use Rattle.mq_actor.specs.Holds.{HaveOwnPorts}
@@ -52,12 +51,12 @@ try_skips {L} words m upper from place held at not_so = none_passed words m (λ 
       true≢false (sym is ∙ ap (λ (x : HeldBy L). is_in_part upper from (x.number + 2)) (sym e) ∙ not_so)
 
 -- what is said of the turn is said of its result
-same_turn : {L Q : Type 0} (words : Words L Q) (setup : Setup) (place : ℕ) (old new : Moment L Q) (x y : Stepped) → x ≡ y
+same_turn : {L Q : Type 0} (words : Words L Q) (setup : Setup) (place : ℕ) (old new : Moment L Q) (x y : SteppedWith) → x ≡ y
     → TurnsAt words setup place old new (Ok x) → TurnsAt words setup place old new (Ok y)
-same_turn words setup place old new x y same turns = let P : Stepped → Type 0 = λ z. TurnsAt words setup place old new (Ok z) in subst P same turns
+same_turn words setup place old new x y same turns = let P : SteppedWith → Type 0 = λ z. TurnsAt words setup place old new (Ok z) in subst P same turns
 
 -- each of its tries was in vain
-pub try_waits : {L Q : Type 0} (words : Words L Q) (setup : Setup) (old new : Moment L Q) (upper : Bool) (from place : ℕ) (held : HeldBy L) (x : Stepped)
+pub try_waits : {L Q : Type 0} (words : Words L Q) (setup : Setup) (old new : Moment L Q) (upper : Bool) (from place : ℕ) (held : HeldBy L) (x : SteppedWith)
     → x ≡ Quiet → AreKnown words old → HaveOwnPorts old.conns → slice_get old.conns place ≡ Some held → is_in_part upper from (held.number + 2) ≡ true
     → TurnsAt words setup place old new (Ok x) → Passed words old new (λ i number. (i ≡ place) × InPart upper from number)
 try_waits {L} words setup old new upper from place held x quiet known own at part turns =
@@ -85,7 +84,7 @@ turn_length {L} conns after place held A turns at =
 -- ---- it acted
 
 -- the connections of the moment behind don't matter
-acts_among : {L Q : Type 0} (words : Words L Q) (setup : Setup) (old new : Moment L Q) (conns : List (HeldBy L)) (r : Result Stepped NoMemory)
+acts_among : {L Q : Type 0} (words : Words L Q) (setup : Setup) (old new : Moment L Q) (conns : List (HeldBy L)) (r : Result SteppedWith NoMemory)
     (was now : HeldBy L) → Acts words setup old (record new { conns = conns }) r was now → Acts words setup old new r was now
 acts_among words setup old new conns r was now a = record { number = a.number; others = a.others; stays = a.stays; calm = a.calm; apart = a.apart; ends = a.ends; still = a.still; gives = a.gives }
 
@@ -95,7 +94,7 @@ module _ {L Q : Type 0} (words : Words L Q) (upper : Bool) (place : ℕ) (r mid 
   Same = mid ≡ record r { conns = mid.conns; rooms = mid.rooms }
 
   -- and this is what the turn of the one at the place gave
-  abbrev pub Turns : Result Stepped NoMemory → Type 0
+  abbrev pub Turns : Result SteppedWith NoMemory → Type 0
   Turns result = TurnsAt words r.setup place old (record new { conns = mid.conns.items }) result
 
   next_seat : (k : ℕ) → k ≡ held.number + 3 → Same
@@ -105,7 +104,7 @@ module _ {L Q : Type 0} (words : Words L Q) (upper : Bool) (place : ℕ) (r mid 
       ∙ ap {B = Ring L} (λ (j : ℕ). record r { conns = mid.conns; rooms = mid.rooms; next_seat = j }) is
 
   -- It did something, and stays in the ring.
-  pub try_does : (x : Stepped) (note : Note) (k : ℕ) → x ≡ Did note → k ≡ held.number + 3 → slice_get old.conns place ≡ Some held
+  pub try_does : (x : SteppedWith) (note : Note) (k : ℕ) → x ≡ Did note → k ≡ held.number + 3 → slice_get old.conns place ≡ Some held
       → is_in_part upper r.next_seat (held.number + 2) ≡ true → Same → Turns (Ok x)
       → Acted words upper place r (record mid { next_seat = k }) old new (Ok (Some note))
   try_does x note k did seat at part same turns =
@@ -146,7 +145,7 @@ module _ {L Q : Type 0} (words : Words L Q) (upper : Bool) (place : ℕ) (r mid 
       ∙ ap {B = Ring L} (λ (x : Ring L). record r { conns = s.conns; rooms = x.rooms; next_seat = held.number + 3; ended = Some now }) (sym is)
 
   -- It is over, and leaves the ring.
-  pub try_ends : (s : Ring L) (x : Stepped) (note : Note) (k : ℕ) → x ≡ Ended note → k ≡ held.number + 3
+  pub try_ends : (s : Ring L) (x : SteppedWith) (note : Note) (k : ℕ) → x ≡ Ended note → k ≡ held.number + 3
       → slice_get old.conns place ≡ Some held → is_in_part upper r.next_seat (held.number + 2) ≡ true → s.ended ≡ slice_get mid.conns.items place
       → s.conns.items ≡ remove mid.conns.items place
       → s ≡ record mid { conns = s.conns; next_seat = k; ended = s.ended } → Same → Turns (Ok x) → Acted words upper place r s old new (Ok (Some note))

@@ -9,8 +9,7 @@ use Rattle.mq_machine.specs.Turn.{try_of, tries_of}
 use Rattle.mq_machine.specs.Acting.{Outside, ConnWaited}
 use Rattle.mq_held.specs.declared.held.Held.{Held as HeldBy}
 use Rattle.mq_held.specs.declared.held.PortSeat.{PortSeat}
-use Rattle.mq_step.specs.declared.stepped.Stepped.{Stepped}
-use Rattle.mq_step.specs.declared.stepped.Stepped.TheVariants.{Quiet, Did, Ended}
+use Rattle.mq_step.specs.Notes.{SteppedWith, Quiet, Did, Ended, Noteless}
 use Rattle.mq_step.specs.Sights.{idle}
 use Rattle.mq_step.specs.Whole.{Sees, filled}
 use Rattle.mq_step.specs.Holds.{IsHeld, IsKnown, SeatsApart, KeepsOthers}
@@ -77,7 +76,7 @@ pub record Passed {L Q : Type 0} (words : Words L Q) (old new : Moment L Q) (tri
 
 -- this connection had its turn, and became `now`
 pub record Acts {L Q : Type 0} (words : Words L Q) (setup : Setup) (old new : Moment L Q)
-    (stepped : Result Stepped NoMemory) (was now : HeldBy L) : Type 0 where
+    (stepped : Result SteppedWith NoMemory) (was now : HeldBy L) : Type 0 where
   pub number : now.number ≡ was.number
   pub others : KeepsOthers was now old.table new.table
   pub stays : stepped ≡ Ok Quiet → now.ports.items ≡ was.ports.items
@@ -94,7 +93,7 @@ pub record Acts {L Q : Type 0} (words : Words L Q) (setup : Setup) (old new : Mo
 
 -- How it leaves the ring: one that is over is no longer in it. The next search begins behind its seat.
 abbrev pub LeavesRing : {L : Type 0} → ℕ → HeldBy L → HeldBy L → List (HeldBy L) → Ring L → Ring L
-    → Result Stepped NoMemory → Result (Option Note) NoMemory → Type 0
+    → Result SteppedWith NoMemory → Result (Option Note) NoMemory → Type 0
 LeavesRing place was now conns r s (Ok (Did note)) result =
     (result ≡ Ok (Some note)) × (s.conns.items ≡ slice_set conns place now)
     × (s ≡ record r { conns = s.conns; rooms = s.rooms; next_seat = was.number + 3 })
@@ -102,12 +101,13 @@ LeavesRing place was now conns r s (Ok (Ended note)) result =
     (result ≡ Ok (Some note)) × (s.conns.items ≡ remove conns place)
     × (s ≡ record r { conns = s.conns; rooms = s.rooms; next_seat = was.number + 3; ended = Some now })
 LeavesRing place was now conns r s (Ok Quiet) result = ⊥
+LeavesRing place was now conns r s (Ok Noteless) result = ⊥
 LeavesRing place was now conns r s (Err refused) result =
     (result ≡ Err refused) × (s.conns.items ≡ slice_set conns place now)
     × (s ≡ record r { conns = s.conns; rooms = s.rooms })
 
 -- the connection at a place had its turn, and the list has what it became
-abbrev pub TurnsAt : {L Q : Type 0} → Words L Q → Setup → ℕ → Moment L Q → Moment L Q → Result Stepped NoMemory
+abbrev pub TurnsAt : {L Q : Type 0} → Words L Q → Setup → ℕ → Moment L Q → Moment L Q → Result SteppedWith NoMemory
     → Type 0
 TurnsAt {L} words setup place old new stepped =
     (was : HeldBy L) → slice_get old.conns place ≡ Some was
@@ -116,7 +116,7 @@ TurnsAt {L} words setup place old new stepped =
 -- The connection at this place, whose seat is in this part of the ring, acted.
 pub record Acted {L Q : Type 0} (words : Words L Q) (upper : Bool) (place : ℕ) (r s : Ring L) (old new : Moment L Q)
     (result : Result (Option Note) NoMemory) : Type 0 where
-  pub stepped : Result Stepped NoMemory
+  pub stepped : Result SteppedWith NoMemory
   pub was : HeldBy L
   pub now : HeldBy L
   pub at : slice_get old.conns place ≡ Some was

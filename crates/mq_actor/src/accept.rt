@@ -2,6 +2,7 @@
 ghost use Rattle.std.specs.Prelude.{◌≡◌, ◌<◌};
 ghost use Rattle.std.specs.Vec.{vec_len, vec_capacity};
 ghost use Rattle.std.specs.VecDeque.{deque_len};
+ghost use Rattle.mq_held.specs.Notes.{HasNote, note_with};
 ghost use Rattle.mq_actor.specs.Seats.{AcceptGives, NextOffer, TakesIn};
 
 use crate::offer::Offer;
@@ -48,31 +49,45 @@ impl<L: Drop> Ring<L> {
 
     /// Accepts the oldest offered link, while fewer than 32 connections are live, where the seat of the offered links is in this
     /// part of the ring. Where memory is refused, the link stays offered. Most of the time none is offered, which is asked first.
+    /// Answers whether one was accepted.
     #[inline(always)]
-    pub(crate) fn accept(&mut self, alloc: Global, upper: bool) -> Result<Option<Note>, NoMemory>
+    pub(crate) fn accept(
+        &mut self,
+        alloc: Global,
+        upper: bool,
+        told: &mut Option<Note>,
+    ) -> Result<bool, NoMemory>
         ensures ring { (self.new.id ≡ self.old.id) × (self.new.setup ≡ self.old.setup) }
-        ensures gives { AcceptGives upper self.old self.new result }
+        ensures gives { AcceptGives upper self.old self.new (note_with result told.new) }
+        ensures told { HasNote result told.new }
     {
         if self.offered.len() == 0 {
-            return Ok(None);
+            return Ok(false);
         }
-        self.accept_first(alloc, upper)
+        self.accept_first(alloc, upper, told)
     }
 
     #[inline(never)]
-    fn accept_first(&mut self, alloc: Global, upper: bool) -> Result<Option<Note>, NoMemory>
+    fn accept_first(
+        &mut self,
+        alloc: Global,
+        upper: bool,
+        told: &mut Option<Note>,
+    ) -> Result<bool, NoMemory>
         ensures ring { (self.new.id ≡ self.old.id) × (self.new.setup ≡ self.old.setup) }
-        ensures gives { AcceptGives upper self.old self.new result }
+        ensures gives { AcceptGives upper self.old self.new (note_with result told.new) }
+        ensures told { HasNote result told.new }
     {
         let Some(number) = self.next_offer(upper) else {
-            return Ok(None);
+            return Ok(false);
         };
         let conn = Conn::new(alloc, number, self.id)?;
         self.conns.reserve(1)?;
         self.take_in(alloc, conn);
-        Ok(Some(Note::Accepted {
+        *told = Some(Note::Accepted {
             conn: number,
             actor: self.id,
-        }))
+        });
+        Ok(true)
     }
 }

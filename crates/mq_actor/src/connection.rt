@@ -1,10 +1,12 @@
 //! The turn of a connection.
-ghost use Rattle.std.specs.Prelude.{◌≡◌, ◌<◌, Bool, Some, remove, slice_get};
+ghost use Rattle.std.specs.Prelude.{◌≡◌, ◌≢◌, ◌<◌, Bool, true, Some, is_some, IfOk, remove, slice_get};
 ghost use Rattle.std.specs.Vec.{vec_len};
 ghost use Rattle.mq_talk.specs.Offices.{IsSound};
 ghost use Rattle.mq_machine.specs.Acting.{binder};
 ghost use Rattle.mq_ports.specs.Tables.{IsBalanced};
 ghost use Rattle.mq_held.specs.declared.held.Held.{Held as HeldBy};
+ghost use Rattle.mq_held.specs.Notes.{HasNote, note_with};
+ghost use Rattle.mq_step.specs.Notes.{stepped_with};
 ghost use Rattle.mq_step.specs.Holds.{HasInboxes};
 ghost use Rattle.mq_step.specs.Rooms.{HasRooms};
 ghost use Rattle.mq_actor.specs.Holds.{HaveOwnPorts};
@@ -28,6 +30,7 @@ impl<L: WriteReady> Ring<L> {
         table: &mut PortTable<P>,
         office: &mut O,
         mail: &mut M,
+        told: &mut Option<Note>,
     ) -> Result<Stepped, NoMemory>
     where
         P::P: ReceiveReady,
@@ -37,7 +40,8 @@ impl<L: WriteReady> Ring<L> {
         requires inboxes { HasInboxes (O.seen office.old) (M.count mail.old) (M.boxes mail.old) }
         requires pump { self.old.setup.pump ≡ (O.seen office.old).config.workers }
         requires place { place < vec_len self.old.conns }
-        ensures turns { TurnsAt (record { most = P.P.most; link = L.holds; link_counts = L.counts; port = P.P.holds; port_counts = P.P.counts }) self.old.setup place (record { conns = self.old.conns.items; table = table.old.table; binds = binder P.holds P.faults table.old.ports; seen = O.seen office.old; boxes = M.boxes mail.old }) (record { conns = self.new.conns.items; table = table.new.table; binds = binder P.holds P.faults table.new.ports; seen = O.seen office.new; boxes = M.boxes mail.new }) result }
+        ensures turns { TurnsAt (record { most = P.P.most; link = L.holds; link_counts = L.counts; port = P.P.holds; port_counts = P.P.counts }) self.old.setup place (record { conns = self.old.conns.items; table = table.old.table; binds = binder P.holds P.faults table.old.ports; seen = O.seen office.old; boxes = M.boxes mail.old }) (record { conns = self.new.conns.items; table = table.new.table; binds = binder P.holds P.faults table.new.ports; seen = O.seen office.new; boxes = M.boxes mail.new }) (stepped_with result told.new) }
+        ensures told { IfOk result (λ stepped. stepped ≢ Stepped.Quiet → is_some told.new ≡ true) }
         ensures rest { self.new ≡ record self.old { conns = self.new.conns; rooms = self.new.rooms } }
         ensures ports { HaveOwnPorts self.new.conns.items }
         ensures rooms { HasRooms self.new.rooms }
@@ -56,6 +60,7 @@ impl<L: WriteReady> Ring<L> {
             table,
             office,
             mail,
+            told,
         )
     }
 
@@ -71,7 +76,7 @@ impl<L: WriteReady> Ring<L> {
     }
 
     /// The connection at a place has its turn. Where it does something, the ring begins with the seat behind its own from then on.
-    /// One that is over leaves the ring.
+    /// One that is over leaves the ring. Answers whether it did something.
     fn act_at<P: Ports, O: Office, M: Mail>(
         &mut self,
         alloc: Global,
@@ -79,7 +84,8 @@ impl<L: WriteReady> Ring<L> {
         table: &mut PortTable<P>,
         office: &mut O,
         mail: &mut M,
-    ) -> Result<Option<Note>, NoMemory>
+        told: &mut Option<Note>,
+    ) -> Result<bool, NoMemory>
     where
         P::P: ReceiveReady,
         requires known { AreKnown (record { most = P.P.most; link = L.holds; link_counts = L.counts; port = P.P.holds; port_counts = P.P.counts }) (record { conns = self.old.conns.items; table = table.old.table; binds = binder P.holds P.faults table.old.ports; seen = O.seen office.old; boxes = M.boxes mail.old }) }
@@ -89,7 +95,8 @@ impl<L: WriteReady> Ring<L> {
         requires pump { self.old.setup.pump ≡ (O.seen office.old).config.workers }
         requires place { place < vec_len self.old.conns }
         ensures ring { (self.new.id ≡ self.old.id) × (self.new.setup ≡ self.old.setup) }
-        ensures gives { (upper : Bool) (was : HeldBy L) → slice_get self.old.conns.items place ≡ Some was → InPart upper self.old.next_seat was.number → TryGives (record { most = P.P.most; link = L.holds; link_counts = L.counts; port = P.P.holds; port_counts = P.P.counts }) upper place self.old self.new (record { conns = self.old.conns.items; table = table.old.table; binds = binder P.holds P.faults table.old.ports; seen = O.seen office.old; boxes = M.boxes mail.old }) (record { conns = self.new.conns.items; table = table.new.table; binds = binder P.holds P.faults table.new.ports; seen = O.seen office.new; boxes = M.boxes mail.new }) result }
+        ensures gives { (upper : Bool) (was : HeldBy L) → slice_get self.old.conns.items place ≡ Some was → InPart upper self.old.next_seat was.number → TryGives (record { most = P.P.most; link = L.holds; link_counts = L.counts; port = P.P.holds; port_counts = P.P.counts }) upper place self.old self.new (record { conns = self.old.conns.items; table = table.old.table; binds = binder P.holds P.faults table.old.ports; seen = O.seen office.old; boxes = M.boxes mail.old }) (record { conns = self.new.conns.items; table = table.new.table; binds = binder P.holds P.faults table.new.ports; seen = O.seen office.new; boxes = M.boxes mail.new }) (note_with result told.new) }
+        ensures told { HasNote result told.new }
         ensures ports { HaveOwnPorts self.new.conns.items }
         ensures rooms { HasRooms self.new.rooms }
         ensures actor { (O.seen office.new).actor ≡ (O.seen office.old).actor }
@@ -99,21 +106,21 @@ impl<L: WriteReady> Ring<L> {
         ensures balanced { IsBalanced P.P.place (P.past table.old.ports) table.old.table.slots → IsBalanced P.P.place (P.past table.new.ports) table.new.table.slots }
     {
         let seat = seat_of(self.conns[place].number);
-        match self.turn_at(alloc, place, table, office, mail)? {
-            Stepped::Quiet => Ok(None),
-            Stepped::Did(note) => {
+        match self.turn_at(alloc, place, table, office, mail, told)? {
+            Stepped::Quiet => Ok(false),
+            Stepped::Did => {
                 self.next_seat = seat + 1;
-                Ok(Some(note))
+                Ok(true)
             }
-            Stepped::Ended(note) => {
+            Stepped::Ended => {
                 self.next_seat = seat + 1;
                 self.leave(place);
-                Ok(Some(note))
+                Ok(true)
             }
         }
     }
 
-    /// The connection at a place has its turn, where its seat is in this part of the ring.
+    /// The connection at a place has its turn, where its seat is in this part of the ring. Answers whether it did something.
     pub(crate) fn try_at<P: Ports, O: Office, M: Mail>(
         &mut self,
         alloc: Global,
@@ -122,7 +129,8 @@ impl<L: WriteReady> Ring<L> {
         table: &mut PortTable<P>,
         office: &mut O,
         mail: &mut M,
-    ) -> Result<Option<Note>, NoMemory>
+        told: &mut Option<Note>,
+    ) -> Result<bool, NoMemory>
     where
         P::P: ReceiveReady,
         requires known { AreKnown (record { most = P.P.most; link = L.holds; link_counts = L.counts; port = P.P.holds; port_counts = P.P.counts }) (record { conns = self.old.conns.items; table = table.old.table; binds = binder P.holds P.faults table.old.ports; seen = O.seen office.old; boxes = M.boxes mail.old }) }
@@ -132,7 +140,8 @@ impl<L: WriteReady> Ring<L> {
         requires pump { self.old.setup.pump ≡ (O.seen office.old).config.workers }
         requires place { place < vec_len self.old.conns }
         ensures ring { (self.new.id ≡ self.old.id) × (self.new.setup ≡ self.old.setup) }
-        ensures gives { TryGives (record { most = P.P.most; link = L.holds; link_counts = L.counts; port = P.P.holds; port_counts = P.P.counts }) upper place self.old self.new (record { conns = self.old.conns.items; table = table.old.table; binds = binder P.holds P.faults table.old.ports; seen = O.seen office.old; boxes = M.boxes mail.old }) (record { conns = self.new.conns.items; table = table.new.table; binds = binder P.holds P.faults table.new.ports; seen = O.seen office.new; boxes = M.boxes mail.new }) result }
+        ensures gives { TryGives (record { most = P.P.most; link = L.holds; link_counts = L.counts; port = P.P.holds; port_counts = P.P.counts }) upper place self.old self.new (record { conns = self.old.conns.items; table = table.old.table; binds = binder P.holds P.faults table.old.ports; seen = O.seen office.old; boxes = M.boxes mail.old }) (record { conns = self.new.conns.items; table = table.new.table; binds = binder P.holds P.faults table.new.ports; seen = O.seen office.new; boxes = M.boxes mail.new }) (note_with result told.new) }
+        ensures told { HasNote result told.new }
         ensures ports { HaveOwnPorts self.new.conns.items }
         ensures rooms { HasRooms self.new.rooms }
         ensures actor { (O.seen office.new).actor ≡ (O.seen office.old).actor }
@@ -143,8 +152,8 @@ impl<L: WriteReady> Ring<L> {
     {
         let seat = seat_of(self.conns[place].number);
         if !is_in(seat, self.next_seat, upper) {
-            return Ok(None);
+            return Ok(false);
         }
-        self.act_at(alloc, place, table, office, mail)
+        self.act_at(alloc, place, table, office, mail, told)
     }
 }

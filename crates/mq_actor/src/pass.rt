@@ -3,6 +3,7 @@ ghost use Rattle.std.specs.Prelude.{◌≡◌};
 ghost use Rattle.mq_talk.specs.Offices.{IsSound};
 ghost use Rattle.mq_machine.specs.Acting.{binder};
 ghost use Rattle.mq_ports.specs.Tables.{IsBalanced};
+ghost use Rattle.mq_held.specs.Notes.{HasNote, note_with};
 ghost use Rattle.mq_step.specs.Holds.{HasInboxes};
 ghost use Rattle.mq_step.specs.Rooms.{HasRooms};
 ghost use Rattle.mq_actor.specs.Holds.{HaveOwnPorts};
@@ -17,7 +18,7 @@ use mq_wire::NoMemory;
 use std::alloc::Global;
 
 impl<L: WriteReady> Ring<L> {
-    /// The first connection of this part of the ring that can do something does it.
+    /// The first connection of this part of the ring that can do something does it. Answers whether one did.
     pub(crate) fn pass<P: Ports, O: Office, M: Mail>(
         &mut self,
         alloc: Global,
@@ -25,7 +26,8 @@ impl<L: WriteReady> Ring<L> {
         table: &mut PortTable<P>,
         office: &mut O,
         mail: &mut M,
-    ) -> Result<Option<Note>, NoMemory>
+        told: &mut Option<Note>,
+    ) -> Result<bool, NoMemory>
     where
         P::P: ReceiveReady,
         requires known { AreKnown (record { most = P.P.most; link = L.holds; link_counts = L.counts; port = P.P.holds; port_counts = P.P.counts }) (record { conns = self.old.conns.items; table = table.old.table; binds = binder P.holds P.faults table.old.ports; seen = O.seen office.old; boxes = M.boxes mail.old }) }
@@ -33,7 +35,8 @@ impl<L: WriteReady> Ring<L> {
         requires rooms { HasRooms self.old.rooms }
         requires inboxes { HasInboxes (O.seen office.old) (M.count mail.old) (M.boxes mail.old) }
         requires pump { self.old.setup.pump ≡ (O.seen office.old).config.workers }
-        ensures gives { PassGives (record { most = P.P.most; link = L.holds; link_counts = L.counts; port = P.P.holds; port_counts = P.P.counts }) upper self.old self.new (record { conns = self.old.conns.items; table = table.old.table; binds = binder P.holds P.faults table.old.ports; seen = O.seen office.old; boxes = M.boxes mail.old }) (record { conns = self.new.conns.items; table = table.new.table; binds = binder P.holds P.faults table.new.ports; seen = O.seen office.new; boxes = M.boxes mail.new }) result }
+        ensures gives { PassGives (record { most = P.P.most; link = L.holds; link_counts = L.counts; port = P.P.holds; port_counts = P.P.counts }) upper self.old self.new (record { conns = self.old.conns.items; table = table.old.table; binds = binder P.holds P.faults table.old.ports; seen = O.seen office.old; boxes = M.boxes mail.old }) (record { conns = self.new.conns.items; table = table.new.table; binds = binder P.holds P.faults table.new.ports; seen = O.seen office.new; boxes = M.boxes mail.new }) (note_with result told.new) }
+        ensures told { HasNote result told.new }
         ensures ring { (self.new.id ≡ self.old.id) × (self.new.setup ≡ self.old.setup) }
         ensures ports { HaveOwnPorts self.new.conns.items }
         ensures rooms { HasRooms self.new.rooms }
@@ -44,11 +47,10 @@ impl<L: WriteReady> Ring<L> {
         ensures balanced { IsBalanced P.P.place (P.past table.old.ports) table.old.table.slots → IsBalanced P.P.place (P.past table.new.ports) table.new.table.slots }
     {
         for place in 0..self.conns.len() {
-            match self.try_at(alloc, place, upper, table, office, mail)? {
-                None => {}
-                did => return Ok(did),
+            if self.try_at(alloc, place, upper, table, office, mail, told)? {
+                return Ok(true);
             }
         }
-        Ok(None)
+        Ok(false)
     }
 }

@@ -1,10 +1,11 @@
 //! One step of a worker.
-ghost use Rattle.std.specs.Prelude.{◌≡◌, ◌+◌, None, Ok};
+ghost use Rattle.std.specs.Prelude.{◌≡◌, ◌+◌, false, None, Ok};
 ghost use Rattle.mq_machine.specs.State.{Worker};
 ghost use Rattle.mq_talk.specs.Mails.{one_missed};
 ghost use Rattle.mq_talk.specs.Offices.{IsSound};
 ghost use Rattle.mq_machine.specs.Acting.{Outside, Known, Steps, binder};
 ghost use Rattle.mq_ports.specs.Tables.{IsBalanced};
+ghost use Rattle.mq_held.specs.Notes.{HasNote, note_with};
 ghost use Rattle.mq_actor.specs.Ended.{conn_numbers, offer_numbers, AreLeft};
 ghost use Rattle.mq_actor.specs.Holds.{IsWorker};
 ghost use Rattle.mq_actor.specs.Seen.{SeesRing};
@@ -29,15 +30,16 @@ impl<L: WriteReady> Ring<L> {
         }
     }
 
-    /// The first seat that can act acts, in the ring that begins behind the seat that acted last. None where none can. Where
-    /// memory is refused, the connection whose turn it was is ending.
-    pub fn step<P: Ports, O: Office, M: Mail>(
+    /// The first seat that can act acts, in the ring that begins behind the seat that acted last, and puts the note of that into
+    /// `told`. Answers whether one could. Where memory is refused, the connection whose turn it was is ending.
+    pub fn step_into<P: Ports, O: Office, M: Mail>(
         &mut self,
         alloc: Global,
         table: &mut PortTable<P>,
         office: &mut O,
         mail: &mut M,
-    ) -> Result<Option<Note>, NoMemory>
+        told: &mut Option<Note>,
+    ) -> Result<bool, NoMemory>
     where
         P::P: ReceiveReady,
         requires known { (o : Outside) × (w : Worker) × IsWorker P.P.most table.old.table self.old w × Known (sight o (O.seen office.old) (M.boxes mail.old)) w }
@@ -48,7 +50,8 @@ impl<L: WriteReady> Ring<L> {
         ensures gives { (o n : Outside) → SeesRing (record { most = P.P.most; link = L.holds; link_counts = L.counts; port = P.P.holds; port_counts = P.P.counts }) table.old.table (binder P.holds P.faults table.old.ports) (record self.old { ended = None }) o
             → SeesRing (record { most = P.P.most; link = L.holds; link_counts = L.counts; port = P.P.holds; port_counts = P.P.counts }) table.new.table (binder P.holds P.faults table.new.ports) self.new n
             → Steps (IsWorker P.P.most table.old.table self.old) (IsWorker P.P.most table.new.table self.new)
-            (sight o (O.seen office.old) (M.boxes mail.old)) (sight n (O.seen office.new) (M.boxes mail.new)) result }
+            (sight o (O.seen office.old) (M.boxes mail.old)) (sight n (O.seen office.new) (M.boxes mail.new)) (note_with result told.new) }
+        ensures told { HasNote result told.new }
         ensures sights { (o : Outside) (w : Worker) → IsWorker P.P.most table.old.table self.old w → Known (sight o (O.seen office.old) (M.boxes mail.old)) w
             → (n : Outside) × SeesRing (record { most = P.P.most; link = L.holds; link_counts = L.counts; port = P.P.holds; port_counts = P.P.counts }) table.new.table (binder P.holds P.faults table.new.ports) self.new n }
         ensures ring { (self.new.id ≡ self.old.id) × (self.new.setup ≡ self.old.setup) }
@@ -57,25 +60,25 @@ impl<L: WriteReady> Ring<L> {
         ensures sound { IsSound (O.seen office.old) → IsSound (O.seen office.new) }
         ensures mail { M.actor mail.new ≡ M.actor mail.old }
         ensures inboxes { M.count mail.new ≡ M.count mail.old }
-        ensures asked { result ≡ Ok None → M.missed mail.new ≡ one_missed (M.boxes mail.old).told (M.missed mail.old) }
+        ensures asked { result ≡ Ok false → M.missed mail.new ≡ one_missed (M.boxes mail.old).told (M.missed mail.old) }
         ensures balanced { IsBalanced P.P.place (P.past table.old.ports) table.old.table.slots → IsBalanced P.P.place (P.past table.new.ports) table.new.table.slots }
     {
         self.forget();
-        if let Some(note) = self.accept(alloc, true)? {
-            return Ok(Some(note));
+        if self.accept(alloc, true, told)? {
+            return Ok(true);
         }
-        if let Some(note) = self.pop(true, mail) {
-            return Ok(Some(note));
+        if self.pop(true, mail, told) {
+            return Ok(true);
         }
-        if let Some(note) = self.pass(alloc, true, table, office, mail)? {
-            return Ok(Some(note));
+        if self.pass(alloc, true, table, office, mail, told)? {
+            return Ok(true);
         }
-        if let Some(note) = self.accept(alloc, false)? {
-            return Ok(Some(note));
+        if self.accept(alloc, false, told)? {
+            return Ok(true);
         }
-        if let Some(note) = self.pop(false, mail) {
-            return Ok(Some(note));
+        if self.pop(false, mail, told) {
+            return Ok(true);
         }
-        self.pass(alloc, false, table, office, mail)
+        self.pass(alloc, false, table, office, mail, told)
     }
 }

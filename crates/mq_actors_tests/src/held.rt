@@ -90,10 +90,18 @@ fn word(note: &Note) -> &'static str {
     }
 }
 
-/// How a try went, in a word.
-fn went(went: &Went) -> &'static str {
+/// What was told, in a word.
+fn told_word(told: &Option<Note>) -> &'static str {
+    match told {
+        Some(note) => word(note),
+        None => "no note",
+    }
+}
+
+/// How a try went, with what was told, in a word.
+fn went(went: Went, told: &Option<Note>) -> &'static str {
     match went {
-        Went::Did(note) => word(note),
+        Went::Did => told_word(told),
         Went::Waits => "waits",
         Went::Failed => "failed",
     }
@@ -101,11 +109,15 @@ fn went(went: &Went) -> &'static str {
 
 fn reads(alloc: Global, it: &mut Carried) -> Result<&'static str, NoMemory> {
     let mut buffer = vec![in alloc; 0u8; 16_384]?;
-    Ok(went(&it.held.read(&it.setup, buffer.as_mut_slice())?))
+    let mut told = None;
+    let read = it.held.read(&it.setup, buffer.as_mut_slice(), &mut told)?;
+    Ok(went(read, &told))
 }
 
 fn writes(alloc: Global, it: &mut Carried) -> Result<&'static str, NoMemory> {
-    Ok(went(&it.held.write(alloc)?))
+    let mut told = None;
+    let wrote = it.held.write(alloc, &mut told)?;
+    Ok(went(wrote, &told))
 }
 
 fn binds(it: &mut Carried) -> Result<&'static str, NoMemory> {
@@ -142,15 +154,17 @@ fn receives(alloc: Global, it: &mut Carried) -> Result<&'static str, NoMemory> {
         key: it.key,
         received: 3,
     };
-    let came = it.held.receive(alloc, seat, &mut datagrams, &mut it.ports)?;
-    Ok(went(&came))
+    let mut told = None;
+    let came = it
+        .held
+        .receive(alloc, seat, &mut datagrams, &mut it.ports, &mut told)?;
+    Ok(went(came, &told))
 }
 
 fn frames(it: &mut Carried) -> Result<&'static str, NoMemory> {
-    Ok(match &it.held.frame()? {
-        Some(note) => word(note),
-        None => "nothing",
-    })
+    let mut told = None;
+    let framed = it.held.frame(&mut told)?;
+    Ok(if framed { told_word(&told) } else { "nothing" })
 }
 
 /// The request is answered: its port is bound, its tunnel opens, and what is owed waits for a link that takes nothing.

@@ -1,3 +1,4 @@
+pub mod Notes
 pub mod Links
 pub mod Ports
 pub mod Ready

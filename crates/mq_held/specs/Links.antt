@@ -13,8 +13,7 @@ use Rattle.mq_machine.specs.Steps.{can_read, wrote, finished, failed, starved}
 use Rattle.mq_machine.specs.Reading.{TookNext, EndsThere}
 use Rattle.mq_machine.specs.Turn.{has_room_for, most_read}
 use Rattle.mq_held.specs.Ready.{CanTake}
-use Rattle.mq_held.specs.declared.went.Went.{Went}
-use Rattle.mq_held.specs.declared.went.Went.TheVariants.{Waits, Failed, Did}
+use Rattle.mq_held.specs.Notes.{WentWith, Waits, Failed, Did, Noteless}
 
 -- a link before and behind a call: what it holds, and what it gave and took, as it tells these, with its counts
 pub record Calls : Type 0 where
@@ -77,14 +76,15 @@ pub record WriteFails (c : Calls) (s : Conn) : Type 0 where
 
 -- What a write gives, and for which state the connection stands then. Memory is taken before the link is called, and only where
 -- the link could be written to.
-abbrev pub WriteGives : Calls → (Conn → Type 0) → Conn → Result Went NoMemory → Type 0
+abbrev pub WriteGives : Calls → (Conn → Type 0) → Conn → Result WentWith NoMemory → Type 0
 WriteGives c stands s (Ok Waits) = WriteWaits c s × stands s
 WriteGives c stands s (Ok Failed) = WriteFails c s × stands (failed s)
 WriteGives c stands s (Ok (Did said)) = (t : Conn) × WriteDoes c s said t × stands t
+WriteGives c stands s (Ok Noteless) = ⊥
 WriteGives c stands s (Err refused) = (owed s ≢ []) × CanTake c.holds × IsUncalled c × stands (starved s)
 
 -- The bytes of the note are those that the link took, where it tells that; with no such note it took none.
-abbrev pub WritesPast : LinkPast → LinkPast → Result Went NoMemory → Type 0
+abbrev pub WritesPast : LinkPast → LinkPast → Result WentWith NoMemory → Type 0
 WritesPast old new (Ok (Did (note.Wrote conn bytes))) = new ≡ record old { took = and_then old.took bytes }
 WritesPast old new answer = new ≡ old
 
@@ -148,8 +148,9 @@ pub record ReadFails (c : Calls) : Type 0 where
   pub counts : c.counts_after ≡ record c.counts { faults = risen c.counts.faults }
 
 -- What a read gives, and for which state the connection stands then. A piece was taken where memory was refused.
-abbrev pub ReadGives : Setup → Calls → (Conn → Type 0) → Conn → Result Went NoMemory → Type 0
+abbrev pub ReadGives : Setup → Calls → (Conn → Type 0) → Conn → Result WentWith NoMemory → Type 0
 ReadGives setup c stands s (Ok Waits) = ReadWaits c s × stands s
 ReadGives setup c stands s (Ok Failed) = (can_read s ≡ true) × ReadFails c × stands (failed s)
 ReadGives setup c stands s (Ok (Did said)) = (can_read s ≡ true) × ((t : Conn) × ReadDoes setup c s said t × stands t)
+ReadGives setup c stands s (Ok Noteless) = ⊥
 ReadGives setup c stands s (Err refused) = (can_read s ≡ true) × ((piece : List ℕ) × TakesPiece c piece) × stands (starved s)

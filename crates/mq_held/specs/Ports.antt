@@ -14,8 +14,8 @@ use Rattle.mq_machine.specs.Steps.{queued, settled_note, port_failed, starved}
 use Rattle.mq_held.specs.Ready.{CanGive}
 use Rattle.mq_held.specs.declared.datagrams.Came.{Came}
 use Rattle.mq_held.specs.declared.datagrams.Came.TheVariants.{Waits, Failed, Datagram}
-use Rattle.mq_held.specs.declared.went.Went.{Went}
-use Rattle.mq_held.specs.declared.went.Went.TheVariants as went
+use Rattle.mq_held.specs.Notes.{WentWith}
+use Rattle.mq_held.specs.Notes as went
 use Rattle.mq_machine.specs.Want.{want_of, may_wait}
 use Rattle.mq_machine.specs.Done.{done}
 use Rattle.mq_machine.specs.Shared.{put_of, port_answer, port_sent}
@@ -131,9 +131,10 @@ CameGives c (Err refused) = IsIdle c × CanGive c.holds
 
 -- What a receive on the port of a live tunnel gives, and for which state the connection stands then. It waits for its client, or
 -- for the port.
-abbrev pub ReceiveGives : ReceiveCalls → (Conn → Type 0) → Conn → (t : Tunnel) → (n : ℕ) → Result Went NoMemory → Type 0
+abbrev pub ReceiveGives : ReceiveCalls → (Conn → Type 0) → Conn → (t : Tunnel) → (n : ℕ) → Result WentWith NoMemory → Type 0
 ReceiveGives c stands s t n (Ok went.Waits) = ReceiveWaits c × stands s
 ReceiveGives c stands s t n (Ok went.Failed) = ReceiveFails c × (may_wait (want_of s) ≡ true → stands (port_failed s t))
 ReceiveGives c stands s t n (Ok (went.Did said)) = (datagram : List ℕ) × TakesDatagram c datagram
     × (said ≡ (settled_note (queued s t (source.Port t.id) n datagram)).0) × stands (settled_note (queued s t (source.Port t.id) n datagram)).1
+ReceiveGives c stands s t n (Ok went.Noteless) = ⊥
 ReceiveGives c stands s t n (Err refused) = IsIdle c × CanGive c.holds × stands (starved s)

@@ -3,22 +3,27 @@ ghost use Rattle.std.specs.Prelude.{◌≡◌};
 ghost use Rattle.mq_machine.specs.State as machine;
 ghost use Rattle.mq_conn.specs.Conns.{IsConn};
 ghost use Rattle.mq_held.specs.Frames.{FrameGives};
+ghost use Rattle.mq_held.specs.Notes.{HasNote, note_with};
 
 use crate::held::Held;
 use mq_talk::Note;
 use mq_wire::NoMemory;
 
 impl<L> Held<L> {
-    /// Frames the capsule whose turn it is, where one can be framed.
-    pub fn frame(&mut self) -> Result<Option<Note>, NoMemory>
-        ensures gives { (s : machine.Conn) → IsConn self.old.conn s → FrameGives (IsConn self.new.conn) s result }
+    /// Frames the capsule whose turn it is, where one can be framed, and puts the note of that into `told`.
+    pub fn frame(&mut self, told: &mut Option<Note>) -> Result<bool, NoMemory>
+        ensures gives { (s : machine.Conn) → IsConn self.old.conn s → FrameGives (IsConn self.new.conn) s (note_with result told.new) }
+        ensures told { HasNote result told.new }
         ensures rest { self.new ≡ record self.old { conn = self.new.conn } }
     {
         if !self.conn.can_frame() {
-            return Ok(None);
+            return Ok(false);
         }
         match self.conn.frame() {
-            Ok(note) => Ok(Some(note)),
+            Ok(note) => {
+                *told = Some(note);
+                Ok(true)
+            }
             Err(refused) => Err(refused),
         }
     }

@@ -3,6 +3,7 @@ ghost use Rattle.std.specs.Prelude.{◌≡◌, length};
 ghost use Rattle.mq_machine.specs.State as machine;
 ghost use Rattle.mq_conn.specs.Conns.{IsConn};
 ghost use Rattle.mq_held.specs.Links.{calls_of, ReadGives};
+ghost use Rattle.mq_held.specs.Notes.{went_with};
 
 use crate::held::Held;
 use crate::went::{Went, size_of};
@@ -12,11 +13,17 @@ use mq_talk::{End, Note};
 use mq_wire::NoMemory;
 
 impl<L: Link> Held<L> {
-    /// Reads once, where it can take bytes, to the front of a buffer of 16,384 bytes.
-    pub fn read(&mut self, setup: &Setup, buffer: &mut [u8]) -> Result<Went, NoMemory>
+    /// Reads once, where it can take bytes, to the front of a buffer of 16,384 bytes. The note of what was done is put into
+    /// `told`.
+    pub fn read(
+        &mut self,
+        setup: &Setup,
+        buffer: &mut [u8],
+        told: &mut Option<Note>,
+    ) -> Result<Went, NoMemory>
         requires { length buffer.old ≡ 16384 }
         ensures gives { (s : machine.Conn) → IsConn self.old.conn s → s.number ≡ self.old.number
-            → ReadGives setup.now (calls_of L.holds L.past L.counts self.old.link self.new.link) (IsConn self.new.conn) s result }
+            → ReadGives setup.now (calls_of L.holds L.past L.counts self.old.link self.new.link) (IsConn self.new.conn) s (went_with result told.new) }
         ensures rest { self.new ≡ record self.old { conn = self.new.conn; link = self.new.link } }
         ensures size { length buffer.new ≡ length buffer.old }
     {
@@ -31,16 +38,20 @@ impl<L: Link> Held<L> {
             }
             LinkGot::End => {
                 self.conn.finish();
-                Ok(Went::Did(Note::Finished { conn: self.number }))
+                *told = Some(Note::Finished { conn: self.number });
+                Ok(Went::Did)
             }
             LinkGot::Bytes(count) => {
                 let (piece, _) = buffer.split_at(size_of(count));
                 match self.conn.feed(setup, piece) {
                     Err(refused) => Err(refused),
-                    Ok(()) => Ok(Went::Did(Note::Took {
-                        conn: self.number,
-                        count,
-                    })),
+                    Ok(()) => {
+                        *told = Some(Note::Took {
+                            conn: self.number,
+                            count,
+                        });
+                        Ok(Went::Did)
+                    }
                 }
             }
         }

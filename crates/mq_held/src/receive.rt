@@ -5,6 +5,7 @@ ghost use Rattle.mq_machine.specs.State as machine;
 ghost use Rattle.mq_machine.specs.State.{tunnel_of};
 ghost use Rattle.mq_conn.specs.Conns.{IsConn};
 ghost use Rattle.mq_ports.specs.Tables.{IsBalanced};
+ghost use Rattle.mq_held.specs.Notes.{went_with};
 ghost use Rattle.mq_held.specs.Ports.{receive_calls, ReceiveGives, KeepsMost};
 
 use crate::datagrams::{Came, receive};
@@ -13,18 +14,20 @@ use crate::ready::ReceiveReady;
 use crate::went::Went;
 use mq_outside::Ports;
 use mq_ports::{Datagrams, PortTable};
-use mq_talk::{End, From};
+use mq_talk::{End, From, Note};
 use mq_wire::NoMemory;
 use std::alloc::Global;
 
 impl<L> Held<L> {
-    /// Receives once on the port of a live tunnel. Where that failed, the tunnel is to close.
+    /// Receives once on the port of a live tunnel, and puts the note of what was done into `told`. Where that failed, the tunnel
+    /// is to close.
     pub fn receive<P: Ports>(
         &mut self,
         alloc: Global,
         seat: PortSeat,
         datagrams: &mut Datagrams,
         table: &mut PortTable<P>,
+        told: &mut Option<Note>,
     ) -> Result<Went, NoMemory>
     where
         P::P: ReceiveReady,
@@ -32,7 +35,7 @@ impl<L> Held<L> {
         ensures gives { (s : machine.Conn) → IsConn self.old.conn s → (t : machine.Tunnel) → tunnel_of s seat.tunnel ≡ Some t → t.id ≡ seat.tunnel
             → (was : P.P) → get table.old.table seat.key ≡ Some was
             → (now : P.P) × (get table.new.table seat.key ≡ Some now) × ReceiveGives (receive_calls P.P.holds P.P.past P.P.counts was now)
-            (IsConn self.new.conn) s t seat.received result }
+            (IsConn self.new.conn) s t seat.received (went_with result told.new) }
         ensures refused { OnErr result (IfSome datagrams.old.spare (λ spare. length spare.items ≢ 65535)) }
         ensures rest { self.new ≡ record self.old { conn = self.new.conn } }
         ensures room { length datagrams.new.room.items ≡ 65535 }
@@ -53,8 +56,8 @@ impl<L> Held<L> {
             }
             Ok(Came::Datagram(packet)) => {
                 let from = From::Port(seat.tunnel);
-                let note = self.conn.deliver(from, seat.received, seat.tunnel, packet);
-                Ok(Went::Did(note))
+                *told = Some(self.conn.deliver(from, seat.received, seat.tunnel, packet));
+                Ok(Went::Did)
             }
         }
     }

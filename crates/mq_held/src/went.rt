@@ -2,14 +2,13 @@
 
 ghost use Rattle.std.specs.Prelude.{◌≡◌, ◌<◌};
 
-use mq_talk::Note;
-
-/// How a call of the outside went: what was called waits, or there was nothing to call; it failed; or something was done.
-#[derive(Drop)]
+/// How a call of the outside went: what was called waits, or there was nothing to call; it failed; or something was done, whose
+/// note is in the caller's `told`.
+#[derive(Clone, Copy, Debug, PartialEq, Eq)]
 pub enum Went {
     Waits,
     Failed,
-    Did(Note),
+    Did,
 }
 
 /// So many bytes, as a size.

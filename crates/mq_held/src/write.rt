@@ -4,6 +4,7 @@ ghost use Rattle.std.specs.Vec.{vec_len, vec_capacity};
 ghost use Rattle.mq_machine.specs.State as machine;
 ghost use Rattle.mq_conn.specs.Conns.{IsConn};
 ghost use Rattle.mq_held.specs.Links.{calls_of, WriteAsked, WriteGives, WritesPast};
+ghost use Rattle.mq_held.specs.Notes.{went_with};
 ghost use Rattle.mq_held.specs.Ready.{WouldWrite};
 
 use crate::held::Held;
@@ -41,11 +42,11 @@ fn wait<L: WriteReady>(link: &mut L, owed: &[u8])
 }
 
 impl<L: WriteReady> Held<L> {
-    /// Writes what it owes, where it owes something. The memory for the note is taken before, and only where the link may
-    /// take something now, or fail.
-    pub fn write(&mut self, alloc: Global) -> Result<Went, NoMemory>
-        ensures gives { (s : machine.Conn) → IsConn self.old.conn s → s.number ≡ self.old.number → WriteGives (calls_of L.holds L.past L.counts self.old.link self.new.link) (IsConn self.new.conn) s result }
-        ensures past { WritesPast (L.past self.old.link) (L.past self.new.link) result }
+    /// Writes what it owes, where it owes something, and puts the note of that into `told`. The memory for the note is taken
+    /// before, and only where the link may take something now, or fail.
+    pub fn write(&mut self, alloc: Global, told: &mut Option<Note>) -> Result<Went, NoMemory>
+        ensures gives { (s : machine.Conn) → IsConn self.old.conn s → s.number ≡ self.old.number → WriteGives (calls_of L.holds L.past L.counts self.old.link self.new.link) (IsConn self.new.conn) s (went_with result told.new) }
+        ensures past { WritesPast (L.past self.old.link) (L.past self.new.link) (went_with result told.new) }
         ensures rest { self.new ≡ record self.old { conn = self.new.conn; link = self.new.link } }
     {
         let owed = self.conn.owed();
@@ -71,10 +72,11 @@ impl<L: WriteReady> Held<L> {
                 let (first, _) = owed.split_at(size_of(count));
                 let bytes = filled(room, first);
                 self.conn.wrote(count);
-                Ok(Went::Did(Note::Wrote {
+                *told = Some(Note::Wrote {
                     conn: self.number,
                     bytes,
-                }))
+                });
+                Ok(Went::Did)
             }
         }
     }

@@ -5,6 +5,7 @@ ghost use Rattle.mq_talk.specs.Mails.{Boxes};
 ghost use Rattle.mq_talk.specs.Offices.{IsSound, Seen};
 ghost use Rattle.mq_machine.specs.State as machine;
 ghost use Rattle.mq_machine.specs.Acting.{holding};
+ghost use Rattle.mq_held.specs.Notes.{HasNote, note_with};
 ghost use Rattle.mq_mem.specs.Offices.{seen_of};
 ghost use Rattle.mq_play.specs.Events.{with_held_ports};
 ghost use Rattle.mq_plain.specs.Served.{Serves};
@@ -46,28 +47,30 @@ fn empty_opened(alloc: Global, worker: &mut Plain, office: &PlainOffice, next: u
     empty(alloc, worker, next);
 }
 
-/// The worker takes a step. Where a bind is to fail, the first that it tries takes that back. Nothing came to the port of a
-/// tunnel before it opened.
+/// The worker takes a step, whose note is put into `told`. Answers whether it had one. Where a bind is to fail, the first that
+/// it tries takes that back. Nothing came to the port of a tunnel before it opened.
 pub fn take(
     alloc: Global,
     worker: &mut Plain,
     office: &mut PlainOffice,
     mail: &mut PlainMail,
     bind_fails: &mut bool,
-) -> Result<Option<Note>, NoMemory>
+    told: &mut Option<Note>,
+) -> Result<bool, NoMemory>
     requires serves { (links : List machine.Told) × (w : machine.Worker) × Serves links (seen_of office.old) mail.old.boxes worker.old.ring.id worker.old w }
     requires sound { IsSound (seen_of office.old) }
     requires office { office.old.actor ≡ worker.old.ring.id }
     requires mail { mail.old.actor ≡ worker.old.ring.id }
     requires inboxes { length mail.old.boxes ≡ office.old.book.config.workers + 1 }
     ensures takes { (links : List machine.Told) (number : ℕ) (w : machine.Worker) → Serves links (seen_of office.old) mail.old.boxes number worker.old w
-        → Took links number (record { office = office.old; mail = mail.old; bind_fails = bind_fails.old }) (record { office = office.new; mail = mail.new; bind_fails = bind_fails.new }) worker.new w result }
+        → Took links number (record { office = office.old; mail = mail.old; bind_fails = bind_fails.old }) (record { office = office.new; mail = mail.new; bind_fails = bind_fails.new }) worker.new w (note_with result told.new) }
+    ensures told { HasNote result told.new }
 {
     let next = office.book().count();
     if *bind_fails {
         worker.table.ports.fail_next();
     }
-    let stepped = worker.step(office, mail);
+    let stepped = worker.step_into(office, mail, told);
     *bind_fails = worker.table.ports.unfail();
     empty_opened(alloc, worker, office, next);
     stepped

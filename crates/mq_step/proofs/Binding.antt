@@ -30,7 +30,7 @@ use Rattle.mq_held.specs.Answers.{KeepsPorts, PortBound, NotBound, BindGives}
 use Rattle.mq_step.specs.Holds.{ArePorts, AreServed, IsReady, IsBound, IsHeld, tunnels_of, numbers_of}
 use Rattle.mq_step.specs.Sights.{SeesPorts, SeesTable, filled_port, idle}
 use Rattle.mq_step.specs.Wanted.{MayBind, WantDone, WantWaits, WantStarves, ActGives, ported}
-use Rattle.mq_step.specs.declared.stepped.Stepped.{Stepped}
+use Rattle.mq_step.specs.Notes.{stepped_with}
 use Rattle.mq_wire.specs.declared.NoMemory.{NoMemory}
 use Rattle.std.specs.Result.{IsErr}
 use Rattle.mq_step.proofs.Filling.{are_filled, are_kept, tunnels_filled, StaysTold, stay_told, filled_told, stays_grow, stays_port, stays_work, none_fails, served_any, served_filled, alive_served}
@@ -41,6 +41,7 @@ use Rattle.mq_step.proofs.Standing.{stands, same_apart, bound_none}
 use Rattle.mq_step.proofs.Doing.{NeedsNoPort, idle_works, left, want_done, left_stands, left_told}
 use Rattle.mq_step.proofs.Refusing.{sunk, Sinks}
 use Rattle.mq_step.proofs.Opening.{Comes}
+use Rattle.mq_step.specs.declared.stepped.Stepped.{Stepped}
 use Rattle.mq_machine.proofs.Silents.{starves_alive}
 
 -- no seat has a key under which nothing stands
@@ -273,7 +274,7 @@ module _ {L Q : Type 0} (most : Q → ℕ) (holds : Q → Option PortHolds) (cou
   bind_comes x seen m orders said stream number addr want room (inr gives) = binds_not x seen m orders said gives.1.0 stream (goal.Udp addr number) want gives.0.bound_is gives.0.binds_are gives.1.1 gives.1.2
 
 -- memory was refused, whoever said so
-pub err_gives : (o n : Outside) (seen seen_after : Seen) (mail mail_after : Inboxes) (stands_for : Held → Type 0) (s : Held) (r : Result Stepped NoMemory) → IsErr r
-    → ((orders : Orders) → (t : Held) × WantStarves o n seen seen_after mail mail_after orders s t × stands_for t × PortsTold n t.ports) → ActGives o n seen seen_after mail mail_after stands_for s r
-err_gives o n seen seen_after mail mail_after stands_for s (Ok stepped) is gives = absurd cc
-err_gives o n seen seen_after mail mail_after stands_for s (Err refused) is gives = gives
+pub err_gives : (o n : Outside) (seen seen_after : Seen) (mail mail_after : Inboxes) (stands_for : Held → Type 0) (s : Held) (r : Result Stepped NoMemory) (told : Option Note) → IsErr r
+    → ((orders : Orders) → (t : Held) × WantStarves o n seen seen_after mail mail_after orders s t × stands_for t × PortsTold n t.ports) → ActGives o n seen seen_after mail mail_after stands_for s (stepped_with r told)
+err_gives o n seen seen_after mail mail_after stands_for s (Ok stepped) told is gives = absurd cc
+err_gives o n seen seen_after mail mail_after stands_for s (Err refused) told is gives = gives

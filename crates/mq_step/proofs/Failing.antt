@@ -17,8 +17,7 @@ use Rattle.mq_machine.specs.Steps.{failed}
 use Rattle.mq_machine.specs.Shared.{ports_after}
 use Rattle.mq_machine.specs.Turn.{Try, can_do, over_or, acted, with_conn, HeldDone, ActNext, TryNext}
 use Rattle.mq_machine.specs.Acting.{Outside, Rose}
-use Rattle.mq_step.specs.declared.stepped.Stepped.{Stepped}
-use Rattle.mq_step.specs.declared.stepped.Stepped.TheVariants.{Quiet, Did, Ended}
+use Rattle.mq_step.specs.Notes.{SteppedWith, Quiet, Did, Ended, Noteless}
 use Rattle.mq_step.specs.Sights.{Found, idle, PortsFit}
 use Rattle.mq_step.specs.Whole.{filled}
 use Rattle.mq_step.specs.Wanted.{ActGives, ported, is_send, with_prepared}
@@ -95,7 +94,7 @@ became_link h a n (Some b) t o is then =
 -- ---- the step
 
 -- what the connection did then is what the try does
-pub failed_gives : (setup : Setup) (tries : Tries) (vain : InVain) (try : Try) (o n : Outside) (seen seen_after : Seen) (mail mail_after : Inboxes) (stands_for : Held → Type 0) (s : Held) (found link : Link) (r : Result Stepped NoMemory)
+pub failed_gives : (setup : Setup) (tries : Tries) (vain : InVain) (try : Try) (o n : Outside) (seen seen_after : Seen) (mail mail_after : Inboxes) (stands_for : Held → Type 0) (s : Held) (found link : Link) (r : Result SteppedWith NoMemory)
     → first_of tries (filled o (on_link found) s) ≡ Some try → vain (on_link found)
     → ((sh after : Shared) (answer : Answer) (note : Note) (became : Option Held) → ActNext (ported o idle (fallen s link)) sh answer note became after → TryNext setup (filled o (on_link found) s) sh try answer note became after)
     → (o.link s.conn.number ≡ None → (filled o (on_link found) s).link.read_fails || (filled o (on_link found) s).link.write_fails ≡ true
@@ -150,5 +149,6 @@ failed_gives setup tries vain try o n seen seen_after mail mail_after stands_for
       next = next_is x.sh x.after x.answer note x.became (subst N calm x.next);
       then = x.then;
     }
+failed_gives setup tries vain try o n seen seen_after mail mail_after stands_for s found link (Ok Noteless) is vain_is next_is faults told gives = absurd gives
 failed_gives setup tries vain try o n seen seen_after mail mail_after stands_for s found link (Err refused) is vain_is next_is faults told gives = λ orders.
     let e = starves_alive (fallen s link).conn (gives orders).1.takes in absurd cc

@@ -18,11 +18,13 @@ use Rattle.mq_machine.specs.Turn.{Read, can_try, can_take, ReadNext, most_read}
 use Rattle.mq_machine.specs.Acting.{Outside, Binder}
 use Rattle.mq_conn.specs.Conns.{IsConn}
 use Rattle.mq_held.specs.declared.held.Held.{Held as HeldBy}
-use Rattle.mq_held.specs.declared.went.Went.TheVariants as went
+use Rattle.mq_held.specs.declared.went.Went.TheVariants as done
+use Rattle.mq_held.specs.Notes as went
 use Rattle.mq_held.specs.Links.{Calls, calls_of, ReadGives, ReadDoes, ReadWaits, FailsRead}
 use Rattle.mq_step.proofs.Wanting.{Mailed}
-use Rattle.mq_step.specs.declared.stepped.Stepped.{Stepped}
-use Rattle.mq_step.specs.declared.stepped.Stepped.TheVariants.{Did}
+use Rattle.mq_step.specs.declared.stepped.Stepped.TheVariants as stepped
+use Rattle.mq_step.specs.Notes.{SteppedWith, stepped_by}
+use Rattle.mq_step.specs.Notes.{Did}
 use Rattle.mq_step.specs.Holds.{IsHeld, numbers_of}
 use Rattle.mq_step.specs.Sights.{Found, idle, idle_link}
 use Rattle.mq_step.specs.Whole.{SeesLink, Sees, IsAsTold, link_if, filled}
@@ -98,9 +100,11 @@ module _ {L Q : Type 0} (link : L → Option Link) (past : L → LinkPast) (coun
         (read_stands x f t l can kept conn, read_told x f t l kept.number (end_over o c s sl d).tells),
       )
 
-  pub read_gives : (x : Moves link past counts most holds port_counts binds table old new o n s) (setup : Setup) (seen : Seen) (m : Mailed seen) (said : Note)
-      → ReadGives setup (calls_of link past counts old.link new.link) (IsConn new.conn) s.conn (Ok (went.Did said)) → Gives setup from_read WritesWait o n seen seen m.mail m.mail (IsHeld most table new) s (Ok (Did said))
-  read_gives x setup seen m said gives = read_does x setup seen m said gives.1.0 gives.0 gives.1.2 gives.1.1
+  pub read_gives : (x : Moves link past counts most holds port_counts binds table old new o n s) (setup : Setup) (seen : Seen) (m : Mailed seen) (told : Option Note)
+      → ReadGives setup (calls_of link past counts old.link new.link) (IsConn new.conn) s.conn (Ok (went.went_by done.Did told))
+      → Gives setup from_read WritesWait o n seen seen m.mail m.mail (IsHeld most table new) s (Ok (stepped_by stepped.Did told))
+  read_gives x setup seen m None gives = gives
+  read_gives x setup seen m (Some said) gives = read_does x setup seen m said gives.1.0 gives.0 gives.1.2 gives.1.1
 
 -- ---- a read failed
 
@@ -113,7 +117,7 @@ fails_read (Some l) after fails = let P : Option Link → Type 0 = λ a. IsTold 
 
 module _ {L Q : Type 0} (link : L → Option Link) (past : L → LinkPast) (counts : L → LinkCounts) (most : Q → ℕ) (holds : Q → Option PortHolds) (port_counts : Q → PortCounts) (binds binds_after : Binder) (table after : Slab Q)
     (old new fin : HeldBy L) (o n : Outside) (s : Held) where
-  pub read_fails_gives : (setup : Setup) (seen seen_after : Seen) (mail mail_after : Inboxes) (r : Result Stepped NoMemory) → IsHeld most table old s → may_wait (want_of s.conn) ≡ true
+  pub read_fails_gives : (setup : Setup) (seen seen_after : Seen) (mail mail_after : Inboxes) (r : Result SteppedWith NoMemory) → IsHeld most table old s → may_wait (want_of s.conn) ≡ true
       → Sees link counts holds port_counts binds table old o → Sees link counts holds port_counts binds_after after fin n
       → new ≡ record old { conn = new.conn; link = new.link } → fin ≡ record new { conn = fin.conn; ports = fin.ports; bound = fin.bound }
       → ReadGives setup (calls_of link past counts old.link new.link) (IsConn new.conn) s.conn (Ok went.Failed)
@@ -140,7 +144,7 @@ idle_reads : ReadsWait idle
 idle_reads = record { writes = record { sends = λ tunnel. (refl, refl); works = refl; room = refl }; works = refl; pieces = refl; not_ended = refl }
 
 pub read_waits_gives : {L : Type 0} (link : L → Option Link) (past : L → LinkPast) (counts : L → LinkCounts) (o n : Outside) (old new : HeldBy L) (s : Held) (setup : Setup) (seen seen_after : Seen) (mail mail_after : Inboxes)
-    (stands_for : Held → Type 0) (r : Result Stepped NoMemory) → s.conn.number ≡ old.number → SeesLink link counts old o → ReadWaits (calls_of link past counts old.link new.link) s.conn
+    (stands_for : Held → Type 0) (r : Result SteppedWith NoMemory) → s.conn.number ≡ old.number → SeesLink link counts old o → ReadWaits (calls_of link past counts old.link new.link) s.conn
     → Gives setup receives_of ReadsWait (mid o (λ i. counts new.link) o.port_counts) n seen seen_after mail mail_after stands_for s r → Gives setup from_read WritesWait o n seen seen_after mail mail_after stands_for s r
 read_waits_gives link past counts o n old new s setup seen seen_after mail mail_after stands_for r number sees waits gives =
     let c : Calls = calls_of link past counts old.link new.link in

@@ -28,6 +28,7 @@ pub mod Closing
 pub mod PortFailing
 pub mod Passing
 pub mod Moving
+pub mod Noting
 pub mod Incoming
 pub mod Stepping
 pub mod Still

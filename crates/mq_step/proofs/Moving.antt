@@ -22,11 +22,12 @@ use Rattle.mq_machine.specs.Acting.{Outside, Rose, Binder}
 use Rattle.mq_conn.specs.Conns.{IsConn}
 use Rattle.mq_held.specs.declared.held.Held.{Held as HeldBy}
 use Rattle.mq_held.specs.declared.held.PortSeat.{PortSeat}
-use Rattle.mq_held.specs.declared.went.Went.TheVariants as went
+use Rattle.mq_held.specs.declared.went.Went.TheVariants as done
+use Rattle.mq_held.specs.Notes as went
 use Rattle.mq_held.specs.Links.{Calls, calls_of, WriteGives, WriteWaits, FailsWrite}
 use Rattle.mq_step.proofs.Wanting.{Mailed}
-use Rattle.mq_step.specs.declared.stepped.Stepped.{Stepped}
-use Rattle.mq_step.specs.declared.stepped.Stepped.TheVariants.{Did}
+use Rattle.mq_step.specs.Notes.{SteppedWith, stepped_by, stepped_with}
+use Rattle.mq_step.specs.declared.stepped.Stepped.TheVariants as stepped
 use Rattle.mq_step.specs.Holds.{ArePorts, AreServed, IsHeld, IsKnown}
 use Rattle.mq_step.specs.Sights.{Found, SeesPorts, SeesTable, idle, idle_link}
 use Rattle.mq_step.specs.Whole.{SeesLink, Sees, link_if, filled}
@@ -41,13 +42,14 @@ use Rattle.mq_step.proofs.Counting.{rose_risen, rose_then}
 use Rattle.mq_step.proofs.Trying.{Between, mid, skip, first_true, receives_back, read_back}
 use Rattle.mq_step.proofs.Framing.{still_bound, still_opens, whole, whole_stands, whole_told, same_link, drained, drains}
 use Rattle.mq_step.proofs.Linking.{on_link, LinkSeen, write_in_vain, write_rose, write_between, roomy, took_some, written, write_does_turn, write_could, both_true, owes_some}
+use Rattle.mq_step.specs.declared.stepped.Stepped.{Stepped}
 use Rattle.mq_step.proofs.Failing.{failed_gives, fallen}
 
 -- memory was refused, whoever said so
-pub gives_err : (setup : Setup) (tries : Tries) (vain : InVain) (o n : Outside) (seen seen_after : Seen) (mail mail_after : Inboxes) (stands_for : Held → Type 0) (s : Held) (r : Result Stepped NoMemory) → IsErr r
-    → ((refused : NoMemory) → Gives setup tries vain o n seen seen_after mail mail_after stands_for s (Err refused)) → Gives setup tries vain o n seen seen_after mail mail_after stands_for s r
-gives_err setup tries vain o n seen seen_after mail mail_after stands_for s (Ok stepped) is gives = absurd cc
-gives_err setup tries vain o n seen seen_after mail mail_after stands_for s (Err refused) is gives = gives refused
+pub gives_err : (setup : Setup) (tries : Tries) (vain : InVain) (o n : Outside) (seen seen_after : Seen) (mail mail_after : Inboxes) (stands_for : Held → Type 0) (s : Held) (r : Result Stepped NoMemory) (told : Option Note) → IsErr r
+    → ((refused : NoMemory) → Gives setup tries vain o n seen seen_after mail mail_after stands_for s (Err refused)) → Gives setup tries vain o n seen seen_after mail mail_after stands_for s (stepped_with r told)
+gives_err setup tries vain o n seen seen_after mail mail_after stands_for s (Ok stepped) told is gives = absurd cc
+gives_err setup tries vain o n seen seen_after mail mail_after stands_for s (Err refused) told is gives = gives refused
 
 -- ---- what stays
 
@@ -139,10 +141,11 @@ module _ {L Q : Type 0} (link : L → Option Link) (past : L → LinkPast) (coun
         (drained_stands x f h.link.pieces gives.3, whole_told o n f s (starved s.conn) h.link refl (same_link o n s new_link same) (stay_all x)),
       )
 
-  pub wrote_gives : (x : Moves link past counts most holds port_counts binds table old new o n s) (setup : Setup) (seen : Seen) (m : Mailed seen) (said : Note)
-      → WriteGives (calls_of link past counts old.link new.link) (IsConn new.conn) s.conn (Ok (went.Did said))
-      → Gives setup from_write SendsWait o n seen seen m.mail m.mail (IsHeld most table new) s (Ok (Did said))
-  wrote_gives x setup seen m said gives = λ orders.
+  pub wrote_gives : (x : Moves link past counts most holds port_counts binds table old new o n s) (setup : Setup) (seen : Seen) (m : Mailed seen) (told : Option Note)
+      → WriteGives (calls_of link past counts old.link new.link) (IsConn new.conn) s.conn (Ok (went.went_by done.Did told))
+      → Gives setup from_write SendsWait o n seen seen m.mail m.mail (IsHeld most table new) s (Ok (stepped_by stepped.Did told))
+  wrote_gives x setup seen m None gives = gives
+  wrote_gives x setup seen m (Some said) gives = λ orders.
       let c : Calls = calls_of link past counts old.link new.link in
       let d = gives.1 in
       let t : Conn = gives.0 in
@@ -202,7 +205,7 @@ module _ {L Q : Type 0} (link : L → Option Link) (past : L → LinkPast) (coun
       rose_risen (o.link_counts s.conn.number).faults (n.link_counts s.conn.number).faults
       (ap (λ (x : LinkCounts). x.faults) (b ∙ is) ∙ ap (λ (x : LinkCounts). risen x.faults) (sym a))
 
-  pub write_fails_gives : (setup : Setup) (seen seen_after : Seen) (mail mail_after : Inboxes) (r : Result Stepped NoMemory) → IsHeld most table old s → may_wait (want_of s.conn) ≡ true
+  pub write_fails_gives : (setup : Setup) (seen seen_after : Seen) (mail mail_after : Inboxes) (r : Result SteppedWith NoMemory) → IsHeld most table old s → may_wait (want_of s.conn) ≡ true
       → Sees link counts holds port_counts binds table old o → Sees link counts holds port_counts binds_after after fin n
       → new ≡ record old { conn = new.conn; link = new.link } → fin ≡ record new { conn = fin.conn; ports = fin.ports; bound = fin.bound }
       → WriteGives (calls_of link past counts old.link new.link) (IsConn new.conn) s.conn (Ok went.Failed)
@@ -234,7 +237,7 @@ from_read_back o n lc s between asked =
     (receives_back o n lc o.port_counts s s.ports between.ports (All-tail (Asked (mid o lc o.port_counts) n s) Read (receives_of s) asked))
 
 pub write_waits_gives : {L : Type 0} (link : L → Option Link) (past : L → LinkPast) (counts : L → LinkCounts) (o n : Outside) (old new : HeldBy L) (s : Held) (setup : Setup) (seen seen_after : Seen) (mail mail_after : Inboxes)
-    (stands_for : Held → Type 0) (r : Result Stepped NoMemory) → s.conn.number ≡ old.number → SeesLink link counts old o → WriteWaits (calls_of link past counts old.link new.link) s.conn
+    (stands_for : Held → Type 0) (r : Result SteppedWith NoMemory) → s.conn.number ≡ old.number → SeesLink link counts old o → WriteWaits (calls_of link past counts old.link new.link) s.conn
     → Gives setup from_read WritesWait (mid o (λ i. counts new.link) o.port_counts) n seen seen_after mail mail_after stands_for s r → Gives setup from_write SendsWait o n seen seen_after mail mail_after stands_for s r
 write_waits_gives link past counts o n old new s setup seen seen_after mail mail_after stands_for r number sees waits gives =
     let c : Calls = calls_of link past counts old.link new.link in

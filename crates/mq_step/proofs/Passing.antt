@@ -19,8 +19,8 @@ use Rattle.mq_held.specs.Ports.{receive_calls, GivesNone, ReceiveWaits}
 use Rattle.mq_held.specs.Ready.{may_give}
 use Rattle.mq_held.specs.declared.held.Held.{Held as HeldBy}
 use Rattle.mq_held.specs.declared.held.PortSeat.{PortSeat}
-use Rattle.mq_step.specs.declared.stepped.Stepped.{Stepped}
-use Rattle.mq_step.specs.declared.stepped.Stepped.TheVariants.{Quiet, Did, Ended}
+use Rattle.mq_step.specs.Notes.{SteppedWith, stepped_with}
+use Rattle.mq_step.specs.Notes.{Quiet, Did, Ended, Noteless}
 use Rattle.mq_step.specs.Holds.{IsPort, ArePorts, IsApartFrom, SeatsApart, IsHeld}
 use Rattle.mq_step.specs.Sights.{Found, SeesPort, SeesPorts, port_if, filled_port, idle, PortGrows}
 use Rattle.mq_step.specs.Whole.{SeesLink, Sees, filled}
@@ -30,6 +30,7 @@ use Rattle.mq_step.proofs.Counting.{rose_risen, risen_grows, same_grows, port_sa
 use Rattle.mq_step.proofs.Places.{at_all, all_by, apart_at, seat_port, each_port, port_first}
 use Rattle.mq_step.proofs.Seeing.{there, there_is}
 use Rattle.mq_step.proofs.Trying.{PortBetween, Between, mid, faults_back, binds_back}
+use Rattle.mq_step.specs.declared.stepped.Stepped.{Stepped}
 use Rattle.mq_step.proofs.Receiving.{link_stays, link_grows}
 
 -- ---- which ports were asked
@@ -292,12 +293,13 @@ module _ {L Q : Type 0} (most : Q → ℕ) (holds : Q → Option PortHolds) (pas
     }
 
     -- what it gives, all give
-    pub seat_gives : (setup : Setup) (n : Outside) (seen seen_after : Seen) (mail mail_after : Inboxes) (stand : Held → Type 0) (r : Result Stepped NoMemory) → (r ≡ Ok Quiet → ⊥)
+    pub seat_gives : (setup : Setup) (n : Outside) (seen seen_after : Seen) (mail mail_after : Inboxes) (stand : Held → Type 0) (r : Result SteppedWith NoMemory) → (r ≡ Ok Quiet → ⊥)
         → Gives setup (receive_alone seat.tunnel) (ReceivesWait seat.tunnel) (mid o o.link_counts counts_now) n seen seen_after mail mail_after stand s r → Gives setup receives_of ReadsWait o n seen seen_after mail mail_after stand s r
     seat_gives setup n seen seen_after mail mail_after stand (Ok Quiet) loud gives = absurd (loud refl)
     seat_gives setup n seen seen_after mail mail_after stand (Ok (Did said)) loud gives = λ orders.
         let d = gives orders in (d.0, turned_all setup n seen seen_after mail mail_after orders said (Some d.0) d.1, d.2)
     seat_gives setup n seen seen_after mail mail_after stand (Ok (Ended said)) loud gives = λ orders. turned_all setup n seen seen_after mail mail_after orders said None (gives orders)
+    seat_gives setup n seen seen_after mail mail_after stand (Ok Noteless) loud gives = gives
     seat_gives setup n seen seen_after mail mail_after stand (Err refused) loud gives = λ orders.
         let x = gives orders in
         let d = x.1 in (
@@ -402,7 +404,8 @@ module _ {L Q : Type 0} (most : Q → ℕ) (holds : Q → Option PortHolds) (pas
             subst C (sym p.2) (cannot idle i p.0 p.1 (less i x.0 x.1) (refl, refl))
 
 -- whoever says that memory was refused
-pub err_gives : (setup : Setup) (o n : Outside) (seen seen_after : Seen) (mail mail_after : Inboxes) (stand : Held → Type 0) (s : Held) (refused : NoMemory) (r : Result Stepped NoMemory) → IsErr r
-    → Gives setup receives_of ReadsWait o n seen seen_after mail mail_after stand s (Err refused) → Gives setup receives_of ReadsWait o n seen seen_after mail mail_after stand s r
-err_gives setup o n seen seen_after mail mail_after stand s refused (Ok stepped) is gives = absurd cc
-err_gives setup o n seen seen_after mail mail_after stand s refused (Err why) is gives = gives
+pub err_gives : (setup : Setup) (o n : Outside) (seen seen_after : Seen) (mail mail_after : Inboxes) (stand : Held → Type 0) (s : Held) (refused : NoMemory) (r : Result Stepped NoMemory) (told : Option Note) → IsErr r
+    → Gives setup receives_of ReadsWait o n seen seen_after mail mail_after stand s (Err refused)
+    → Gives setup receives_of ReadsWait o n seen seen_after mail mail_after stand s (stepped_with r told)
+err_gives setup o n seen seen_after mail mail_after stand s refused (Ok stepped) told is gives = absurd cc
+err_gives setup o n seen seen_after mail mail_after stand s refused (Err why) told is gives = gives

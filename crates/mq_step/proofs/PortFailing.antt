@@ -31,8 +31,8 @@ use Rattle.mq_held.specs.Seats.{IsSeatOf}
 use Rattle.mq_step.specs.Holds.{IsApartFrom, IsHeld, IsKnown}
 use Rattle.mq_step.specs.Sights.{Found, SeesPort, SeesPorts, port_if, filled_port, idle_port, PortFits, PortsFit}
 use Rattle.mq_step.specs.Whole.{filled, IsAsTold}
-use Rattle.mq_step.specs.declared.stepped.Stepped.{Stepped}
-use Rattle.mq_step.specs.declared.stepped.Stepped.TheVariants.{Quiet, Did, Ended}
+use Rattle.mq_step.specs.Notes.{SteppedWith, stepped_with}
+use Rattle.mq_step.specs.Notes.{Quiet, Did, Ended, Noteless}
 use Rattle.mq_step.specs.Gives.{Gives, Turned, Starved, StandsAsTold, ReceivesWait, receive_alone}
 use Rattle.mq_step.specs.Closing.{Closed, CloseGives, Retires}
 use Rattle.mq_step.proofs.Wanting.{acted_is}
@@ -43,6 +43,7 @@ use Rattle.mq_step.proofs.Standing.{stands, same_apart}
 use Rattle.mq_step.proofs.Retiring.{retired_told}
 use Rattle.mq_step.proofs.Sending.{found_at, found_here, other_fits}
 use Rattle.mq_step.proofs.Receiving.{Live, LinkStays, waits_opens, receives_wait, held_then, port_is, tunnel_is, which, first_is, link_told, link_fits}
+use Rattle.mq_step.specs.declared.stepped.Stepped.{Stepped}
 use Rattle.mq_step.proofs.Received.{Behind, unbound, same_are}
 
 -- the connection whose port failed
@@ -177,18 +178,19 @@ module _ {L Q : Type 0} (most : Q → ℕ) (holds : Q → Option PortHolds) (pas
     }
 
 -- a close gives nothing else
-pub closes_give : (setup : Setup) (tunnel : ℕ) (o n : Outside) (seen seen_after : Seen) (mail mail_after : Inboxes) (stand : Held → Type 0) (s closing : Held) (r : Result Stepped NoMemory) → CloseGives seen seen_after mail mail_after stand tunnel closing r
+pub closes_give : (setup : Setup) (tunnel : ℕ) (o n : Outside) (seen seen_after : Seen) (mail mail_after : Inboxes) (stand : Held → Type 0) (s closing : Held) (r : Result SteppedWith NoMemory) → CloseGives seen seen_after mail mail_after stand tunnel closing r
     → ((said : Note) (orders : Orders) → Closed seen seen_after mail mail_after orders stand tunnel closing said
     → (t : Held) × Turned setup (receive_alone tunnel) (ReceivesWait tunnel) o n seen seen_after mail mail_after orders s said (Some t) × StandsAsTold n stand t)
     → Gives setup (receive_alone tunnel) (ReceivesWait tunnel) o n seen seen_after mail mail_after stand s r
 closes_give setup tunnel o n seen seen_after mail mail_after stand s closing (Ok (Did said)) gives turns = λ orders. turns said orders (gives orders)
 closes_give setup tunnel o n seen seen_after mail mail_after stand s closing (Ok Quiet) gives turns = absurd gives
 closes_give setup tunnel o n seen seen_after mail mail_after stand s closing (Ok (Ended said)) gives turns = absurd gives
+closes_give setup tunnel o n seen seen_after mail mail_after stand s closing (Ok Noteless) gives turns = absurd gives
 closes_give setup tunnel o n seen seen_after mail mail_after stand s closing (Err refused) gives turns = absurd gives
 
 -- nor does a step that was refused memory
-pub starved_gives : (setup : Setup) (tunnel : ℕ) (o n : Outside) (seen seen_after : Seen) (mail mail_after : Inboxes) (stand : Held → Type 0) (s : Held) (r : Result Stepped NoMemory) → IsErr r
+pub starved_gives : (setup : Setup) (tunnel : ℕ) (o n : Outside) (seen seen_after : Seen) (mail mail_after : Inboxes) (stand : Held → Type 0) (s : Held) (r : Result Stepped NoMemory) (told : Option Note) → IsErr r
     → ((orders : Orders) → (t : Held) × Starved (receive_alone tunnel) (ReceivesWait tunnel) o n seen seen_after mail mail_after orders s t × StandsAsTold n stand t)
-    → Gives setup (receive_alone tunnel) (ReceivesWait tunnel) o n seen seen_after mail mail_after stand s r
-starved_gives setup tunnel o n seen seen_after mail mail_after stand s (Ok stepped) is starves = absurd cc
-starved_gives setup tunnel o n seen seen_after mail mail_after stand s (Err refused) is starves = starves
+    → Gives setup (receive_alone tunnel) (ReceivesWait tunnel) o n seen seen_after mail mail_after stand s (stepped_with r told)
+starved_gives setup tunnel o n seen seen_after mail mail_after stand s (Ok stepped) told is starves = absurd cc
+starved_gives setup tunnel o n seen seen_after mail mail_after stand s (Err refused) told is starves = starves

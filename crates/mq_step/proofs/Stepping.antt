@@ -25,8 +25,9 @@ use Rattle.mq_held.specs.declared.held.Held.{Held as HeldBy}
 use Rattle.mq_held.specs.declared.held.PortSeat.{PortSeat}
 use Rattle.mq_held.specs.Frames.{FrameGives}
 use Rattle.mq_step.proofs.Wanting.{Mailed}
-use Rattle.mq_step.specs.declared.stepped.Stepped.{Stepped}
-use Rattle.mq_step.specs.declared.stepped.Stepped.TheVariants.{Quiet, Did, Ended}
+use Rattle.mq_step.specs.declared.stepped.Stepped.TheVariants as stepped
+use Rattle.mq_step.specs.Notes.{SteppedWith, stepped_by}
+use Rattle.mq_step.specs.Notes.{Quiet, Did, Ended, Noteless}
 use Rattle.mq_step.specs.Holds.{ArePorts, IsHeld, IsKnown}
 use Rattle.mq_step.specs.Sights.{Found, SeesPort, SeesPorts, SeesTable, idle, idle_link, PortGrows}
 use Rattle.mq_step.specs.Whole.{Sees, link_if, filled}
@@ -60,9 +61,11 @@ module _ {L Q : Type 0} (link : L → Option Link) (past : L → LinkPast) (coun
         ),
       )
 
-  pub framed_gives : (x : Moves link past counts most holds port_counts binds table old new o n s) → new.link ≡ old.link → (setup : Setup) (seen : Seen) (m : Mailed seen) (said : Note)
-      → FrameGives (IsConn new.conn) s.conn (Ok (Some said)) → Gives setup from_frame SendsWait o n seen seen m.mail m.mail (IsHeld most table new) s (Ok (Did said))
-  framed_gives x same setup seen m said gives = λ orders.
+  pub framed_gives : (x : Moves link past counts most holds port_counts binds table old new o n s) → new.link ≡ old.link → (setup : Setup) (seen : Seen) (m : Mailed seen) (told : Option Note)
+      → is_some told ≡ true → FrameGives (IsConn new.conn) s.conn (Ok told)
+      → Gives setup from_frame SendsWait o n seen seen m.mail m.mail (IsHeld most table new) s (Ok (stepped_by stepped.Did told))
+  framed_gives x same setup seen m None some gives = absurd cc
+  framed_gives x same setup seen m (Some said) some gives = λ orders.
       let t : Conn = gives.0 in
       let h : Held = filled o idle s in
       let held = frame_stands most table old new o s said t x.held x.wait gives.1 (ap (λ y. y.ports.items) x.rest) (ap (λ y. y.number) x.rest) (ap (λ y. y.bound) x.rest) gives.2 in
@@ -75,7 +78,7 @@ module _ {L Q : Type 0} (link : L → Option Link) (past : L → LinkPast) (coun
 same_between : (o : Outside) (s : Held) → Between o o.link_counts o.port_counts s
 same_between o s = between_link o o.link_counts s (link_same (o.link_counts s.conn.number) (o.link_counts s.conn.number) refl) refl
 
-pub frame_waits : (setup : Setup) (o n : Outside) (seen seen_after : Seen) (mail mail_after : Inboxes) (stands_for : Held → Type 0) (s : Held) (r : Result Stepped NoMemory) → framed s.conn ≡ None
+pub frame_waits : (setup : Setup) (o n : Outside) (seen seen_after : Seen) (mail mail_after : Inboxes) (stands_for : Held → Type 0) (s : Held) (r : Result SteppedWith NoMemory) → framed s.conn ≡ None
     → Gives setup from_write SendsWait o n seen seen_after mail mail_after stands_for s r → Gives setup from_frame SendsWait o n seen seen_after mail mail_after stands_for s r
 frame_waits setup o n seen seen_after mail mail_after stands_for s r none gives =
     skip o n o.link_counts o.port_counts setup Frame from_write SendsWait SendsWait seen seen_after mail mail_after stands_for s r (same_between o s)
@@ -168,7 +171,7 @@ want_asked most table h o m n s (Send tunnel k payload) held want asked grow =
     let here = subst I one.of_port (at_all G s.ports grow one.place one.p one.at_port) in
     rose_then (o.port_counts tunnel).send_waits (m.port_counts tunnel).send_waits (n.port_counts tunnel).send_waits asked here.send_waits
 
-pub quiet_gives : {L Q : Type 0} (most : Q → ℕ) (table : Slab Q) (h : HeldBy L) (setup : Setup) (o m n : Outside) (seen seen_mid seen_after : Seen) (mail mail_mid mail_after : Inboxes) (stands_for : Held → Type 0) (s : Held) (r : Result Stepped NoMemory)
+pub quiet_gives : {L Q : Type 0} (most : Q → ℕ) (table : Slab Q) (h : HeldBy L) (setup : Setup) (o m n : Outside) (seen seen_mid seen_after : Seen) (mail mail_mid mail_after : Inboxes) (stands_for : Held → Type 0) (s : Held) (r : Result SteppedWith NoMemory)
     → IsHeld most table h s → WantWaits o m seen seen_mid mail mail_mid s → Gives setup from_frame SendsWait (mid o o.link_counts m.port_counts) n seen_mid seen_after mail_mid mail_after stands_for s r
     → Gives setup tries_of Anything o n seen seen_after mail mail_after stands_for s r
 quiet_gives most table h setup o m n seen seen_mid seen_after mail mail_mid mail_after stands_for s r held w gives =
@@ -218,7 +221,7 @@ module _ {L Q : Type 0} (most : Q → ℕ) (after : Slab Q) (new : HeldBy L) (o 
     then = x.then;
   }
 
-  pub act_gives : (setup : Setup) (seen seen_after : Seen) (mail mail_after : Inboxes) (r : Result Stepped NoMemory) → n.link new.number ≡ o.link s.conn.number → (r ≡ Ok Quiet → ⊥)
+  pub act_gives : (setup : Setup) (seen seen_after : Seen) (mail mail_after : Inboxes) (r : Result SteppedWith NoMemory) → n.link new.number ≡ o.link s.conn.number → (r ≡ Ok Quiet → ⊥)
       → ActGives o n seen seen_after mail mail_after (IsHeld most after new) (linked o s) r → Gives setup tries_of Anything o n seen seen_after mail mail_after (IsHeld most after new) s r
   act_gives setup seen seen_after mail mail_after (Ok Quiet) same loud gives = absurd (loud refl)
   act_gives setup seen seen_after mail mail_after (Ok (Did said)) same loud gives = λ orders.
@@ -226,6 +229,7 @@ module _ {L Q : Type 0} (most : Q → ℕ) (after : Slab Q) (new : HeldBy L) (o 
       let link = became_link (ported o d.1.found (linked o s)) d.1.answer said d.1.became d.0 n d.1.next.is d.1.then in
       (d.0, turned setup seen seen_after mail mail_after orders said (Some d.0) d.1, (d.2, record { link = linked_told d.0 same d.2 link; ports = d.3 }))
   act_gives setup seen seen_after mail mail_after (Ok (Ended said)) same loud gives = λ orders. turned setup seen seen_after mail mail_after orders said None (gives orders)
+  act_gives setup seen seen_after mail mail_after (Ok Noteless) same loud gives = gives
   act_gives setup seen seen_after mail mail_after (Err refused) same loud gives = λ orders.
       let d = gives orders in
       let x = d.1 in (
@@ -287,9 +291,10 @@ known_then seen after actor who s known same mine =
     subst P (sym same) (subst Q (sym mine) known)
 
 -- the book keeps its configuration
-pub config_stays : (old new : Outside) (seen seen_after : Seen) (mail mail_after : Inboxes) (stands : Held → Type 0) (s : Held) (r : Result Stepped NoMemory) → ActGives old new seen seen_after mail mail_after stands s r
+pub config_stays : (old new : Outside) (seen seen_after : Seen) (mail mail_after : Inboxes) (stands : Held → Type 0) (s : Held) (r : Result SteppedWith NoMemory) → ActGives old new seen seen_after mail mail_after stands s r
     → seen_after.config ≡ seen.config
 config_stays old new seen seen_after mail mail_after stands s (Ok Quiet) gives = ap (λ (x : Seen). x.config) gives.0.seen_is
 config_stays old new seen seen_after mail mail_after stands s (Ok (Did note)) gives = (gives (record { bind = false })).1.shares.same.config
 config_stays old new seen seen_after mail mail_after stands s (Ok (Ended note)) gives = (gives (record { bind = false })).shares.same.config
+config_stays old new seen seen_after mail mail_after stands s (Ok Noteless) gives = absurd gives
 config_stays old new seen seen_after mail mail_after stands s (Err refused) gives = (gives (record { bind = false })).1.shares.same.config

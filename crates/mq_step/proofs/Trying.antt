@@ -11,8 +11,7 @@ use Rattle.mq_machine.specs.State.{Held, Port}
 use Rattle.mq_machine.specs.Want.{Answer, Said, Bound, Replied, Judged, Pushed, Put}
 use Rattle.mq_machine.specs.Turn.{Try, Write, Read, Receive, can_try}
 use Rattle.mq_machine.specs.Acting.{Outside, Rose, PortFailed, BindFits, handed_back}
-use Rattle.mq_step.specs.declared.stepped.Stepped.{Stepped}
-use Rattle.mq_step.specs.declared.stepped.Stepped.TheVariants.{Quiet, Did, Ended}
+use Rattle.mq_step.specs.Notes.{SteppedWith, Quiet, Did, Ended, Noteless}
 use Rattle.mq_step.specs.Sights.{Found, filled_port, idle, PortFits, PortsFit, LinkGrows, PortGrows}
 use Rattle.mq_step.specs.Whole.{filled, FaultsFit, Grows}
 use Rattle.mq_step.specs.Gives.{Tries, InVain, Asked, Gives}
@@ -119,7 +118,7 @@ module _ (o n : Outside) (lc : ℕ → LinkCounts) (pc : ℕ → PortCounts) whe
 
   -- ---- a try that is in vain goes before
 
-  pub skip : (setup : Setup) (t : Try) (tries : Tries) (vain less : InVain) (seen seen_after : Seen) (mail mail_after : Inboxes) (stands_for : Held → Type 0) (s : Held) (r : Result Stepped NoMemory)
+  pub skip : (setup : Setup) (t : Try) (tries : Tries) (vain less : InVain) (seen seen_after : Seen) (mail mail_after : Inboxes) (stands_for : Held → Type 0) (s : Held) (r : Result SteppedWith NoMemory)
       → Between o lc pc s → ((f : Found) → vain f → can_try (filled o f s) t ≡ false) → vain idle → ((f : Found) → vain f → less f)
       → (Grows (mid o lc pc) n s → Asked o n s t) → (All (Asked (mid o lc pc) n s) (tries s) → All (Asked o n s) (tries s))
       → Gives setup tries vain (mid o lc pc) n seen seen_after mail mail_after stands_for s r → Gives setup (λ h. t ∷ tries h) less o n seen seen_after mail mail_after stands_for s r
@@ -173,6 +172,7 @@ module _ (o n : Outside) (lc : ℕ → LinkCounts) (pc : ℕ → PortCounts) whe
         next = x.next;
         then = x.then;
       }
+  skip setup t tries vain less seen seen_after mail mail_after stands_for s (Ok Noteless) between cannot vain_idle weaker asks back gives = gives
   skip setup t tries vain less seen seen_after mail mail_after stands_for s (Err refused) between cannot vain_idle weaker asks back gives = λ orders.
       let d = gives orders in
       let x = d.1 in (

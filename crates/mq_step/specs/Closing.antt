@@ -14,8 +14,7 @@ use Rattle.mq_machine.specs.Shared.{Answers, without_port}
 use Rattle.mq_machine.specs.Acting.{Outside, Binder, Shares, handed_back}
 use Rattle.mq_held.specs.declared.held.PortSeat.{PortSeat}
 use Rattle.mq_held.specs.Seats.{IsSeatOf, HasNoSeat}
-use Rattle.mq_step.specs.declared.stepped.Stepped.{Stepped}
-use Rattle.mq_step.specs.declared.stepped.Stepped.TheVariants.{Quiet, Did, Ended}
+use Rattle.mq_step.specs.Notes.{SteppedWith, Quiet, Did, Ended, Noteless}
 use Rattle.mq_step.specs.Sights.{Found, filled_port}
 
 -- the book closed this tunnel, and it stands for a connection without its port, on any link, whatever the other ports hold
@@ -29,10 +28,11 @@ pub record Closed (seen seen_after : Seen) (mail mail_after : Inboxes) (orders :
   pub stands_for : (link : Link) (o : Outside) (found : Found) → stands (record { conn = conn; link = link; ports = without_port tunnel (map (filled_port o found) s.ports) })
 
 -- To close a tunnel takes no memory, and waits for nothing.
-abbrev pub CloseGives : Seen → Seen → (mail mail_after : Inboxes) → (Held → Type 0) → ℕ → Held → Result Stepped NoMemory → Type 0
+abbrev pub CloseGives : Seen → Seen → (mail mail_after : Inboxes) → (Held → Type 0) → ℕ → Held → Result SteppedWith NoMemory → Type 0
 CloseGives seen seen_after mail mail_after stands tunnel s (Ok (Did said)) = (orders : Orders) → Closed seen seen_after mail mail_after orders stands tunnel s said
 CloseGives seen seen_after mail mail_after stands tunnel s (Ok Quiet) = ⊥
 CloseGives seen seen_after mail mail_after stands tunnel s (Ok (Ended said)) = ⊥
+CloseGives seen seen_after mail mail_after stands tunnel s (Ok Noteless) = ⊥
 CloseGives seen seen_after mail mail_after stands tunnel s (Err refused) = ⊥
 
 -- the port of the tunnel's seat was handed back, with what it failed

@@ -12,8 +12,7 @@ use Rattle.mq_machine.specs.Steps.{can_read, framed, starved}
 use Rattle.mq_machine.specs.Turn.{Try, Act, Frame, Write, Read, Receive, can_try, TryNext}
 use Rattle.mq_machine.specs.Silent.{Reached, Leaves, Heard, may_starve}
 use Rattle.mq_machine.specs.Acting.{Outside, Rose, WantWaited, BindFits, Shares}
-use Rattle.mq_step.specs.declared.stepped.Stepped.{Stepped}
-use Rattle.mq_step.specs.declared.stepped.Stepped.TheVariants.{Quiet, Did, Ended}
+use Rattle.mq_step.specs.Notes.{SteppedWith, Quiet, Did, Ended, Noteless}
 use Rattle.mq_step.specs.Wanted.{SendsWait, with_prepared}
 use Rattle.mq_step.specs.Sights.{Found, idle}
 use Rattle.mq_step.specs.Whole.{filled, IsAsTold, FaultsFit, Grows, StaysTold}
@@ -111,12 +110,13 @@ abbrev pub StandsAsTold : Outside → (Held → Type 0) → Held → Type 0
 StandsAsTold new stands t = stands t × IsAsTold new t
 
 -- What the tries of a connection give, by what stands behind them.
-abbrev pub Gives : Setup → Tries → InVain → Outside → Outside → Seen → Seen → (mail mail_after : Inboxes) → (Held → Type 0) → Held → Result Stepped NoMemory → Type 0
+abbrev pub Gives : Setup → Tries → InVain → Outside → Outside → Seen → Seen → (mail mail_after : Inboxes) → (Held → Type 0) → Held → Result SteppedWith NoMemory → Type 0
 Gives setup tries vain old new seen seen_after mail mail_after stands s (Ok Quiet) = Waited tries old new seen seen_after mail mail_after s × stands s
 Gives setup tries vain old new seen seen_after mail mail_after stands s (Ok (Did note)) = (orders : Orders)
     → (t : Held) × Turned setup tries vain old new seen seen_after mail mail_after orders s note (Some t) × StandsAsTold new stands t
 Gives setup tries vain old new seen seen_after mail mail_after stands s (Ok (Ended note)) = (orders : Orders)
     → Turned setup tries vain old new seen seen_after mail mail_after orders s note None
+Gives setup tries vain old new seen seen_after mail mail_after stands s (Ok Noteless) = ⊥
 Gives setup tries vain old new seen seen_after mail mail_after stands s (Err refused) = (orders : Orders)
     → (t : Held) × Starved tries vain old new seen seen_after mail mail_after orders s t × StandsAsTold new stands t
 

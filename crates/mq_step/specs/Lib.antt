@@ -1,5 +1,6 @@
 pub mod Holds
 pub mod Sights
+pub mod Notes
 pub mod Wanted
 pub mod Whole
 pub mod Gives

@@ -12,8 +12,7 @@ use Rattle.mq_machine.specs.Silent.{Heard, may_starve}
 use Rattle.mq_machine.specs.Steps.{starved}
 use Rattle.mq_machine.specs.Turn.{Act, can_try, ActNext}
 use Rattle.mq_machine.specs.Acting.{Outside, Binder, Binds, WantWaited, BindFits, PortsTold, Shares, prepared}
-use Rattle.mq_step.specs.declared.stepped.Stepped.{Stepped}
-use Rattle.mq_step.specs.declared.stepped.Stepped.TheVariants.{Quiet, Did, Ended}
+use Rattle.mq_step.specs.Notes.{SteppedWith, Quiet, Did, Ended, Noteless}
 use Rattle.mq_step.specs.Sights.{Found, filled_port, idle, PortsFit, PortGrows}
 
 -- the port of a tunnel that opened holds what the outside tells of it
@@ -87,11 +86,12 @@ pub record WantStarves (old new : Outside) (seen seen_after : Seen) (mail mail_a
   pub binds : BindFits old new answer
   pub then : t ≡ record (ported old found s) { conn = record (starved s.conn) { tunnels = tunnels } }
 
-abbrev pub ActGives : Outside → Outside → Seen → Seen → (mail mail_after : Inboxes) → (Held → Type 0) → Held → Result Stepped NoMemory → Type 0
+abbrev pub ActGives : Outside → Outside → Seen → Seen → (mail mail_after : Inboxes) → (Held → Type 0) → Held → Result SteppedWith NoMemory → Type 0
 ActGives old new seen seen_after mail mail_after stands s (Ok Quiet) = WantWaits old new seen seen_after mail mail_after s × stands s
 ActGives old new seen seen_after mail mail_after stands s (Ok (Did note)) =
     (orders : Orders) → (t : Held) × WantDone old new seen seen_after mail mail_after orders s note (Some t) × stands t × PortsTold new t.ports
 ActGives old new seen seen_after mail mail_after stands s (Ok (Ended note)) =
     (orders : Orders) → WantDone old new seen seen_after mail mail_after orders s note None
+ActGives old new seen seen_after mail mail_after stands s (Ok Noteless) = ⊥
 ActGives old new seen seen_after mail mail_after stands s (Err refused) =
     (orders : Orders) → (t : Held) × WantStarves old new seen seen_after mail mail_after orders s t × stands t × PortsTold new t.ports

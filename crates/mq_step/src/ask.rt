@@ -2,7 +2,6 @@
 ghost use Rattle.std.specs.Prelude.{◌≡◌, ◌≢◌, ℕ, MatchOption, Option, None, IfOk};
 ghost use Rattle.slab.specs.Slab.{Updates};
 ghost use Rattle.mq_talk.specs.declared.book.Call.TheVariants.{Close};
-ghost use Rattle.mq_talk.specs.declared.note.Note.{Note as Said};
 ghost use Rattle.mq_talk.specs.Mails.{Inboxes};
 ghost use Rattle.mq_talk.specs.Offices.{IsSound};
 ghost use Rattle.mq_machine.specs.Acting.{Outside, binder};
@@ -12,6 +11,7 @@ ghost use Rattle.mq_iptun.specs.Acts.{MayAsk};
 ghost use Rattle.mq_ports.specs.Tables.{IsBalanced};
 ghost use Rattle.mq_held.specs.Answers.{IsPlain};
 ghost use Rattle.mq_step.specs.Holds.{HasInboxes, IsHeld, IsKnown, KeepsOthers, HasRoom, Seats, SeatsApart};
+ghost use Rattle.mq_step.specs.Notes.{stepped_with};
 ghost use Rattle.mq_step.specs.Sights.{SeesTable};
 ghost use Rattle.mq_step.specs.Wanted.{ActGives};
 ghost use Rattle.mq_step.specs.Closing.{CloseGives, HandsBack, Retires};
@@ -20,7 +20,7 @@ use crate::stepped::Stepped;
 use mq_held::Held;
 use mq_outside::Ports;
 use mq_ports::PortTable;
-use mq_talk::{Call, Office};
+use mq_talk::{Call, Note, Office};
 use mq_wire::NoMemory;
 
 /// The port that is bound is that of the tunnel that opened. Where none did, it is handed back.
@@ -44,6 +44,7 @@ fn open<L, P: Ports, O: Office>(
     call: Call,
     table: &mut PortTable<P>,
     office: &mut O,
+    told: &mut Option<Note>,
 ) -> Result<Stepped, NoMemory>
     requires known { (s : machine.Held) × IsHeld P.P.most table.old.table held.old s × IsKnown (O.seen office.old) (O.seen office.old).actor s × (want_of s.conn ≡ Ask call) }
     requires opens { (tunnel : ℕ) → call ≢ Close tunnel }
@@ -52,11 +53,11 @@ fn open<L, P: Ports, O: Office>(
         → SeesTable P.P.holds P.P.counts (binder P.holds P.faults table.new.ports) table.new.table held.new.ports.items n
         → (s : machine.Held) → IsHeld P.P.most table.old.table held.old s → want_of s.conn ≡ Ask call
         → (count : ℕ) (mail : Inboxes) → HasInboxes (O.seen office.old) count mail
-        → ActGives o n (O.seen office.old) (O.seen office.new) mail mail (IsHeld P.P.most table.new.table held.new) s result }
+        → ActGives o n (O.seen office.old) (O.seen office.new) mail mail (IsHeld P.P.most table.new.table held.new) s (stepped_with result told.new) }
     ensures rest { held.new ≡ record held.old { conn = held.new.conn; ports = held.new.ports; bound = held.new.bound } }
     ensures stays { IfOk result (λ stepped. stepped ≡ Stepped.Quiet → held.new.ports.items ≡ held.old.ports.items) }
     ensures apart { SeatsApart held.new.ports.items }
-    ensures ends { IfOk result (λ stepped. (said : Said) → stepped ≡ Stepped.Ended said → held.new.ports.items ≡ held.old.ports.items) }
+    ensures ends { IfOk result (λ stepped. stepped ≡ Stepped.Ended → held.new.ports.items ≡ held.old.ports.items) }
     ensures calm { IfOk result (λ stepped. stepped ≡ Stepped.Quiet → (O.seen office.new ≡ O.seen office.old) × (binder P.holds P.faults table.new.ports ≡ binder P.holds P.faults table.old.ports)) }
     ensures actor { (O.seen office.new).actor ≡ (O.seen office.old).actor }
     ensures sound { IsSound (O.seen office.old) → IsSound (O.seen office.new) }
@@ -66,7 +67,8 @@ fn open<L, P: Ports, O: Office>(
     match held.ask(call, office) {
         Ok(heard) => {
             seat(held, heard.opened, table);
-            Ok(Stepped::Did(heard.note))
+            *told = Some(heard.note);
+            Ok(Stepped::Did)
         }
         Err(refused) => {
             held.retire_bound(table);
@@ -81,22 +83,23 @@ fn close<L, P: Ports, O: Office>(
     tunnel: u32,
     table: &mut PortTable<P>,
     office: &mut O,
+    told: &mut Option<Note>,
 ) -> Result<Stepped, NoMemory>
     requires known { (s : machine.Held) × IsHeld P.P.most table.old.table held.old s × IsKnown (O.seen office.old) (O.seen office.old).actor s × (want_of s.conn ≡ Ask (Close tunnel)) }
     ensures gives { (o n : Outside) → SeesTable P.P.holds P.P.counts (binder P.holds P.faults table.old.ports) table.old.table held.old.ports.items o
         → SeesTable P.P.holds P.P.counts (binder P.holds P.faults table.new.ports) table.new.table held.new.ports.items n
         → (s : machine.Held) → IsHeld P.P.most table.old.table held.old s → want_of s.conn ≡ Ask (Close tunnel)
         → (count : ℕ) (mail : Inboxes) → HasInboxes (O.seen office.old) count mail
-        → ActGives o n (O.seen office.old) (O.seen office.new) mail mail (IsHeld P.P.most table.new.table held.new) s result }
+        → ActGives o n (O.seen office.old) (O.seen office.new) mail mail (IsHeld P.P.most table.new.table held.new) s (stepped_with result told.new) }
     ensures closes { (s : machine.Held) → IsHeld P.P.most table.old.table held.old s → want_of s.conn ≡ Ask (Close tunnel)
         → (count : ℕ) (mail : Inboxes) → HasInboxes (O.seen office.old) count mail
-        → CloseGives (O.seen office.old) (O.seen office.new) mail mail (IsHeld P.P.most table.new.table held.new) tunnel s result
+        → CloseGives (O.seen office.old) (O.seen office.new) mail mail (IsHeld P.P.most table.new.table held.new) tunnel s (stepped_with result told.new)
         × HandsBack P.P.counts table.old.table held.old.ports.items tunnel (binder P.holds P.faults table.old.ports) (binder P.holds P.faults table.new.ports)
         × Retires table.old.table table.new.table held.old.ports.items held.new.ports.items tunnel }
     ensures rest { held.new ≡ record held.old { conn = held.new.conn; ports = held.new.ports } }
     ensures stays { IfOk result (λ stepped. stepped ≡ Stepped.Quiet → held.new.ports.items ≡ held.old.ports.items) }
     ensures apart { SeatsApart held.new.ports.items }
-    ensures ends { IfOk result (λ stepped. (said : Said) → stepped ≡ Stepped.Ended said → held.new.ports.items ≡ held.old.ports.items) }
+    ensures ends { IfOk result (λ stepped. stepped ≡ Stepped.Ended → held.new.ports.items ≡ held.old.ports.items) }
     ensures calm { IfOk result (λ stepped. stepped ≡ Stepped.Quiet → (O.seen office.new ≡ O.seen office.old) × (binder P.holds P.faults table.new.ports ≡ binder P.holds P.faults table.old.ports)) }
     ensures actor { (O.seen office.new).actor ≡ (O.seen office.old).actor }
     ensures sound { IsSound (O.seen office.old) → IsSound (O.seen office.new) }
@@ -105,7 +108,8 @@ fn close<L, P: Ports, O: Office>(
 {
     let heard = held.ask(Call::Close { tunnel }, office)?;
     held.retire(tunnel, table);
-    Ok(Stepped::Did(heard.note))
+    *told = Some(heard.note);
+    Ok(Stepped::Did)
 }
 
 /// Asks the book what it wants to ask: that a tunnel opens or closes, or for addresses or ways of one.
@@ -115,6 +119,7 @@ pub fn ask<L, P: Ports, O: Office>(
     call: Call,
     table: &mut PortTable<P>,
     office: &mut O,
+    told: &mut Option<Note>,
 ) -> Result<Stepped, NoMemory>
     requires known { (s : machine.Held) × IsHeld P.P.most table.old.table held.old s × IsKnown (O.seen office.old) (O.seen office.old).actor s × (want_of s.conn ≡ Ask call) }
     requires may { MayAsk call }
@@ -122,16 +127,16 @@ pub fn ask<L, P: Ports, O: Office>(
         → SeesTable P.P.holds P.P.counts (binder P.holds P.faults table.new.ports) table.new.table held.new.ports.items n
         → (s : machine.Held) → IsHeld P.P.most table.old.table held.old s → want_of s.conn ≡ Ask call
         → (count : ℕ) (mail : Inboxes) → HasInboxes (O.seen office.old) count mail
-        → ActGives o n (O.seen office.old) (O.seen office.new) mail mail (IsHeld P.P.most table.new.table held.new) s result }
+        → ActGives o n (O.seen office.old) (O.seen office.new) mail mail (IsHeld P.P.most table.new.table held.new) s (stepped_with result told.new) }
     ensures closes { (s : machine.Held) → IsHeld P.P.most table.old.table held.old s → want_of s.conn ≡ Ask call → (tunnel : ℕ) → call ≡ Close tunnel
         → (count : ℕ) (mail : Inboxes) → HasInboxes (O.seen office.old) count mail
-        → CloseGives (O.seen office.old) (O.seen office.new) mail mail (IsHeld P.P.most table.new.table held.new) tunnel s result
+        → CloseGives (O.seen office.old) (O.seen office.new) mail mail (IsHeld P.P.most table.new.table held.new) tunnel s (stepped_with result told.new)
         × HandsBack P.P.counts table.old.table held.old.ports.items tunnel (binder P.holds P.faults table.old.ports) (binder P.holds P.faults table.new.ports)
         × Retires table.old.table table.new.table held.old.ports.items held.new.ports.items tunnel }
     ensures rest { held.new ≡ record held.old { conn = held.new.conn; ports = held.new.ports; bound = held.new.bound } }
     ensures stays { IfOk result (λ stepped. stepped ≡ Stepped.Quiet → held.new.ports.items ≡ held.old.ports.items) }
     ensures apart { SeatsApart held.new.ports.items }
-    ensures ends { IfOk result (λ stepped. (said : Said) → stepped ≡ Stepped.Ended said → held.new.ports.items ≡ held.old.ports.items) }
+    ensures ends { IfOk result (λ stepped. stepped ≡ Stepped.Ended → held.new.ports.items ≡ held.old.ports.items) }
     ensures calm { IfOk result (λ stepped. stepped ≡ Stepped.Quiet → (O.seen office.new ≡ O.seen office.old) × (binder P.holds P.faults table.new.ports ≡ binder P.holds P.faults table.old.ports)) }
     ensures actor { (O.seen office.new).actor ≡ (O.seen office.old).actor }
     ensures sound { IsSound (O.seen office.old) → IsSound (O.seen office.new) }
@@ -139,15 +144,17 @@ pub fn ask<L, P: Ports, O: Office>(
     ensures balanced { IsBalanced P.P.place (P.past table.old.ports) table.old.table.slots → IsBalanced P.P.place (P.past table.new.ports) table.new.table.slots }
 {
     match call {
-        Call::Close { tunnel } => close(held, tunnel, table, office),
+        Call::Close { tunnel } => close(held, tunnel, table, office, told),
         Call::Assign { tunnel, asked } => {
             let note = held.tell(tunnel, Call::Assign { tunnel, asked }, office)?;
-            Ok(Stepped::Did(note))
+            *told = Some(note);
+            Ok(Stepped::Did)
         }
         Call::Advertise { tunnel, ranges } => {
             let note = held.tell(tunnel, Call::Advertise { tunnel, ranges }, office)?;
-            Ok(Stepped::Did(note))
+            *told = Some(note);
+            Ok(Stepped::Did)
         }
-        other => open(held, other, table, office),
+        other => open(held, other, table, office, told),
     }
 }

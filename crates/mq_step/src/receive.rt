@@ -1,7 +1,6 @@
 //! A connection receives on the ports of its tunnels.
 ghost use Rattle.std.specs.Prelude.{◌≡◌, ◌∷◌, ℕ, true, slice_get, [], Some, IfOk};
 ghost use Rattle.mq_machine.specs.declared.setup.Setup.{Setup};
-ghost use Rattle.mq_talk.specs.declared.note.Note.{Note as Said};
 ghost use Rattle.mq_talk.specs.Offices.{IsSound};
 ghost use Rattle.mq_machine.specs.Acting.{Outside, binder};
 ghost use Rattle.mq_machine.specs.State as machine;
@@ -11,6 +10,7 @@ ghost use Rattle.mq_ports.specs.Tables.{IsBalanced};
 ghost use Rattle.mq_held.specs.declared.held.PortSeat.{PortSeat};
 ghost use Rattle.mq_step.specs.Rooms.{HasRooms};
 ghost use Rattle.mq_step.specs.Holds.{HasInboxes, IsHeld, IsKnown, KeepsOthers, SeatsApart};
+ghost use Rattle.mq_step.specs.Notes.{stepped_with};
 ghost use Rattle.mq_step.specs.Whole.{Sees};
 ghost use Rattle.mq_step.specs.Gives.{Gives, ReadsWait, ReceivesWait, receives_of, receive_alone};
 ghost use Rattle.mq_step.specs.Vain.{AskedInVain};
@@ -21,7 +21,7 @@ use crate::want::act;
 use mq_held::{Held, ReceiveReady, Went, WriteReady};
 use mq_outside::Ports;
 use mq_ports::PortTable;
-use mq_talk::{Mail, Office};
+use mq_talk::{Mail, Note, Office};
 use mq_wire::NoMemory;
 use std::alloc::Global;
 
@@ -35,6 +35,7 @@ fn receive_at<L: WriteReady, P: Ports, O: Office, M: Mail>(
     table: &mut PortTable<P>,
     office: &mut O,
     mail: &mut M,
+    told: &mut Option<Note>,
 ) -> Result<Stepped, NoMemory>
 where
     P::P: ReceiveReady,
@@ -46,7 +47,7 @@ where
         → Sees L.holds L.counts P.P.holds P.P.counts (binder P.holds P.faults table.new.ports) table.new.table held.new n
         → (s : machine.Held) → IsHeld P.P.most table.old.table held.old s → may_wait (want_of s.conn) ≡ true
         → (setup : Setup) (seat : PortSeat) → slice_get held.old.ports.items place ≡ Some seat
-        → Gives setup (receive_alone seat.tunnel) (ReceivesWait seat.tunnel) o n (O.seen office.old) (O.seen office.new) (M.boxes mail.old) (M.boxes mail.new) (IsHeld P.P.most table.new.table held.new) s result }
+        → Gives setup (receive_alone seat.tunnel) (ReceivesWait seat.tunnel) o n (O.seen office.old) (O.seen office.new) (M.boxes mail.old) (M.boxes mail.new) (IsHeld P.P.most table.new.table held.new) s (stepped_with result told.new) }
     ensures passed { IfOk result (λ stepped. stepped ≡ Stepped.Quiet → (seat : PortSeat) → slice_get held.old.ports.items place ≡ Some seat
         → AskedInVain P.P.holds P.P.past P.P.counts table.old.table table.new.table seat) }
     ensures rest { held.new ≡ record held.old { conn = held.new.conn; ports = held.new.ports; bound = held.new.bound } }
@@ -54,7 +55,7 @@ where
     ensures stays { IfOk result (λ stepped. stepped ≡ Stepped.Quiet → held.new.ports.items ≡ held.old.ports.items) }
     ensures still { IfOk result (λ stepped. stepped ≡ Stepped.Quiet → (s : machine.Held) → IsHeld P.P.most table.old.table held.old s → may_wait (want_of s.conn) ≡ true → IsHeld P.P.most table.new.table held.new s) }
     ensures apart { SeatsApart held.new.ports.items }
-    ensures ends { IfOk result (λ stepped. (said : Said) → stepped ≡ Stepped.Ended said → held.new.ports.items ≡ held.old.ports.items) }
+    ensures ends { IfOk result (λ stepped. stepped ≡ Stepped.Ended → held.new.ports.items ≡ held.old.ports.items) }
     ensures calm { IfOk result (λ stepped. stepped ≡ Stepped.Quiet → (O.seen office.new ≡ O.seen office.old) × (binder P.holds P.faults table.new.ports ≡ binder P.holds P.faults table.old.ports) × (M.boxes mail.new ≡ M.boxes mail.old)) }
     ensures actor { (O.seen office.new).actor ≡ (O.seen office.old).actor }
     ensures sound { IsSound (O.seen office.old) → IsSound (O.seen office.new) }
@@ -66,12 +67,12 @@ where
     let Some(seat) = held.ports.get(place).copied() else {
         return Ok(Stepped::Quiet);
     };
-    match held.receive(alloc, seat, &mut rooms.datagrams, table)? {
+    match held.receive(alloc, seat, &mut rooms.datagrams, table, told)? {
         Went::Waits => Ok(Stepped::Quiet),
-        Went::Failed => act(held, pump, table, office, mail),
-        Went::Did(note) => {
+        Went::Failed => act(held, pump, table, office, mail, told),
+        Went::Did => {
             held.count(place);
-            Ok(Stepped::Did(note))
+            Ok(Stepped::Did)
         }
     }
 }
@@ -85,6 +86,7 @@ pub fn receive<L: WriteReady, P: Ports, O: Office, M: Mail>(
     table: &mut PortTable<P>,
     office: &mut O,
     mail: &mut M,
+    told: &mut Option<Note>,
 ) -> Result<Stepped, NoMemory>
 where
     P::P: ReceiveReady,
@@ -95,13 +97,13 @@ where
     ensures gives { (o n : Outside) → Sees L.holds L.counts P.P.holds P.P.counts (binder P.holds P.faults table.old.ports) table.old.table held.old o
         → Sees L.holds L.counts P.P.holds P.P.counts (binder P.holds P.faults table.new.ports) table.new.table held.new n
         → (s : machine.Held) → IsHeld P.P.most table.old.table held.old s → may_wait (want_of s.conn) ≡ true → (setup : Setup)
-        → Gives setup receives_of ReadsWait o n (O.seen office.old) (O.seen office.new) (M.boxes mail.old) (M.boxes mail.new) (IsHeld P.P.most table.new.table held.new) s result }
+        → Gives setup receives_of ReadsWait o n (O.seen office.old) (O.seen office.new) (M.boxes mail.old) (M.boxes mail.new) (IsHeld P.P.most table.new.table held.new) s (stepped_with result told.new) }
     ensures rest { held.new ≡ record held.old { conn = held.new.conn; ports = held.new.ports; bound = held.new.bound } }
     ensures rooms { HasRooms rooms.new }
     ensures stays { IfOk result (λ stepped. stepped ≡ Stepped.Quiet → held.new.ports.items ≡ held.old.ports.items) }
     ensures still { IfOk result (λ stepped. stepped ≡ Stepped.Quiet → (s : machine.Held) → IsHeld P.P.most table.old.table held.old s → may_wait (want_of s.conn) ≡ true → IsHeld P.P.most table.new.table held.new s) }
     ensures apart { SeatsApart held.new.ports.items }
-    ensures ends { IfOk result (λ stepped. (said : Said) → stepped ≡ Stepped.Ended said → held.new.ports.items ≡ held.old.ports.items) }
+    ensures ends { IfOk result (λ stepped. stepped ≡ Stepped.Ended → held.new.ports.items ≡ held.old.ports.items) }
     ensures calm { IfOk result (λ stepped. stepped ≡ Stepped.Quiet → (O.seen office.new ≡ O.seen office.old) × (binder P.holds P.faults table.new.ports ≡ binder P.holds P.faults table.old.ports) × (M.boxes mail.new ≡ M.boxes mail.old)) }
     ensures actor { (O.seen office.new).actor ≡ (O.seen office.old).actor }
     ensures sound { IsSound (O.seen office.old) → IsSound (O.seen office.new) }
@@ -111,7 +113,7 @@ where
     ensures balanced { IsBalanced P.P.place (P.past table.old.ports) table.old.table.slots → IsBalanced P.P.place (P.past table.new.ports) table.new.table.slots }
 {
     for place in 0..held.ports.len() {
-        match receive_at(alloc, held, place, pump, rooms, table, office, mail)? {
+        match receive_at(alloc, held, place, pump, rooms, table, office, mail, told)? {
             Stepped::Quiet => {}
             stepped => return Ok(stepped),
         }

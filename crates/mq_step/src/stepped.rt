@@ -1,14 +1,12 @@
 //! What a step of a connection came to.
 
-use mq_talk::Note;
-
-/// What a step of a connection came to.
-#[derive(Drop)]
+/// What a step of a connection came to. The note of what was done is in the caller's `told`.
+#[derive(Clone, Copy, Debug, PartialEq, Eq)]
 pub enum Stepped {
     /// It has nothing to do, or what it could do waits for the outside.
     Quiet,
-    /// It did this, and lives on.
-    Did(Note),
+    /// It did something, and lives on.
+    Did,
     /// It is over.
-    Ended(Note),
+    Ended,
 }

@@ -1,6 +1,5 @@
 //! One step of a connection.
 ghost use Rattle.std.specs.Prelude.{◌≡◌, true, IfOk};
-ghost use Rattle.mq_talk.specs.declared.note.Note.{Note as Said};
 ghost use Rattle.mq_talk.specs.Offices.{IsSound};
 ghost use Rattle.mq_machine.specs.Acting.{Outside, binder};
 ghost use Rattle.mq_machine.specs.State as machine;
@@ -9,6 +8,7 @@ ghost use Rattle.mq_machine.specs.Want.{want_of, may_wait};
 ghost use Rattle.mq_ports.specs.Tables.{IsBalanced};
 ghost use Rattle.mq_step.specs.Rooms.{HasRooms};
 ghost use Rattle.mq_step.specs.Holds.{HasInboxes, IsHeld, IsKnown, KeepsOthers, SeatsApart};
+ghost use Rattle.mq_step.specs.Notes.{stepped_with};
 ghost use Rattle.mq_step.specs.Whole.{Sees};
 ghost use Rattle.mq_step.specs.Gives.{Gives, Anything, WritesWait, from_read, from_write, from_frame};
 ghost use Rattle.mq_step.specs.Wanted.{SendsWait};
@@ -21,7 +21,7 @@ use mq_held::{Held, ReceiveReady, Went, WriteReady};
 use mq_machine::Setup;
 use mq_outside::Ports;
 use mq_ports::PortTable;
-use mq_talk::{Mail, Office};
+use mq_talk::{Mail, Note, Office};
 use mq_wire::NoMemory;
 use std::alloc::Global;
 
@@ -34,6 +34,7 @@ fn try_read<L: WriteReady, P: Ports, O: Office, M: Mail>(
     table: &mut PortTable<P>,
     office: &mut O,
     mail: &mut M,
+    told: &mut Option<Note>,
 ) -> Result<Stepped, NoMemory>
 where
     P::P: ReceiveReady,
@@ -44,13 +45,13 @@ where
     ensures gives { (o n : Outside) → Sees L.holds L.counts P.P.holds P.P.counts (binder P.holds P.faults table.old.ports) table.old.table held.old o
         → Sees L.holds L.counts P.P.holds P.P.counts (binder P.holds P.faults table.new.ports) table.new.table held.new n
         → (s : machine.Held) → IsHeld P.P.most table.old.table held.old s → may_wait (want_of s.conn) ≡ true
-        → Gives setup.now from_read WritesWait o n (O.seen office.old) (O.seen office.new) (M.boxes mail.old) (M.boxes mail.new) (IsHeld P.P.most table.new.table held.new) s result }
+        → Gives setup.now from_read WritesWait o n (O.seen office.old) (O.seen office.new) (M.boxes mail.old) (M.boxes mail.new) (IsHeld P.P.most table.new.table held.new) s (stepped_with result told.new) }
     ensures rest { held.new ≡ record held.old { conn = held.new.conn; ports = held.new.ports; bound = held.new.bound; link = held.new.link } }
     ensures rooms { HasRooms rooms.new }
     ensures stays { IfOk result (λ stepped. stepped ≡ Stepped.Quiet → held.new.ports.items ≡ held.old.ports.items) }
     ensures still { IfOk result (λ stepped. stepped ≡ Stepped.Quiet → (s : machine.Held) → IsHeld P.P.most table.old.table held.old s → may_wait (want_of s.conn) ≡ true → IsHeld P.P.most table.new.table held.new s) }
     ensures apart { SeatsApart held.new.ports.items }
-    ensures ends { IfOk result (λ stepped. (said : Said) → stepped ≡ Stepped.Ended said → held.new.ports.items ≡ held.old.ports.items) }
+    ensures ends { IfOk result (λ stepped. stepped ≡ Stepped.Ended → held.new.ports.items ≡ held.old.ports.items) }
     ensures calm { IfOk result (λ stepped. stepped ≡ Stepped.Quiet → (O.seen office.new ≡ O.seen office.old) × (binder P.holds P.faults table.new.ports ≡ binder P.holds P.faults table.old.ports) × (M.boxes mail.new ≡ M.boxes mail.old)) }
     ensures actor { (O.seen office.new).actor ≡ (O.seen office.old).actor }
     ensures sound { IsSound (O.seen office.old) → IsSound (O.seen office.new) }
@@ -59,10 +60,10 @@ where
     ensures others { KeepsOthers held.old held.new table.old.table table.new.table }
     ensures balanced { IsBalanced P.P.place (P.past table.old.ports) table.old.table.slots → IsBalanced P.P.place (P.past table.new.ports) table.new.table.slots }
 {
-    match held.read(setup, rooms.bytes.as_mut_slice())? {
-        Went::Did(note) => Ok(Stepped::Did(note)),
-        Went::Failed => act(held, setup.pump, table, office, mail),
-        Went::Waits => receive(alloc, held, setup.pump, rooms, table, office, mail),
+    match held.read(setup, rooms.bytes.as_mut_slice(), told)? {
+        Went::Did => Ok(Stepped::Did),
+        Went::Failed => act(held, setup.pump, table, office, mail, told),
+        Went::Waits => receive(alloc, held, setup.pump, rooms, table, office, mail, told),
     }
 }
 
@@ -75,6 +76,7 @@ fn try_write<L: WriteReady, P: Ports, O: Office, M: Mail>(
     table: &mut PortTable<P>,
     office: &mut O,
     mail: &mut M,
+    told: &mut Option<Note>,
 ) -> Result<Stepped, NoMemory>
 where
     P::P: ReceiveReady,
@@ -85,13 +87,13 @@ where
     ensures gives { (o n : Outside) → Sees L.holds L.counts P.P.holds P.P.counts (binder P.holds P.faults table.old.ports) table.old.table held.old o
         → Sees L.holds L.counts P.P.holds P.P.counts (binder P.holds P.faults table.new.ports) table.new.table held.new n
         → (s : machine.Held) → IsHeld P.P.most table.old.table held.old s → may_wait (want_of s.conn) ≡ true
-        → Gives setup.now from_write SendsWait o n (O.seen office.old) (O.seen office.new) (M.boxes mail.old) (M.boxes mail.new) (IsHeld P.P.most table.new.table held.new) s result }
+        → Gives setup.now from_write SendsWait o n (O.seen office.old) (O.seen office.new) (M.boxes mail.old) (M.boxes mail.new) (IsHeld P.P.most table.new.table held.new) s (stepped_with result told.new) }
     ensures rest { held.new ≡ record held.old { conn = held.new.conn; ports = held.new.ports; bound = held.new.bound; link = held.new.link } }
     ensures rooms { HasRooms rooms.new }
     ensures stays { IfOk result (λ stepped. stepped ≡ Stepped.Quiet → held.new.ports.items ≡ held.old.ports.items) }
     ensures still { IfOk result (λ stepped. stepped ≡ Stepped.Quiet → (s : machine.Held) → IsHeld P.P.most table.old.table held.old s → may_wait (want_of s.conn) ≡ true → IsHeld P.P.most table.new.table held.new s) }
     ensures apart { SeatsApart held.new.ports.items }
-    ensures ends { IfOk result (λ stepped. (said : Said) → stepped ≡ Stepped.Ended said → held.new.ports.items ≡ held.old.ports.items) }
+    ensures ends { IfOk result (λ stepped. stepped ≡ Stepped.Ended → held.new.ports.items ≡ held.old.ports.items) }
     ensures calm { IfOk result (λ stepped. stepped ≡ Stepped.Quiet → (O.seen office.new ≡ O.seen office.old) × (binder P.holds P.faults table.new.ports ≡ binder P.holds P.faults table.old.ports) × (M.boxes mail.new ≡ M.boxes mail.old)) }
     ensures actor { (O.seen office.new).actor ≡ (O.seen office.old).actor }
     ensures sound { IsSound (O.seen office.old) → IsSound (O.seen office.new) }
@@ -100,10 +102,10 @@ where
     ensures others { KeepsOthers held.old held.new table.old.table table.new.table }
     ensures balanced { IsBalanced P.P.place (P.past table.old.ports) table.old.table.slots → IsBalanced P.P.place (P.past table.new.ports) table.new.table.slots }
 {
-    match held.write(alloc)? {
-        Went::Did(note) => Ok(Stepped::Did(note)),
-        Went::Failed => act(held, setup.pump, table, office, mail),
-        Went::Waits => try_read(alloc, held, setup, rooms, table, office, mail),
+    match held.write(alloc, told)? {
+        Went::Did => Ok(Stepped::Did),
+        Went::Failed => act(held, setup.pump, table, office, mail, told),
+        Went::Waits => try_read(alloc, held, setup, rooms, table, office, mail, told),
     }
 }
 
@@ -116,6 +118,7 @@ fn try_frame<L: WriteReady, P: Ports, O: Office, M: Mail>(
     table: &mut PortTable<P>,
     office: &mut O,
     mail: &mut M,
+    told: &mut Option<Note>,
 ) -> Result<Stepped, NoMemory>
 where
     P::P: ReceiveReady,
@@ -126,13 +129,13 @@ where
     ensures gives { (o n : Outside) → Sees L.holds L.counts P.P.holds P.P.counts (binder P.holds P.faults table.old.ports) table.old.table held.old o
         → Sees L.holds L.counts P.P.holds P.P.counts (binder P.holds P.faults table.new.ports) table.new.table held.new n
         → (s : machine.Held) → IsHeld P.P.most table.old.table held.old s → may_wait (want_of s.conn) ≡ true
-        → Gives setup.now from_frame SendsWait o n (O.seen office.old) (O.seen office.new) (M.boxes mail.old) (M.boxes mail.new) (IsHeld P.P.most table.new.table held.new) s result }
+        → Gives setup.now from_frame SendsWait o n (O.seen office.old) (O.seen office.new) (M.boxes mail.old) (M.boxes mail.new) (IsHeld P.P.most table.new.table held.new) s (stepped_with result told.new) }
     ensures rest { held.new ≡ record held.old { conn = held.new.conn; ports = held.new.ports; bound = held.new.bound; link = held.new.link } }
     ensures rooms { HasRooms rooms.new }
     ensures stays { IfOk result (λ stepped. stepped ≡ Stepped.Quiet → held.new.ports.items ≡ held.old.ports.items) }
     ensures still { IfOk result (λ stepped. stepped ≡ Stepped.Quiet → (s : machine.Held) → IsHeld P.P.most table.old.table held.old s → may_wait (want_of s.conn) ≡ true → IsHeld P.P.most table.new.table held.new s) }
     ensures apart { SeatsApart held.new.ports.items }
-    ensures ends { IfOk result (λ stepped. (said : Said) → stepped ≡ Stepped.Ended said → held.new.ports.items ≡ held.old.ports.items) }
+    ensures ends { IfOk result (λ stepped. stepped ≡ Stepped.Ended → held.new.ports.items ≡ held.old.ports.items) }
     ensures calm { IfOk result (λ stepped. stepped ≡ Stepped.Quiet → (O.seen office.new ≡ O.seen office.old) × (binder P.holds P.faults table.new.ports ≡ binder P.holds P.faults table.old.ports) × (M.boxes mail.new ≡ M.boxes mail.old)) }
     ensures actor { (O.seen office.new).actor ≡ (O.seen office.old).actor }
     ensures sound { IsSound (O.seen office.old) → IsSound (O.seen office.new) }
@@ -141,15 +144,16 @@ where
     ensures others { KeepsOthers held.old held.new table.old.table table.new.table }
     ensures balanced { IsBalanced P.P.place (P.past table.old.ports) table.old.table.slots → IsBalanced P.P.place (P.past table.new.ports) table.new.table.slots }
 {
-    match held.frame()? {
-        Some(note) => Ok(Stepped::Did(note)),
-        None => try_write(alloc, held, setup, rooms, table, office, mail),
+    if held.frame(told)? {
+        return Ok(Stepped::Did);
     }
+    try_write(alloc, held, setup, rooms, table, office, mail, told)
 }
 
 /// The connection does the first of its tries that can be done: what it wants, a frame, a write, a read, a receive on each
-/// port. Where the link or a port fails, the close or the end that follows is the same step. Where memory is refused, the
-/// connection is ending. The room for a read has 16,384 bytes.
+/// port. Where one was done, its note is in `told`; behind another answer no clause says what that holds. Where the link or a
+/// port fails, the close or the end that follows is the same step. Where memory is refused, the connection is ending. The room
+/// for a read has 16,384 bytes.
 pub fn step<L: WriteReady, P: Ports, O: Office, M: Mail>(
     alloc: Global,
     held: &mut Held<L>,
@@ -158,6 +162,7 @@ pub fn step<L: WriteReady, P: Ports, O: Office, M: Mail>(
     table: &mut PortTable<P>,
     office: &mut O,
     mail: &mut M,
+    told: &mut Option<Note>,
 ) -> Result<Stepped, NoMemory>
 where
     P::P: ReceiveReady,
@@ -168,13 +173,13 @@ where
     ensures gives { (o n : Outside) → Sees L.holds L.counts P.P.holds P.P.counts (binder P.holds P.faults table.old.ports) table.old.table held.old o
         → Sees L.holds L.counts P.P.holds P.P.counts (binder P.holds P.faults table.new.ports) table.new.table held.new n
         → (s : machine.Held) → IsHeld P.P.most table.old.table held.old s
-        → Gives setup.now tries_of Anything o n (O.seen office.old) (O.seen office.new) (M.boxes mail.old) (M.boxes mail.new) (IsHeld P.P.most table.new.table held.new) s result }
+        → Gives setup.now tries_of Anything o n (O.seen office.old) (O.seen office.new) (M.boxes mail.old) (M.boxes mail.new) (IsHeld P.P.most table.new.table held.new) s (stepped_with result told.new) }
     ensures rest { held.new ≡ record held.old { conn = held.new.conn; ports = held.new.ports; bound = held.new.bound; link = held.new.link } }
     ensures rooms { HasRooms rooms.new }
     ensures stays { IfOk result (λ stepped. stepped ≡ Stepped.Quiet → held.new.ports.items ≡ held.old.ports.items) }
     ensures still { IfOk result (λ stepped. stepped ≡ Stepped.Quiet → (s : machine.Held) → IsHeld P.P.most table.old.table held.old s → IsHeld P.P.most table.new.table held.new s) }
     ensures apart { SeatsApart held.new.ports.items }
-    ensures ends { IfOk result (λ stepped. (said : Said) → stepped ≡ Stepped.Ended said → held.new.ports.items ≡ held.old.ports.items) }
+    ensures ends { IfOk result (λ stepped. stepped ≡ Stepped.Ended → held.new.ports.items ≡ held.old.ports.items) }
     ensures calm { IfOk result (λ stepped. stepped ≡ Stepped.Quiet → (O.seen office.new ≡ O.seen office.old) × (binder P.holds P.faults table.new.ports ≡ binder P.holds P.faults table.old.ports) × (M.boxes mail.new ≡ M.boxes mail.old)) }
     ensures actor { (O.seen office.new).actor ≡ (O.seen office.old).actor }
     ensures sound { IsSound (O.seen office.old) → IsSound (O.seen office.new) }
@@ -183,8 +188,8 @@ where
     ensures others { KeepsOthers held.old held.new table.old.table table.new.table }
     ensures balanced { IsBalanced P.P.place (P.past table.old.ports) table.old.table.slots → IsBalanced P.P.place (P.past table.new.ports) table.new.table.slots }
 {
-    match act(held, setup.pump, table, office, mail)? {
-        Stepped::Quiet => try_frame(alloc, held, setup, rooms, table, office, mail),
+    match act(held, setup.pump, table, office, mail, told)? {
+        Stepped::Quiet => try_frame(alloc, held, setup, rooms, table, office, mail, told),
         stepped => Ok(stepped),
     }
 }

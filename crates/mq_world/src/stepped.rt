@@ -17,7 +17,7 @@ pub enum Stepped {
     Refused,
 }
 
-/// What a step of an actor came to, whose note is told in room of the caller: a note moves through fewer hands so.
+/// What a step of an actor came to. Its note is in the caller's `told`.
 #[derive(Clone, Copy, Debug, PartialEq, Eq)]
 pub enum Acted {
     /// The actor took a step, of which there is a note.

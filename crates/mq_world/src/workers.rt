@@ -7,6 +7,7 @@ ghost use Rattle.mq_talk.specs.Offices.{Seen};
 ghost use Rattle.mq_machine.specs.State as machine;
 ghost use Rattle.mq_machine.specs.declared.event.Event.TheVariants.{Conn, Datagram, End, FailBind, FailPort, Piece, Step};
 ghost use Rattle.mq_machine.specs.Turn.{WorkerOf, has_turn};
+ghost use Rattle.mq_held.specs.Notes.{HasNote, note_with};
 ghost use Rattle.mq_play.specs.Events.{happen, is_ended, is_missing, most_links, state_of};
 ghost use Rattle.mq_play.specs.Lines.{most_payload};
 ghost use Rattle.mq_play.specs.Play.{actors_of};
@@ -298,12 +299,9 @@ impl Workers {
         if self.is_at_rest(number) {
             return Acted::Idle;
         }
-        match self.turn(number) {
-            Ok(Some(note)) => {
-                *told = Some(note);
-                Acted::Did
-            }
-            Ok(None) => {
+        match self.turn(number, told) {
+            Ok(true) => Acted::Did,
+            Ok(false) => {
                 self.look(number);
                 Acted::Idle
             }
@@ -311,11 +309,12 @@ impl Workers {
         }
     }
 
-    /// The worker of this number is asked for a step.
-    fn turn(&mut self, number: u32) -> Result<Option<Note>, NoMemory>
+    /// The worker of this number is asked for a step, whose note is put into `told`. Answers whether it had one.
+    fn turn(&mut self, number: u32, told: &mut Option<Note>) -> Result<bool, NoMemory>
         requires stands { (s : machine.State) × IsWorld self.old s }
         requires number { number < length self.old.workers.items }
-        ensures { (s : machine.State) → IsWorld self.old s → (t : machine.State) × IsWorld self.new t × ActorGives s (WorkerOf number) result t }
+        ensures gives { (s : machine.State) → IsWorld self.old s → (t : machine.State) × IsWorld self.new t × ActorGives s (WorkerOf number) (note_with result told.new) t }
+        ensures told { HasNote result told.new }
     {
         self.is_sound();
         self.office.turn_to(number);
@@ -328,6 +327,7 @@ impl Workers {
             &mut self.office,
             &mut self.mail,
             &mut self.bind_fails,
+            told,
         )
     }
 

@@ -1,4 +1,4 @@
-use Rattle.std.proofs.Common.{◌≡◌, ℕ, length, Some, sym, subst, ap, ◌∙◌}
+use Rattle.std.proofs.Common.{◌≡◌, ℕ, length, sym, subst, ap, ◌∙◌}
 use Rattle.mq_outside.specs.Ports.{empty_port}
 use Rattle.mq_book.specs.Journal.{Journal}
 use Rattle.mq_machine.specs.State as machine

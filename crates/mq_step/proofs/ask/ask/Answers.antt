@@ -13,6 +13,7 @@ use Rattle.mq_step.proofs.Cores.{same_actor}
 use Rattle.mq_step.proofs.Filling.{none_changed}
 use Rattle.mq_step.proofs.Telling.{tell_fails, tells, told_none}
 use Rattle.mq_step.proofs.Wanting.{mailed}
+use Rattle.mq_step.specs.Notes.{stepped_with}
 use Rattle.mq_step.proofs.ask.ask.Goals as goal
 
 pub returns-in-Close-clause-gives : goal.returns-in-Close-clause-gives
@@ -26,7 +27,7 @@ returns-in-Close-clause-closes g c = λ s held want tunnel is count mail has.
     let new = c.close.new.held in
     let table = c.args.table.now in
     let after = c.close.new.table in
-    let P : ℕ → Type 0 = λ k. CloseGives (g.O.Office.seen c.args.office.now) (g.O.Office.seen c.close.new.office) mail mail (IsHeld g.P.P.Port.most after.table new) k s c.close.result
+    let P : ℕ → Type 0 = λ k. CloseGives (g.O.Office.seen c.args.office.now) (g.O.Office.seen c.close.new.office) mail mail (IsHeld g.P.P.Port.most after.table new) k s (stepped_with c.close.result c.close.new.told)
     × HandsBack g.P.P.Port.counts table.table old.ports.items k (binder g.P.Ports.holds g.P.Ports.faults table.ports) (binder g.P.Ports.holds g.P.Ports.faults after.ports)
     × Retires table.table after.table old.ports.items new.ports.items k in
     subst P number (c.close.ensures.closes s held (want ∙ ap Ask c.in-Close.is) count mail has)
@@ -77,7 +78,7 @@ returns-in_err-note-in-Assign-clause-gives g c = λ o n so sn s held want count 
     record { held = held; keeps = none_changed table; seats = ap (λ h. h.ports.items) rest; number = ap (λ h. h.number) rest; sees = so; sees_after = sn } in
     let mine : s.conn.actor ≡ seen.actor = same_actor old.conn s.conn k.0.conn held.conn k.1.conn ∙ k.2.actor_is in
     let gives = c.in_err-note-in-Assign.ensures.gives s.conn held.conn wanted in
-    err_gives o n seen seen_after m.mail m.mail (IsHeld g.P.P.Port.most table new) s c.from_residual.result c.from_residual.ensures.0
+    err_gives o n seen seen_after m.mail m.mail (IsHeld g.P.P.Port.most table new) s c.from_residual.result c.args.told.now c.from_residual.ensures.0
     (λ orders.
     let x = tell_fails g.P.P.Port.most g.P.P.Port.holds g.P.P.Port.counts binds binds table table old new o n s stays seen.actor seen seen_after m orders asked c.in-Assign.tunnel c.in_err-note-in-Assign.field-0.0 mine refl wanted bound refl gives in
     (x.left_is, x.starves, x.stands_for, x.told_is))
@@ -128,7 +129,7 @@ returns-in_err-note-in-Advertise-clause-gives g c = λ o n so sn s held want cou
     record { held = held; keeps = none_changed table; seats = ap (λ h. h.ports.items) rest; number = ap (λ h. h.number) rest; sees = so; sees_after = sn } in
     let mine : s.conn.actor ≡ seen.actor = same_actor old.conn s.conn k.0.conn held.conn k.1.conn ∙ k.2.actor_is in
     let gives = c.in_err-note-in-Advertise.ensures.gives s.conn held.conn wanted in
-    err_gives o n seen seen_after m.mail m.mail (IsHeld g.P.P.Port.most table new) s c.from_residual-in_err-note-in-Advertise.result c.from_residual-in_err-note-in-Advertise.ensures.0
+    err_gives o n seen seen_after m.mail m.mail (IsHeld g.P.P.Port.most table new) s c.from_residual-in_err-note-in-Advertise.result c.args.told.now c.from_residual-in_err-note-in-Advertise.ensures.0
     (λ orders.
     let x = tell_fails g.P.P.Port.most g.P.P.Port.holds g.P.P.Port.counts binds binds table table old new o n s stays seen.actor seen seen_after m orders asked c.in-Advertise.tunnel c.in_err-note-in-Advertise.field-0.0 mine refl wanted bound refl gives in
     (x.left_is, x.starves, x.stands_for, x.told_is))

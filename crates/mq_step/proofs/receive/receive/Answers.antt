@@ -6,8 +6,7 @@ use Rattle.mq_talk.specs.Offices.{Seen}
 use Rattle.mq_machine.specs.Acting.{binder}
 use Rattle.mq_held.specs.declared.held.Held.{Held as HeldBy}
 use Rattle.mq_held.specs.declared.held.PortSeat.{PortSeat}
-use Rattle.mq_step.specs.declared.stepped.Stepped.{Stepped}
-use Rattle.mq_step.specs.declared.stepped.Stepped.TheVariants.{Quiet}
+use Rattle.mq_step.specs.Notes.{SteppedWith, Quiet, stepped_by}
 use Rattle.mq_step.specs.Holds.{IsHeld}
 use Rattle.mq_step.specs.Sights.{SeesPorts}
 use Rattle.mq_step.specs.Gives.{Gives, Waited, ReceivesWait, receives_of, receive_alone}
@@ -15,6 +14,7 @@ use Rattle.mq_step.proofs.Others.{keeps_both}
 use Rattle.mq_step.proofs.Trying.{mid}
 use Rattle.mq_step.proofs.Stepping.{known_then}
 use Rattle.mq_step.proofs.Passing.{PassedTo, passed_none, passed_next, there_at, counts_now, sees_mid, seat_gives, all_waited, err_gives}
+use Rattle.mq_step.proofs.Noting.{loud_by}
 use Rattle.mq_step.proofs.receive.receive.Goals as goal
 
 pub loop-place-init : goal.loop-place-init
@@ -74,7 +74,7 @@ returns-in_err-stepped-clause-gives g c = λ o n so sn s held wait setup.
     let E : Seen → Type 0 = λ x. Gives setup (receive_alone seat.0.tunnel) (ReceivesWait seat.0.tunnel) (mid o o.link_counts pc) n x (g.O.Office.seen office) (g.M.Mail.boxes c.args.mail.now) (g.M.Mail.boxes c.receive_at.new.mail) (IsHeld most after.table new) s (Err c.in_err-stepped.field-0.0) in
     let B : Inboxes → Type 0 = λ x. Gives setup (receive_alone seat.0.tunnel) (ReceivesWait seat.0.tunnel) (mid o o.link_counts pc) n (g.O.Office.seen c.loop-place.office) (g.O.Office.seen office) x (g.M.Mail.boxes c.receive_at.new.mail) (IsHeld most after.table new) s (Err c.in_err-stepped.field-0.0) in
     let gives = subst E i.calm.0 (subst B i.calm.2 (c.in_err-stepped.ensures.gives (mid o o.link_counts pc) n sees sn s (i.still s held wait) wait setup seat.0 there)) in
-    err_gives setup o n (g.O.Office.seen c.args.office.now) (g.O.Office.seen office) (g.M.Mail.boxes c.args.mail.now) (g.M.Mail.boxes c.receive_at.new.mail) (IsHeld most after.table new) s c.in_err-stepped.field-0.0 c.from_residual.result c.from_residual.ensures.0
+    err_gives setup o n (g.O.Office.seen c.args.office.now) (g.O.Office.seen office) (g.M.Mail.boxes c.args.mail.now) (g.M.Mail.boxes c.receive_at.new.mail) (IsHeld most after.table new) s c.in_err-stepped.field-0.0 c.from_residual.result c.receive_at.new.told c.from_residual.ensures.0
     (seat_gives most holds g.P.P.Port.past counts table c.loop-place.table.table old o s c.loop-place.place held so.of_table.ports i.passed seat.0 seat.1 setup n (g.O.Office.seen c.args.office.now) (g.O.Office.seen office) (g.M.Mail.boxes c.args.mail.now) (g.M.Mail.boxes c.receive_at.new.mail)
     (IsHeld most after.table new) (Err c.in_err-stepped.field-0.0) (λ is. absurd cc) gives)
 
@@ -111,13 +111,13 @@ returns-in_default g c = record {
       let pc = counts_now most holds g.P.P.Port.past counts table c.loop-place.table.table old o s c.loop-place.place held so.of_table.ports i.passed in
       let sees = sees_mid most holds g.P.P.Port.past counts table c.loop-place.table.table old o s c.loop-place.place held so.of_table.ports i.passed g.L.Link.holds g.L.Link.counts
       (binder g.P.Ports.holds g.P.Ports.faults c.loop-place.table.ports) mid_held (ap (λ h. h.number) i.rest) (ap (λ h. h.link) i.rest) i.stays so.of_link (so.of_table.binds_are ∙ sym i.calm.1) in
-      let E : Seen → Type 0 = λ x. Gives setup (receive_alone seat.0.tunnel) (ReceivesWait seat.0.tunnel) (mid o o.link_counts pc) n x (g.O.Office.seen office) (g.M.Mail.boxes c.args.mail.now) (g.M.Mail.boxes c.receive_at.new.mail) (IsHeld most after.table new) s (Ok c.in_ok-stepped.stepped) in
-      let B : Inboxes → Type 0 = λ x. Gives setup (receive_alone seat.0.tunnel) (ReceivesWait seat.0.tunnel) (mid o o.link_counts pc) n (g.O.Office.seen c.loop-place.office) (g.O.Office.seen office) x (g.M.Mail.boxes c.receive_at.new.mail) (IsHeld most after.table new) s (Ok c.in_ok-stepped.stepped) in
+      let E : Seen → Type 0 = λ x. Gives setup (receive_alone seat.0.tunnel) (ReceivesWait seat.0.tunnel) (mid o o.link_counts pc) n x (g.O.Office.seen office) (g.M.Mail.boxes c.args.mail.now) (g.M.Mail.boxes c.receive_at.new.mail) (IsHeld most after.table new) s (Ok (stepped_by c.in_ok-stepped.stepped c.receive_at.new.told)) in
+      let B : Inboxes → Type 0 = λ x. Gives setup (receive_alone seat.0.tunnel) (ReceivesWait seat.0.tunnel) (mid o o.link_counts pc) n (g.O.Office.seen c.loop-place.office) (g.O.Office.seen office) x (g.M.Mail.boxes c.receive_at.new.mail) (IsHeld most after.table new) s (Ok (stepped_by c.in_ok-stepped.stepped c.receive_at.new.told)) in
       let gives = subst E i.calm.0 (subst B i.calm.2 (c.in_ok-stepped.ensures.gives (mid o o.link_counts pc) n sees sn s (i.still s held wait) wait setup seat.0 there)) in
       seat_gives most holds g.P.P.Port.past counts table c.loop-place.table.table old o s c.loop-place.place held so.of_table.ports i.passed seat.0 seat.1 setup n (g.O.Office.seen c.args.office.now) (g.O.Office.seen office) (g.M.Mail.boxes c.args.mail.now) (g.M.Mail.boxes c.receive_at.new.mail)
-      (IsHeld most after.table new) (Ok c.in_ok-stepped.stepped) (λ is. c.in_default.not-Quiet (same_ok c.in_ok-stepped.stepped Quiet is)) gives;
+      (IsHeld most after.table new) (Ok (stepped_by c.in_ok-stepped.stepped c.receive_at.new.told)) (λ is. loud_by c.in_ok-stepped.stepped c.receive_at.new.told c.in_default.not-Quiet (same_ok (stepped_by c.in_ok-stepped.stepped c.receive_at.new.told) Quiet is)) gives;
   rest = c.in_ok-stepped.ensures.rest ∙ ap (λ (h : HeldBy g.row.L.Denot). record h { conn = c.receive_at.new.held.conn; ports = c.receive_at.new.held.ports; bound = c.receive_at.new.held.bound }) c.loop-place.invariant.rest;
-  ends = λ said is. c.in_ok-stepped.ensures.ends said is ∙ c.loop-place.invariant.stays;
+  ends = λ is. c.in_ok-stepped.ensures.ends is ∙ c.loop-place.invariant.stays;
   rooms = c.in_ok-stepped.ensures.rooms;
   stays = λ is. absurd (c.in_default.not-Quiet is);
   still = λ is. absurd (c.in_default.not-Quiet is);
@@ -130,7 +130,7 @@ returns-in_default g c = record {
   inboxes = c.in_ok-stepped.ensures.inboxes;
   balanced = λ is. c.in_ok-stepped.ensures.balanced (c.loop-place.invariant.balanced is);
 } where
-  same_ok : (a b : Stepped) → ◌≡◌ {A = Result Stepped NoMemory} (Ok a) (Ok b) → a ≡ b
+  same_ok : (a b : SteppedWith) → ◌≡◌ {A = Result SteppedWith NoMemory} (Ok a) (Ok b) → a ≡ b
   same_ok a b is = cc
 
 pub loop-place-preserved : goal.loop-place-preserved

@@ -24,6 +24,11 @@ use Rattle.mq_step.proofs.Receiving.{Live, live, link_stays, copied_at, same_sea
 use Rattle.mq_step.proofs.Received.{Behind, behind_of, behind_call, sees_counted, came, received_waits, waits_stand, received_starves, starved_stands, starved_told, sunk_then, received_left, received_done, received_stands, received_told, place_is}
 use Rattle.mq_step.proofs.PortFailing.{failing, failing_port, failed_left, failing_known, blind, blind_sees, wants_close, failing_stands, failed_done, failed_told, closes_give, starved_gives}
 use Rattle.mq_step.proofs.Still.{Still, closes_still}
+use Rattle.mq_step.proofs.Noting.{did_told}
+use Rattle.mq_step.specs.Notes.{stepped_by, stepped_with}
+use Rattle.mq_step.specs.declared.stepped.Stepped.TheVariants as stepped
+use Rattle.mq_held.specs.Notes.{WentWith, went_by}
+use Rattle.mq_talk.specs.declared.note.Note.{Note}
 use Rattle.mq_step.proofs.receive.receive_at.Goals as goal
 
 pub returns-in-Waits-clause-gives : goal.returns-in-Waits-clause-gives
@@ -43,7 +48,7 @@ returns-in-Waits-clause-gives g c = λ o n so sn s held wait setup seat at.
     let e = c.in_ok-receive.ensures in
     let rest = e.rest in
     let x : Live most holds counts table old o s mine = live most holds counts table old o s mine c.args.place held wait so.of_table.ports here in
-    let G : Went → Type 0 = λ w. (now : g.row.P-P.Denot) × (get after mine.key ≡ Some now) × ReceiveGives (receive_calls holds past counts x.is.port now) (IsConn mid.conn) s.conn x.t mine.received (Ok w) in
+    let G : Went → Type 0 = λ w. (now : g.row.P-P.Denot) × (get after mine.key ≡ Some now) × ReceiveGives (receive_calls holds past counts x.is.port now) (IsConn mid.conn) s.conn x.t mine.received (Ok (went_by w c.receive.new.told)) in
     let r = subst G c.in-Waits.is (e.gives s.conn held.conn x.t (tunnel_is most holds counts table old o s mine x) x.id x.is.port x.is.at) in
     let kept = e.kept x.is.port x.is.at in
     let same : kept.0 ≡ r.0 = same_port after mine.key kept.0 r.0 kept.1 r.1 in
@@ -79,7 +84,7 @@ returns-in-Waits-clause-still g c = λ quiet s held wait.
     let x : Live most holds counts table old blind s mine =
     live most holds counts table old blind s mine c.args.place held wait (blind_sees table old.ports.items) here in
     let G : Went → Type 0 = λ w. (now : g.row.P-P.Denot) × (get after mine.key ≡ Some now)
-    × ReceiveGives (receive_calls g.P.P.Port.holds past g.P.P.Port.counts x.is.port now) (IsConn mid.conn) s.conn x.t mine.received (Ok w) in
+    × ReceiveGives (receive_calls g.P.P.Port.holds past g.P.P.Port.counts x.is.port now) (IsConn mid.conn) s.conn x.t mine.received (Ok (went_by w c.receive.new.told)) in
     let r = subst G c.in-Waits.is (e.gives s.conn held.conn x.t (tunnel_is most holds counts table old blind s mine x) x.id x.is.port x.is.at) in
     let kept = e.kept x.is.port x.is.at in
     let same : kept.0 ≡ r.0 = same_port after mine.key kept.0 r.0 kept.1 r.1 in
@@ -114,7 +119,7 @@ returns-in_err-receive-clause-gives g c = λ o n so sn s held wait setup seat at
     (subst V (ap (λ h. h.ports.items) rest) sn.of_table.ports) (ap (λ h. h.number) rest) (ap (λ h. h.link) rest) (ap (λ h. h.bound) rest) so.of_link sn.of_link in
     let seen = g.O.Office.seen c.args.office.now in
     let m = mailed (g.O.Office.seen c.args.office.now) (g.M.Mail.count c.args.mail.now) (g.M.Mail.boxes c.args.mail.now) c.requires.inboxes in
-    let P : PortSeat → Type 0 = λ y. Gives setup (receive_alone y.tunnel) (ReceivesWait y.tunnel) o n seen seen m.mail m.mail (IsHeld most after mid) s c.from_residual.result in
+    let P : PortSeat → Type 0 = λ y. Gives setup (receive_alone y.tunnel) (ReceivesWait y.tunnel) o n seen seen m.mail m.mail (IsHeld most after mid) s (stepped_with c.from_residual.result c.receive.new.told) in
     let starves : (orders : machine.Orders) → (t : machine.Held) × Starved (receive_alone mine.tunnel) (ReceivesWait mine.tunnel) o n seen seen m.mail m.mail orders s t × StandsAsTold n (IsHeld most after mid) t =
     λ orders. (
       sunk_then o s mine.tunnel,
@@ -126,10 +131,10 @@ returns-in_err-receive-clause-gives g c = λ o n so sn s held wait setup seat at
       ),
     ) in
     subst P (same_seat old.ports.items c.args.place mine seat here at)
-    (starved_gives setup mine.tunnel o n seen seen m.mail m.mail (IsHeld most after mid) s c.from_residual.result c.from_residual.ensures.0 starves)
+    (starved_gives setup mine.tunnel o n seen seen m.mail m.mail (IsHeld most after mid) s c.from_residual.result c.receive.new.told c.from_residual.ensures.0 starves)
 
 pub returns-in-Did-clause-gives : goal.returns-in-Did-clause-gives
-returns-in-Did-clause-gives g c = λ o n so sn s held wait setup seat at orders.
+returns-in-Did-clause-gives g c = λ o n so sn s held wait setup seat at.
     let m = mailed (g.O.Office.seen c.args.office.now) (g.M.Mail.count c.args.mail.now) (g.M.Mail.boxes c.args.mail.now) c.requires.inboxes in
     let old = c.args.held.now in
     let table = c.args.table.now.table in
@@ -146,8 +151,11 @@ returns-in-Did-clause-gives g c = λ o n so sn s held wait setup seat at orders.
     let e = c.in_ok-receive.ensures in
     let rest = e.rest in
     let x : Live most holds counts table old o s mine = live most holds counts table old o s mine c.args.place held wait so.of_table.ports here in
-    let G : Went → Type 0 = λ w. (now : g.row.P-P.Denot) × (get after mine.key ≡ Some now) × ReceiveGives (receive_calls holds past counts x.is.port now) (IsConn mid.conn) s.conn x.t mine.received (Ok w) in
-    let r = subst G c.in-Did.is (e.gives s.conn held.conn x.t (tunnel_is most holds counts table old o s mine x) x.id x.is.port x.is.at) in
+    let G : Went → Type 0 = λ w. (now : g.row.P-P.Denot) × (get after mine.key ≡ Some now) × ReceiveGives (receive_calls holds past counts x.is.port now) (IsConn mid.conn) s.conn x.t mine.received (Ok (went_by w c.receive.new.told)) in
+    let R : WentWith → Type 0 = λ w. (now : g.row.P-P.Denot) × (get after mine.key ≡ Some now) × ReceiveGives (receive_calls holds past counts x.is.port now) (IsConn mid.conn) s.conn x.t mine.received (Ok w) in
+    let told = did_told R (λ z. z.2) c.receive.new.told (subst G c.in-Did.is (e.gives s.conn held.conn x.t (tunnel_is most holds counts table old o s mine x) x.id x.is.port x.is.at)) in
+    let note = told.0 in
+    let r = told.2 in
     let kept = e.kept x.is.port x.is.at in
     let same : kept.0 ≡ r.0 = same_port after mine.key kept.0 r.0 kept.1 r.1 in
     let limit : most r.0 ≡ most x.is.port = ap most (sym same) ∙ kept.2 in
@@ -170,16 +178,18 @@ returns-in-Did-clause-gives g c = λ o n so sn s held wait setup seat at orders.
     let takes = r.2.1 in
     let C : Core → Type 0 = λ y. IsConn y (came s x.t mine.received datagram).1 in
     let conn = subst C (sym (ap (λ h. h.conn) done)) r.2.3 in
-    let P : PortSeat → Type 0 = λ y. (t : machine.Held) × Turned setup (receive_alone y.tunnel) (ReceivesWait y.tunnel) o n seen seen m.mail m.mail orders s c.in-Did.note (Some t) × StandsAsTold n (IsHeld most after new) t in
+    let T : Option Note → Type 0 = λ t. Gives setup (receive_alone seat.tunnel) (ReceivesWait seat.tunnel) o n seen seen m.mail m.mail (IsHeld most after new) s (Ok (stepped_by stepped.Did t)) in
+    subst T (sym told.1) (λ orders.
+    let P : PortSeat → Type 0 = λ y. (t : machine.Held) × Turned setup (receive_alone y.tunnel) (ReceivesWait y.tunnel) o n seen seen m.mail m.mail orders s note (Some t) × StandsAsTold n (IsHeld most after new) t in
     subst P (same_seat old.ports.items c.args.place mine seat here at) (
       received_left o s mine x.t datagram,
-      received_done most holds past counts table after old new o n s mine x b setup seen m orders datagram c.in-Did.note takes r.2.2
+      received_done most holds past counts table after old new o n s mine x b setup seen m orders datagram note takes r.2.2
           (ap (λ (b : Binder). b.holds) (sn.of_table.binds_are ∙ ap (binder g.P.Ports.holds g.P.Ports.faults) e.ports ∙ sym so.of_table.binds_are)),
       (
         received_stands most holds past counts table after old new o n s mine x b datagram at_place conn,
         received_told most holds past counts table after old new o n s mine x b datagram takes,
       ),
-    )
+    ))
 
 pub returns-in-Did-clause-others : goal.returns-in-Did-clause-others
 returns-in-Did-clause-others g c = λ key port at other.
@@ -234,7 +244,7 @@ act-requires g c =
     let e = c.in_ok-receive.ensures in
     let rest = e.rest in
     let x : Live most holds counts table old blind s mine = live most holds counts table old blind s mine c.args.place held k.3 (blind_sees table old.ports.items) here in
-    let G : Went → Type 0 = λ w. (now : g.row.P-P.Denot) × (get after mine.key ≡ Some now) × ReceiveGives (receive_calls g.P.P.Port.holds past g.P.P.Port.counts x.is.port now) (IsConn mid.conn) s.conn x.t mine.received (Ok w) in
+    let G : Went → Type 0 = λ w. (now : g.row.P-P.Denot) × (get after mine.key ≡ Some now) × ReceiveGives (receive_calls g.P.P.Port.holds past g.P.P.Port.counts x.is.port now) (IsConn mid.conn) s.conn x.t mine.received (Ok (went_by w c.receive.new.told)) in
     let r = subst G c.in-Failed.is (e.gives s.conn held.conn x.t (tunnel_is most holds counts table old blind s mine x) x.id x.is.port x.is.at) in
     let kept = e.kept x.is.port x.is.at in
     let same : kept.0 ≡ r.0 = same_port after mine.key kept.0 r.0 kept.1 r.1 in
@@ -284,7 +294,7 @@ returns-in-Failed-clause-gives g c = λ o n so sn s held wait setup seat at.
     let e = c.in_ok-receive.ensures in
     let rest = e.rest in
     let x : Live most holds counts table old o s mine = live most holds counts table old o s mine c.args.place held wait so.of_table.ports here in
-    let G : Went → Type 0 = λ w. (now : g.row.P-P.Denot) × (get after mine.key ≡ Some now) × ReceiveGives (receive_calls holds past counts x.is.port now) (IsConn mid.conn) s.conn x.t mine.received (Ok w) in
+    let G : Went → Type 0 = λ w. (now : g.row.P-P.Denot) × (get after mine.key ≡ Some now) × ReceiveGives (receive_calls holds past counts x.is.port now) (IsConn mid.conn) s.conn x.t mine.received (Ok (went_by w c.receive.new.told)) in
     let r = subst G c.in-Failed.is (e.gives s.conn held.conn x.t (tunnel_is most holds counts table old o s mine x) x.id x.is.port x.is.at) in
     let kept = e.kept x.is.port x.is.at in
     let same : kept.0 ≡ r.0 = same_port after mine.key kept.0 r.0 kept.1 r.1 in
@@ -316,9 +326,9 @@ returns-in-Failed-clause-gives g c = λ o n so sn s held wait setup seat at.
     let mail = g.M.Mail.boxes c.args.mail.now in
     let mail_after = g.M.Mail.boxes c.act.new.mail in
     let stand_for = IsHeld most last new in
-    let P : PortSeat → Type 0 = λ y. Gives setup (receive_alone y.tunnel) (ReceivesWait y.tunnel) o n seen seen_after mail mail_after stand_for s c.act.result in
+    let P : PortSeat → Type 0 = λ y. Gives setup (receive_alone y.tunnel) (ReceivesWait y.tunnel) o n seen seen_after mail mail_after stand_for s (stepped_with c.act.result c.act.new.told) in
     subst P (same_seat old.ports.items c.args.place mine seat here at)
-    (closes_give setup mine.tunnel o n seen seen_after mail mail_after stand_for s closing c.act.result closes.0
+    (closes_give setup mine.tunnel o n seen seen_after mail mail_after stand_for s closing (stepped_with c.act.result c.act.new.told) closes.0
     (λ said orders closed. (
       failed_left o s mine.tunnel closed.conn,
       failed_done most holds past counts table after old mid o s mine x n setup seen seen_after mail mail_after orders said stand_for r.2.0.fails closed fits,
@@ -351,7 +361,7 @@ returns-in-Failed-clause-still g c =
     let x : Live most holds counts table old blind s mine =
     live most holds counts table old blind s mine c.args.place held k.3 (blind_sees table old.ports.items) here in
     let G : Went → Type 0 = λ w. (now : g.row.P-P.Denot) × (get after mine.key ≡ Some now)
-    × ReceiveGives (receive_calls g.P.P.Port.holds past g.P.P.Port.counts x.is.port now) (IsConn mid.conn) s.conn x.t mine.received (Ok w) in
+    × ReceiveGives (receive_calls g.P.P.Port.holds past g.P.P.Port.counts x.is.port now) (IsConn mid.conn) s.conn x.t mine.received (Ok (went_by w c.receive.new.told)) in
     let r = subst G c.in-Failed.is (e.gives s.conn held.conn x.t (tunnel_is most holds counts table old blind s mine x) x.id x.is.port x.is.at) in
     let kept = e.kept x.is.port x.is.at in
     let same : kept.0 ≡ r.0 = same_port after mine.key kept.0 r.0 kept.1 r.1 in
@@ -360,7 +370,7 @@ returns-in-Failed-clause-still g c =
     let closing = failing s x.t in
     let stand = failing_stands most holds past counts table after old mid blind s mine x _ b (ap (λ h. h.ports.items) rest) (r.2.1 k.3) in
     let closes = c.act.ensures.closes closing stand mine.tunnel (wants_close most holds past counts table after old mid blind s mine x) in
-    closes_still (g.O.Office.seen c.args.office.now) (g.O.Office.seen c.act.new.office) (g.M.Mail.boxes c.args.mail.now) (g.M.Mail.boxes c.act.new.mail) (IsHeld most c.act.new.table.table c.act.new.held) mine.tunnel closing c.act.result
+    closes_still (g.O.Office.seen c.args.office.now) (g.O.Office.seen c.act.new.office) (g.M.Mail.boxes c.args.mail.now) (g.M.Mail.boxes c.act.new.mail) (IsHeld most c.act.new.table.table c.act.new.held) mine.tunnel closing c.act.result c.act.new.told
     (Still most table c.act.new.table.table old c.act.new.held) closes.0
 
 pub returns-in_default-clause-apart : goal.returns-in_default-clause-apart
@@ -408,7 +418,7 @@ returns-in-Waits-clause-passed g c = λ quiet seat at.
     let e = c.in_ok-receive.ensures in
     let x : Live most holds counts table old blind s mine = live most holds counts table old blind s mine c.args.place held k.3 (blind_sees table old.ports.items) here in
     let G : Went → Type 0 = λ w. (now : g.row.P-P.Denot) × (get after mine.key ≡ Some now)
-    × ReceiveGives (receive_calls g.P.P.Port.holds g.P.P.Port.past g.P.P.Port.counts x.is.port now) (IsConn mid.conn) s.conn x.t mine.received (Ok w) in
+    × ReceiveGives (receive_calls g.P.P.Port.holds g.P.P.Port.past g.P.P.Port.counts x.is.port now) (IsConn mid.conn) s.conn x.t mine.received (Ok (went_by w c.receive.new.told)) in
     let r = subst G c.in-Waits.is (e.gives s.conn held.conn x.t (tunnel_is most holds counts table old blind s mine x) x.id x.is.port x.is.at) in
     let P : PortSeat → Type 0 = λ y. AskedInVain g.P.P.Port.holds g.P.P.Port.past g.P.P.Port.counts table after y in
     subst P (same_seat old.ports.items c.args.place mine seat here at)
@@ -436,7 +446,7 @@ returns-in-Failed-clause-passed g c =
     let x : Live most holds counts table old blind s mine =
     live most holds counts table old blind s mine c.args.place held k.3 (blind_sees table old.ports.items) here in
     let G : Went → Type 0 = λ w. (now : g.row.P-P.Denot) × (get after mine.key ≡ Some now)
-    × ReceiveGives (receive_calls g.P.P.Port.holds past g.P.P.Port.counts x.is.port now) (IsConn mid.conn) s.conn x.t mine.received (Ok w) in
+    × ReceiveGives (receive_calls g.P.P.Port.holds past g.P.P.Port.counts x.is.port now) (IsConn mid.conn) s.conn x.t mine.received (Ok (went_by w c.receive.new.told)) in
     let r = subst G c.in-Failed.is (e.gives s.conn held.conn x.t (tunnel_is most holds counts table old blind s mine x) x.id x.is.port x.is.at) in
     let kept = e.kept x.is.port x.is.at in
     let same : kept.0 ≡ r.0 = same_port after mine.key kept.0 r.0 kept.1 r.1 in
@@ -445,6 +455,6 @@ returns-in-Failed-clause-passed g c =
     let closing = failing s x.t in
     let stand = failing_stands most holds past counts table after old mid blind s mine x _ b (ap (λ h. h.ports.items) rest) (r.2.1 k.3) in
     let closes = c.act.ensures.closes closing stand mine.tunnel (wants_close most holds past counts table after old mid blind s mine x) in
-    closes_still (g.O.Office.seen c.args.office.now) (g.O.Office.seen c.act.new.office) (g.M.Mail.boxes c.args.mail.now) (g.M.Mail.boxes c.act.new.mail) (IsHeld most c.act.new.table.table c.act.new.held) mine.tunnel closing c.act.result
+    closes_still (g.O.Office.seen c.args.office.now) (g.O.Office.seen c.act.new.office) (g.M.Mail.boxes c.args.mail.now) (g.M.Mail.boxes c.act.new.mail) (IsHeld most c.act.new.table.table c.act.new.held) mine.tunnel closing c.act.result c.act.new.told
     ((seat : PortSeat) → slice_get old.ports.items c.args.place ≡ Some seat
     → AskedInVain g.P.P.Port.holds g.P.P.Port.past g.P.P.Port.counts table c.act.new.table.table seat) closes.0

@@ -18,6 +18,7 @@ use Rattle.mq_step.proofs.Wanting.{mailed}
 use Rattle.mq_step.proofs.Saying.{say_some}
 use Rattle.mq_step.proofs.Standing.{same_apart, bound_none}
 use Rattle.mq_step.proofs.Binding.{Stays, held_back, sinks_alone, bind_sinks, says, quiet, ends, err_gives, bind_comes}
+use Rattle.mq_step.specs.Notes.{stepped_with}
 use Rattle.mq_step.proofs.want.answer.Goals as goal
 
 pub returns-in-Nothing-clause-gives : goal.returns-in-Nothing-clause-gives
@@ -43,7 +44,7 @@ returns-in_err-note-in-Say-clause-gives g c = λ o n so sn s held want.
     let stays : Stays g.P.P.Port.most g.P.P.Port.holds g.P.P.Port.counts binds binds table table old new o n s =
     record { held = held; keeps = none_changed table; seats = refl; number = refl; sees = so; sees_after = sn } in
     let bound = bound_none g.P.P.Port.most table old.ports.items (want_of s.conn) Say old.bound held.bound wanted in
-    err_gives o n seen seen m.mail m.mail (IsHeld g.P.P.Port.most table new) s c.from_residual.result c.from_residual.ensures.0
+    err_gives o n seen seen m.mail m.mail (IsHeld g.P.P.Port.most table new) s c.from_residual.result c.args.told.now c.from_residual.ensures.0
     (λ orders.
     let x = sinks_alone g.P.P.Port.most g.P.P.Port.holds g.P.P.Port.counts binds binds table table old new o n s stays seen m orders Say Said false wanted (λ ports. refl) refl bound
     (c.in_err-note-in-Say.ensures.answers s.conn held.conn) (refl, refl, refl) (held_back g.P.P.Port.most g.P.P.Port.holds g.P.P.Port.counts binds binds table table old new o n s stays refl) in
@@ -81,7 +82,7 @@ returns-in_err-note-in-Bind-clause-gives g c = λ o n so sn s held want.
     let e = c.in_err-note-in-Bind.ensures in
     let stays : Stays g.P.P.Port.most g.P.P.Port.holds g.P.P.Port.counts binds binds_after table after old new o n s =
     record { held = held; keeps = e.keeps none; seats = e.seats; number = ap (λ h. h.number) e.rest; sees = so; sees_after = sn } in
-    err_gives o n seen seen m.mail m.mail (IsHeld g.P.P.Port.most after new) s c.from_residual-in_err-note-in-Bind.result c.from_residual-in_err-note-in-Bind.ensures.0
+    err_gives o n seen seen m.mail m.mail (IsHeld g.P.P.Port.most after new) s c.from_residual-in_err-note-in-Bind.result c.args.told.now c.from_residual-in_err-note-in-Bind.ensures.0
     (λ orders.
     let x = bind_sinks g.P.P.Port.most g.P.P.Port.holds g.P.P.Port.counts binds binds_after table after old new o n s stays seen m orders wanted.0 goal_is wanted.1 e.fails
     (e.starves s.conn held.conn wanted.0 goal_is wanted.1) (e.refused none) in
@@ -235,5 +236,5 @@ returns-in-Ask-clause-inboxes g c =
     let sn = sight_sees g.P.P.Port.holds g.P.P.Port.counts binds_mid c.ask.new.table.table new.ports.items silent c.ask.ensures.apart in
     let mail = g.M.Mail.boxes c.args.mail.now in
     let gives = c.ask.ensures.gives o n so sn k.0 k.1 (subst W c.in-Ask.is k.3) (g.M.Mail.count c.args.mail.now) mail c.requires.inboxes in
-    let same = config_stays o n (g.O.Office.seen c.args.office.now) (g.O.Office.seen c.ask.new.office) mail mail (IsHeld g.P.P.Port.most c.ask.new.table.table new) k.0 c.ask.result gives in
+    let same = config_stays o n (g.O.Office.seen c.args.office.now) (g.O.Office.seen c.ask.new.office) mail mail (IsHeld g.P.P.Port.most c.ask.new.table.table new) k.0 (stepped_with c.ask.result c.ask.new.told) gives in
     record { count_is = c.requires.inboxes.count_is ∙ ap (λ (config : Config). config.workers + 1) (sym same); size = c.requires.inboxes.size }

@@ -34,4 +34,5 @@ returns g c =
           rest = t.rest;
         },
       );
+      told = λ did. refl;
     }
