@@ -9,6 +9,7 @@ mod laws;
 mod line;
 mod plan;
 mod sayings;
+mod setting;
 mod word;
 
 pub use laws::{
@@ -19,4 +20,5 @@ pub use laws::{
 pub use line::{Line, SettingLine};
 pub use plan::Plan;
 pub use sayings::one_saying;
+pub use setting::Setting;
 pub use word::{SettingWord, Word};

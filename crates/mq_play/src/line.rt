@@ -1,5 +1,6 @@
 //! The lines of a script.
 
+use crate::setting::Setting;
 use mq_addr::{Addr, Kind, Prefix, Range};
 use mq_machine::Event;
 use mq_policy::Rule;
@@ -36,7 +37,7 @@ pub enum Line {
     /// An empty line or a comment.
     Blank,
     /// A setting, before the first other line that isn't blank.
-    Setting(SettingLine),
+    Setting(Setting),
     /// Something happens.
     Happens(Event),
     /// Up to so many steps of this actor: a worker's number, or 4,294,967,295 for the network.

@@ -1,5 +1,5 @@
 -- What who hears a play promises.
-use Rattle.std.specs.Prelude.{◌≡◌, ℕ, List, [], Option, Some, None, Result, Ok, Err}
+use Rattle.std.specs.Prelude.{ℕ, List, [], Option, Some, None, Result, Ok, Err}
 use Rattle.mq_machine.specs.Silent.{Reached}
 use Rattle.mq_play.specs.Play.{Fate, Noted, Silent}
 use Rattle.mq_play.specs.Text.{printed, Says}

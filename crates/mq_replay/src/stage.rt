@@ -15,7 +15,7 @@ ghost use Rattle.mq_world.specs.Worlds.{IsWorld};
 
 use crate::told::Told;
 use mq_output::Stop;
-use mq_play::SettingLine;
+use mq_play::Setting;
 use mq_wire::NoMemory;
 use mq_world::World;
 use std::alloc::Global;
@@ -48,13 +48,13 @@ impl Stage {
     }
 
     /// One more setting. Behind a line that is none it is bad, and so it is where it may not stand behind those before it.
-    pub fn set(&mut self, line: SettingLine) -> Result<(), Stop>
+    pub fn set(&mut self, line: Setting) -> Result<(), Stop>
         requires { IsSpoken (said.Setting line) }
         ensures sets { (s : spec.Stage) → IsStage self.old s → SaidTo MayBeNone s (said.Setting line) [] result self.new }
         ensures silent { IsSilent result }
     {
         match self {
-            Stage::Settings(told) => match told.add(line) {
+            Stage::Settings(told) => match told.add(line.into_line()) {
                 Ok(true) => Ok(()),
                 Ok(false) => Err(Stop::BadLine),
                 Err(_) => Err(Stop::NoMemory),

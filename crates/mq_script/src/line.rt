@@ -1,6 +1,7 @@
 //! The lines of a script.
 ghost use Rattle.std.specs.Prelude.{◌≡◌, ◌⊎◌, ◌↔◌, IfOk, IsTrue};
 ghost use Rattle.mq_play.specs.declared.line.Line.{Line};
+ghost use Rattle.mq_play.specs.declared.word.Word.TheVariants as word;
 ghost use Rattle.mq_play.specs.Lines.{IsAlone, IsBlank, IsWord, Says, SaysBehind, SaysNothing};
 ghost use Rattle.mq_play.specs.Parts.{Parted};
 ghost use Rattle.mq_script.specs.Reading.{IsFound, IsParsed};
@@ -14,7 +15,7 @@ use crate::setting::parse_setting;
 use crate::steps::{parse_run, parse_step};
 use crate::word::parse_word;
 use mq_machine::Event;
-use mq_play::{Line, Word, one_saying};
+use mq_play::{Line, Setting, SettingWord, Word, one_saying};
 use mq_text::{cut, cut_once};
 use std::alloc::Global;
 
@@ -39,12 +40,22 @@ fn parse_alone(line: &[u8]) -> Option<Event>
     }
 }
 
+/// The setting that stands behind its first word and a space.
+#[inline(never)]
+fn parse_set(alloc: Global, first: SettingWord, rest: &[u8]) -> Result<Line, LineFault>
+    ensures { IsParsed (SaysBehind (word.Setting first) rest.now) result }
+{
+    let setting = parse_setting(alloc, first, rest)?;
+    let boxed = Setting::new(alloc, setting)?;
+    Ok(Line::Setting(boxed))
+}
+
 /// What stands behind a word and a space.
 fn parse_behind(alloc: Global, word: Word, rest: &[u8]) -> Result<Line, LineFault>
     ensures { IsParsed (SaysBehind word rest.now) result }
 {
     match word {
-        Word::Setting(word) => Ok(Line::Setting(parse_setting(alloc, word, rest)?)),
+        Word::Setting(word) => parse_set(alloc, word, rest),
         Word::Conn => parse_conn(rest),
         Word::Bytes => parse_bytes(alloc, rest),
         Word::Text => parse_said(alloc, rest),

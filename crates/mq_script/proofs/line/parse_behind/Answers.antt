@@ -1,19 +1,7 @@
-use Rattle.std.proofs.lemmas.Result.{err_from_is_err_and}
-use Rattle.mq_play.specs.declared.line.Line.TheVariants as line
-use Rattle.mq_play.specs.Settings.{SaysSetting}
-use Rattle.mq_script.proofs.Parts.{means_fault, means_read}
 use Rattle.mq_script.proofs.line.parse_behind.Goals as goal
 
-pub returns-in_err-parse_setting-in-Setting : goal.returns-in_err-parse_setting-in-Setting
-returns-in_err-parse_setting-in-Setting c =
-    let p = err_from_is_err_and c.from_residual.result c.from_residual.ensures.1 in
-    let word = c.in-Setting.is in
-    rw (word, p.1, p.2) (means_fault (SaysSetting c.in-Setting.word) line.Setting c.args.rest.now c.in_err-parse_setting-in-Setting.field-0.0 c.in_err-parse_setting-in-Setting.ensures)
-
-pub returns-in_ok-parse_setting-in-Setting : goal.returns-in_ok-parse_setting-in-Setting
-returns-in_ok-parse_setting-in-Setting c =
-    let word = c.in-Setting.is in
-    rw word (means_read (SaysSetting c.in-Setting.word) line.Setting c.args.rest.now c.in_ok-parse_setting-in-Setting.field-0 c.in_ok-parse_setting-in-Setting.ensures)
+pub returns-in-Setting : goal.returns-in-Setting
+returns-in-Setting c = let word = c.in-Setting.is in rw word c.parse_set.ensures
 
 pub returns-in-Conn : goal.returns-in-Conn
 returns-in-Conn c = let word = c.in-Conn.is in rw word c.parse_conn.ensures
