@@ -1,10 +1,13 @@
 -- What comes to a tunnel, and what of it is framed.
 use Rattle.std.proofs.Common.{◌≡◌, ℕ, zero, suc, ◌≤◌, ◌<◌, ◌+◌, ◌-◌, ◌||◌, cond, Bool, true, false, not, List, [], ◌∷◌, ◌++◌, length, take, drop, filter, nat_le, nat_lt, Option, Some, None, slice_get, slice_set, Result, Ok, Err, refl, sym, ap, ◌∙◌, subst, arith, ◌⊎◌, inl, inr}
 use Rattle.std.specs.Prelude.{find, min, sum_by, vec_len, vec_capacity, option_map, option_and_then, MatchOption}
+use Rattle.std.specs.List.{list_any}
 use Rattle.std.specs.Option.{is_some}
-use Rattle.std.proofs.Math.Bool.{beq}
+use Rattle.std.proofs.Math.Bool.{beq, or-true}
 use Rattle.std.proofs.lemmas.Bool.Decides.{nat_tests}
 use Rattle.std.proofs.lemmas.List.{length-append}
+use Rattle.std.proofs.lemmas.List.Folds.{list_any-append}
+use Rattle.std.proofs.lemmas.Option.{slice_get_cases}
 use Rattle.mq_capsule.specs.Writing.{capsule_text, datagram}
 use Rattle.mq_front.specs.declared.front.Front.{Front}
 use Rattle.mq_front.specs.Fronts.{IsFront, Framed, Frames}
@@ -39,7 +42,7 @@ use Rattle.mq_addr.specs.declared.kind.Kind.TheVariants as kind
 use Rattle.mq_talk.specs.declared.note.From.TheVariants as source
 use Rattle.mq_conn.proofs.Ready.{ready_first, ready_idle, ready_same}
 use Rattle.mq_conn.specs.Conns.{IsConn, Stands, IsRead, Leaves, Refuses, Past, state, behind, act_of, tunnel_is, tunnels_of}
-use Rattle.mq_conn.specs.Frames.{ComesInAt, Delivers, GoesOnAt, QueuesAt, comes_in, delivered, IsFirst, IsNext, IsPlaceOf, HasNone, PutFirst, PutsFirst, Takes, TookFirst, TookOf, on_side, took_note, took_waiting}
+use Rattle.mq_conn.specs.Frames.{AnyCanFrame, ComesInAt, Delivers, GoesOnAt, QueuesAt, comes_in, delivered, IsFirst, IsNext, IsPlaceOf, HasNone, PutFirst, PutsFirst, Takes, TookFirst, TookOf, on_side, took_note, took_waiting}
 use Rattle.mq_conn.specs.declared.queue.Queued.{Queued}
 use Rattle.mq_conn.specs.Queues.{a_packet, size_of, behind as behind_part}
 use Rattle.mq_conn.proofs.Places.{found, missing, waits_at, set_at, bytes_in, one_within, side, side_is, first_at, none_at, either_side, other_side}
@@ -622,11 +625,98 @@ something_waits s t [] is can =
     absurd cc
 something_waits s t (w ∷ ws) is can = refl
 
-pub can_frame_so : (c : Conn) (o : Option ℕ) (b : Bool) → b ≡ is_some o → ((s : machine.Conn) → IsConn c s → IsTurn c s o) → (s : machine.Conn) → IsConn c s → b ≡ is_some (framed s)
-can_frame_so c None b is turns s stands =
-    is ∙ sym (ap (λ (o : Option machine.Tunnel). is_some (option_map settled_note (option_and_then (λ (t : machine.Tunnel). framed_front s t t.waiting) o))) (turns s stands))
-can_frame_so c (Some place) b is turns s stands =
-    let turn = turns s stands in
-    let t = tunnel_is turn.0 in
-    is ∙ sym (ap (λ (o : Option machine.Tunnel). is_some (option_map settled_note (option_and_then (λ (t : machine.Tunnel). framed_front s t t.waiting) o))) turn.2
-    ∙ something_waits s t t.waiting refl (turn_can s t turn.2))
+-- where there is no turn, nothing is framed
+is_framed : (s : machine.Conn) (o : Option machine.Tunnel) → next_framed s ≡ o → is_some (framed s) ≡ is_some o
+is_framed s None is = ap (λ (o : Option machine.Tunnel). is_some (option_map settled_note (option_and_then (λ (t : machine.Tunnel). framed_front s t t.waiting) o))) is
+is_framed s (Some t) is =
+    ap (λ (o : Option machine.Tunnel). is_some (option_map settled_note (option_and_then (λ (t : machine.Tunnel). framed_front s t t.waiting) o))) is
+    ∙ something_waits s t t.waiting refl (turn_can s t is)
+
+-- ---- whether one of its tunnels can be framed
+
+-- of the tunnels before this place none can
+abbrev pub NoneCan : Conn → ℕ → Type 0
+NoneCan c place = (s : machine.Conn) → IsConn c s → s.ending ≡ None → (other : ℕ) (t : Tunnel) → other < place → slice_get c.tunnels.items other ≡ Some t → can_frame s (tunnel_is t) ≡ false
+
+any_at : (can : machine.Tunnel → Bool) (ts : List Tunnel) (place : ℕ) (t : Tunnel) → slice_get ts place ≡ Some t → can (tunnel_is t) ≡ true → list_any can (tunnels_of ts) ≡ true
+any_at can [] place t at h = absurd cc
+any_at can (x ∷ ts) zero t at h =
+    let same : x ≡ t = (let e = at in cc) in
+    ap (λ (b : Bool). b || list_any can (tunnels_of ts)) (ap (λ (y : Tunnel). can (tunnel_is y)) same ∙ h)
+any_at can (x ∷ ts) (suc k) t at h = ap (λ (b : Bool). can (tunnel_is x) || b) (any_at can ts k t at h) ∙ or-true (can (tunnel_is x))
+
+none_can : (can : machine.Tunnel → Bool) (ts : List Tunnel) → ((other : ℕ) (t : Tunnel) → slice_get ts other ≡ Some t → can (tunnel_is t) ≡ false) → list_any can (tunnels_of ts) ≡ false
+none_can can [] none = refl
+none_can can (x ∷ ts) none = ap (λ (b : Bool). b || list_any can (tunnels_of ts)) (none 0 x refl) ∙ none_can can ts (λ other t at. none (suc other) t at)
+
+pub one_can : (c : Conn) (place : ℕ) → place < length c.tunnels.items → ((s : machine.Conn) → IsConn c s → s.ending ≡ None → (t : Tunnel) → slice_get c.tunnels.items place ≡ Some t → can_frame s (tunnel_is t) ≡ true) → AnyCanFrame c true
+one_can c place within can = elim ((slice_get_cases c.tunnels.items place).1) [
+  | inl there ↦ (λ s stands goes. by_state c (λ (x : machine.Conn). x.ending ≡ None → true ≡ list_any (can_frame x) x.tunnels)
+      (λ p h k. sym (any_at (can_frame (state c p)) c.tunnels.items place there.0 there.2 (can (state c p) (is_conn c p h) k there.0 there.2))) s stands goes)
+  | inr past ↦ absurd (let far = past.0 in omega (arith, far, within))
+]
+
+pub none_can_frame : (c : Conn) (count : ℕ) → NoneCan c count → ((other : ℕ) (t : Tunnel) → slice_get c.tunnels.items other ≡ Some t → other < count) → AnyCanFrame c false
+none_can_frame c count none within s stands goes = by_state c (λ (x : machine.Conn). x.ending ≡ None → false ≡ list_any (can_frame x) x.tunnels)
+    (λ p h k. sym (none_can (can_frame (state c p)) c.tunnels.items (λ other t at. none (state c p) (is_conn c p h) k other t (within other t at) at))) s stands goes
+
+pub none_more : (c : Conn) (place : ℕ) → NoneCan c place → ((s : machine.Conn) → IsConn c s → s.ending ≡ None → (t : Tunnel) → slice_get c.tunnels.items place ≡ Some t → can_frame s (tunnel_is t) ≡ false) → NoneCan c (place + 1)
+none_more c place none here s stands goes other t lt at = by (nat_lt other place) refl
+  where
+    by : (b : Bool) → nat_lt other place ≡ b → can_frame s (tunnel_is t) ≡ false
+    by true e = none s stands goes other t (grind (arith, nat_tests, e)) at
+    by false e =
+        let same : other ≡ place = grind (arith, nat_tests, e, lt) in
+        let P : ℕ → Type 0 = λ n. slice_get c.tunnels.items n ≡ Some t in
+        here s stands goes t (subst P same at)
+
+-- the first of them is there where one can
+any_found : (can : machine.Tunnel → Bool) (ts : List machine.Tunnel) → is_some (find can ts) ≡ list_any can ts
+any_found can [] = refl
+any_found can (t ∷ ts) = go (can t) (any_found can ts)
+  where
+    go : (b : Bool) → is_some (find can ts) ≡ list_any can ts → is_some (cond b (Some t) (find can ts)) ≡ (b || list_any can ts)
+    go true rest = refl
+    go false rest = rest
+
+or_sides : (late can first second all : Bool) → (first || second) ≡ all → (cond late (can || first) first || cond (not late) (can || second) second) ≡ (can || all)
+or_sides true true first second all h = refl
+or_sides true false first second all h = h
+or_sides false true first second all h = or-true first
+or_sides false false first second all h = h
+
+any_more : (can : machine.Tunnel → Bool) (is : Bool) (t : machine.Tunnel) (ts : List machine.Tunnel) → list_any can (cond is (t ∷ ts) ts) ≡ cond is (can t || list_any can ts) (list_any can ts)
+any_more can true t ts = refl
+any_more can false t ts = refl
+
+any_of_sides : (late early can : machine.Tunnel → Bool) → ((t : machine.Tunnel) → early t ≡ not (late t)) → (ts : List machine.Tunnel) → (list_any can (filter late ts) || list_any can (filter early ts)) ≡ list_any can ts
+any_of_sides late early can other [] = refl
+any_of_sides late early can other (t ∷ ts) =
+    let xs = filter late ts in
+    let ys = filter early ts in
+    ap (λ (e : Bool). list_any can (filter late (t ∷ ts)) || list_any can (cond e (t ∷ ys) ys)) (other t)
+    ∙ ap (λ (a : Bool). a || list_any can (cond (not (late t)) (t ∷ ys) ys)) (any_more can (late t) t xs)
+    ∙ ap (λ (b : Bool). cond (late t) (can t || list_any can xs) (list_any can xs) || b) (any_more can (not (late t)) t ys)
+    ∙ or_sides (late t) (can t) (list_any can xs) (list_any can ys) (list_any can ts) (any_of_sides late early can other ts)
+
+not_le : (a b : ℕ) → nat_lt b a ≡ not (nat_le a b)
+not_le a b = by (nat_le a b) refl
+  where
+    by : (v : Bool) → nat_le a b ≡ v → nat_lt b a ≡ not v
+    by true e = grind (arith, nat_tests, e)
+    by false e = grind (arith, nat_tests, e)
+
+turn_any : (s : machine.Conn) → can_go_on s ≡ true → is_some (next_framed s) ≡ list_any (can_frame s) s.tunnels
+turn_any s goes =
+    let late : machine.Tunnel → Bool = λ t. nat_le s.next_tunnel t.id in
+    let early : machine.Tunnel → Bool = λ t. nat_lt t.id s.next_tunnel in
+    ap (λ (b : Bool). is_some (cond b (find (can_frame s) (tunnels_from s.next_tunnel s.tunnels)) None)) goes
+    ∙ any_found (can_frame s) (tunnels_from s.next_tunnel s.tunnels)
+    ∙ list_any-append (can_frame s) (filter late s.tunnels) (filter early s.tunnels)
+    ∙ any_of_sides late early (can_frame s) (λ t. not_le s.next_tunnel t.id) s.tunnels
+
+pub frames_some : (c : Conn) (b : Bool) → AnyCanFrame c b → (s : machine.Conn) → IsConn c s → can_go_on s ≡ true → b ≡ is_some (framed s)
+frames_some c b any s stands goes = any s stands (goes_not_ending c s stands goes) ∙ sym (turn_any s goes) ∙ sym (is_framed s (next_framed s) refl)
+
+pub frames_not_now : (c : Conn) (s : machine.Conn) → can_go_on s ≡ false → false ≡ is_some (framed s)
+frames_not_now c s not_now = sym (is_framed s None (turn_waits c s not_now))

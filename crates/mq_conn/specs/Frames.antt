@@ -1,5 +1,6 @@
 -- What calls promise on capsules that wait.
 use Rattle.std.specs.Prelude.{◌≡◌, ◌≢◌, ℕ, ◌+◌, ◌<◌, ◌≤◌, Bool, true, false, List, [], ◌∷◌, length, take, drop, filter, find, nat_le, nat_lt, slice_get, slice_set, Option, Some, None, Result, Ok, Err}
+use Rattle.std.specs.List.{list_any}
 use Rattle.mq_addr.specs.declared.kind.Kind.{Kind}
 use Rattle.mq_addr.specs.declared.kind.Kind.TheVariants as kind
 use Rattle.mq_talk.specs.declared.note.From.{From}
@@ -77,6 +78,10 @@ IsFirst c s late (Some place) =
 
 abbrev pub IsNext : Conn → Bool → Option ℕ → Type 0
 IsNext c late result = (s : machine.Conn) → IsConn c s → s.ending ≡ None → IsFirst c s late result
+
+-- whether one of its tunnels can be framed, where it isn't ending
+abbrev pub AnyCanFrame : Conn → Bool → Type 0
+AnyCanFrame c result = (s : machine.Conn) → IsConn c s → s.ending ≡ None → result ≡ list_any (can_frame s) s.tunnels
 
 -- so many bytes of what waits first in the tunnel at this place were put
 pub record PutFirst (old new : Conn) (place count : ℕ) : Type 0 where

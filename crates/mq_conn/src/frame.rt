@@ -8,7 +8,7 @@ ghost use Rattle.mq_machine.specs.Steps as steps;
 ghost use Rattle.mq_machine.specs.Want.{want_of, may_wait};
 ghost use Rattle.mq_conn.specs.Conns.{IsConn, Leaves, Refuses, Starves, tunnel_is};
 ghost use Rattle.mq_talk.specs.declared.place.Cause.TheVariants as cause;
-ghost use Rattle.mq_conn.specs.Frames.{ComesInAt, Delivers, GoesOnAt, QueuesAt, IsNext, IsPlaceOf, HasNone, PutsFirst, TookFirst, TookOf};
+ghost use Rattle.mq_conn.specs.Frames.{AnyCanFrame, ComesInAt, Delivers, GoesOnAt, QueuesAt, IsNext, IsPlaceOf, HasNone, PutsFirst, TookFirst, TookOf};
 ghost use Rattle.mq_conn.specs.Queues.{size_of, what_of, behind as waits_behind};
 ghost use Rattle.mq_conn.specs.declared.conn.Tunnel.{Tunnel};
 
@@ -269,11 +269,23 @@ impl Conn {
         }
     }
 
+    /// Whether one of its tunnels can be framed.
+    fn can_frame_any(&self) -> bool
+        ensures { AnyCanFrame self.now result }
+    {
+        for place in 0..self.tunnels.len() {
+            if self.can_frame_at(place) {
+                return true;
+            }
+        }
+        false
+    }
+
     /// Whether a capsule can be framed now, or a part of one.
     pub fn can_frame(&self) -> bool
         ensures { (s : machine.Conn) → IsConn self.now s → result ≡ is_some (steps.framed s) }
     {
-        self.next_framed().is_some()
+        self.can_go_on() && self.can_frame_any()
     }
 
     /// Frames the capsule whose turn it is, or as much of it as there is room for.
