@@ -32,6 +32,8 @@ struct Carried {
     held: Held<MemLink>,
     ports: PortTable<MemPorts>,
     key: usize,
+    /// The note of what was done last.
+    told: Option<Note>,
 }
 
 /// A link on which the request arrived, and the capsule behind it.
@@ -63,6 +65,7 @@ fn make_carried(alloc: Global) -> Result<Carried, Fail> {
         held: Held::new(alloc, 7, conn, link),
         ports,
         key,
+        told: None,
     })
 }
 
@@ -109,15 +112,15 @@ fn went(went: Went, told: &Option<Note>) -> &'static str {
 
 fn reads(alloc: Global, it: &mut Carried) -> Result<&'static str, NoMemory> {
     let mut buffer = vec![in alloc; 0u8; 16_384]?;
-    let mut told = None;
-    let read = it.held.read(&it.setup, buffer.as_mut_slice(), &mut told)?;
-    Ok(went(read, &told))
+    let read = it
+        .held
+        .read(&it.setup, buffer.as_mut_slice(), &mut it.told)?;
+    Ok(went(read, &it.told))
 }
 
 fn writes(alloc: Global, it: &mut Carried) -> Result<&'static str, NoMemory> {
-    let mut told = None;
-    let wrote = it.held.write(alloc, &mut told)?;
-    Ok(went(wrote, &told))
+    let wrote = it.held.write(alloc, &mut it.told)?;
+    Ok(went(wrote, &it.told))
 }
 
 fn binds(it: &mut Carried) -> Result<&'static str, NoMemory> {
@@ -154,17 +157,19 @@ fn receives(alloc: Global, it: &mut Carried) -> Result<&'static str, NoMemory> {
         key: it.key,
         received: 3,
     };
-    let mut told = None;
     let came = it
         .held
-        .receive(alloc, seat, &mut datagrams, &mut it.ports, &mut told)?;
-    Ok(went(came, &told))
+        .receive(alloc, seat, &mut datagrams, &mut it.ports, &mut it.told)?;
+    Ok(went(came, &it.told))
 }
 
 fn frames(it: &mut Carried) -> Result<&'static str, NoMemory> {
-    let mut told = None;
-    let framed = it.held.frame(&mut told)?;
-    Ok(if framed { told_word(&told) } else { "nothing" })
+    let framed = it.held.frame(&mut it.told)?;
+    Ok(if framed {
+        told_word(&it.told)
+    } else {
+        "nothing"
+    })
 }
 
 /// The request is answered: its port is bound, its tunnel opens, and what is owed waits for a link that takes nothing.

@@ -6,127 +6,153 @@ use mq_replay::Status;
 use std::alloc::{AllocError, Global};
 use std::test::Fail;
 
-/// Scripts that print nothing.
-const GOOD: [&[u8]; 28] = [
-    b"workers 1\nconn 0\n",
-    b"workers 4\nconn 3\nconn 0\n",
-    b"workers 4\nworkers 1\nconn 0\n",
-    b"conn 0\nconn 0\nend 1\nend 1\n",
-    b"conn 0\nroom 0 0\nroom 0 2147483647\nroom 0 all\n",
-    b"conn 0\nfailread 0\nfailwrite 0\n",
-    b"conn 0\nfill 0 61 99999 62\n",
-    b"conn 0\ntext 0  !~\\\\\\r\\n\n",
-    b"failbind\nfailbind\n",
-    b"failnet\nfailnet\n",
-    b"packet 1 00\npacket 1024 ff\n",
-    b"run 1\n",
-    b"run 1000000\n",
-    b"mtu 1280\nmtu 65535\n",
-    b"history 4\nhistory 262144\n",
-    b"pool 198.51.100.0/24\npool 198.51.101.0/24\n",
-    b"pool 198.51.100.0/24\nreach 198.51.101.0/24\n",
-    b"reach 2001:db8::/32\npool 198.51.100.0/24\n",
-    b"route 192.0.2.0 192.0.2.9 0\nroute 192.0.2.11 192.0.2.11 0\n",
-    b"route 0.0.0.0 255.255.255.255 255\n",
-    b"host 192.0.2.1\nhost 2001:db8::1\nhost 192.0.2.1\n",
-    b"name a.example 192.0.2.6\nname a.example 2001:db8::6\n",
-    b"allow udp * 1 65535\ndeny udp 192.0.2.6 443 443\n",
-    b"allow ip * *\ndeny ip 192.0.2.0/24 255\ndeny ip 192.0.2.0/24 0\n",
-    b"template udp /u/{target_host}/{target_port}\n",
-    b"template ip /i/{target}/{ipproto}\n",
-    b"# said\n\nmtu 1280\n# said\n\nconn 0",
-    b"\n\n\n",
-];
+/// Scripts that print nothing, one in a row. Each `;` stands for the end of a line.
+const GOOD: &str = "\
+workers 1;conn 0;
+workers 4;conn 3;conn 0;
+workers 4;workers 1;conn 0;
+conn 0;conn 0;end 1;end 1;
+conn 0;room 0 0;room 0 2147483647;room 0 all;
+conn 0;failread 0;failwrite 0;
+conn 0;fill 0 61 99999 62;
+conn 0;text 0  !~\\\\\\r\\n;
+failbind;failbind;
+failnet;failnet;
+packet 1 00;packet 1024 ff;
+run 1;
+run 1000000;
+mtu 1280;mtu 65535;
+history 4;history 262144;
+pool 198.51.100.0/24;pool 198.51.101.0/24;
+pool 198.51.100.0/24;reach 198.51.101.0/24;
+reach 2001:db8::/32;pool 198.51.100.0/24;
+route 192.0.2.0 192.0.2.9 0;route 192.0.2.11 192.0.2.11 0;
+route 0.0.0.0 255.255.255.255 255;
+host 192.0.2.1;host 2001:db8::1;host 192.0.2.1;
+name a.example 192.0.2.6;name a.example 2001:db8::6;
+allow udp * 1 65535;deny udp 192.0.2.6 443 443;
+allow ip * *;deny ip 192.0.2.0/24 255;deny ip 192.0.2.0/24 0;
+template udp /u/{target_host}/{target_port};
+template ip /i/{target}/{ipproto};
+# said;;mtu 1280;# said;;conn 0
+;;;
+";
 
-/// Scripts of which one line is bad, and its number.
-const BAD: [(&[u8], &[u8]); 64] = [
-    (b"# said\n\nstep 1\n", b"3"),
-    (b"bytes 0 00\nconn 0\n", b"1"),
-    (b"conn 1\n", b"1"),
-    (b"conn net\n", b"1"),
-    (b"workers 4\nconn 4\n", b"2"),
-    (b"workers 0\n", b"1"),
-    (b"workers 5\n", b"1"),
-    (b"workers 01\n", b"1"),
-    (b"end 0\n", b"1"),
-    (b"conn 0\nend 1\n", b"2"),
-    (b"conn 0\nend 0\nbytes 0 00\n", b"3"),
-    (b"conn 0\nend 0\nend 0 \n", b"3"),
-    (b"room 0 all\n", b"1"),
-    (b"conn 0\nroom 0 2147483648\n", b"2"),
-    (b"conn 0\nroom 0 -1\n", b"2"),
-    (b"failread 0\n", b"1"),
-    (b"conn 0\nfailread 1\n", b"2"),
-    (b"failwrite 0\n", b"1"),
-    (b"conn 0\nfailwrite 1\n", b"2"),
-    (b"dgram 0 61\n", b"1"),
-    (b"failport 0\n", b"1"),
-    (b"conn 0\nfailport 0\n", b"2"),
-    (b"failbind 0\n", b"1"),
-    (b"failnet 0\n", b"1"),
-    (b"failnet \n", b"1"),
-    (b"packet\n", b"1"),
-    (b"packet 1\n", b"1"),
-    (b"packet 1 \n", b"1"),
-    (b"packet 1 0\n", b"1"),
-    (b"packet 0 00\n", b"1"),
-    (b"packet 1025 00\n", b"1"),
-    (b"packet 01 00\n", b"1"),
-    (b"conn 0\nbytes 0 \n", b"2"),
-    (b"conn 0\nbytes 0 0\n", b"2"),
-    (b"conn 0\nbytes 0 AA\n", b"2"),
-    (b"conn 0\nbytes 4294967296 00\n", b"2"),
-    (b"conn 0\ntext 0 \n", b"2"),
-    (b"conn 0\ntext 0 \\t\n", b"2"),
-    (b"conn 0\nfill 0 61 100000 62\n", b"2"),
-    (b"conn 0\nfill 0 61 0 62\n", b"2"),
-    (b"run 0\n", b"1"),
-    (b"run 1000001\n", b"1"),
-    (b"run\n", b"1"),
-    (b"step 0 0\n", b"1"),
-    (b"step 0 1000001\n", b"1"),
-    (b"step net 0\n", b"1"),
-    (b"step 4\n", b"1"),
-    (b"workers 2\nstep 2\n", b"2"),
-    (b"mtu 1279\n", b"1"),
-    (b"mtu 65536\n", b"1"),
-    (b"history 3\n", b"1"),
-    (b"history 262145\n", b"1"),
-    (b"pool 0.0.0.0/8\n", b"1"),
-    (b"pool 198.51.100.1/24\n", b"1"),
-    (b"pool 198.51.100.0/24\npool 198.51.100.9/32\n", b"2"),
-    (b"pool 198.51.100.0/24\nreach 198.51.100.9/32\n", b"2"),
-    (b"reach 198.51.100.9/32\npool 198.51.100.0/24\n", b"2"),
-    (b"route 192.0.2.9 192.0.2.0 0\n", b"1"),
-    (b"route 192.0.2.0 192.0.2.9 256\n", b"1"),
-    (
-        b"route 192.0.2.0 192.0.2.9 0\nroute 192.0.2.9 192.0.2.9 0\n",
-        b"2",
-    ),
-    (b"host 192.0.2.1/32\n", b"1"),
-    (b"deny udp * 0 1\n", b"1"),
-    (b"deny ip * 256\n", b"1"),
-    (b"conn 0\nmtu 1500\n", b"2"),
-];
+/// Scripts of which one line is bad, behind its number.
+const BAD: &str = "\
+3 # said;;step 1;
+1 bytes 0 00;conn 0;
+1 conn 1;
+1 conn net;
+2 workers 4;conn 4;
+1 workers 0;
+1 workers 5;
+1 workers 01;
+1 end 0;
+2 conn 0;end 1;
+3 conn 0;end 0;bytes 0 00;
+3 conn 0;end 0;end 0 ;
+1 room 0 all;
+2 conn 0;room 0 2147483648;
+2 conn 0;room 0 -1;
+1 failread 0;
+2 conn 0;failread 1;
+1 failwrite 0;
+2 conn 0;failwrite 1;
+1 dgram 0 61;
+1 failport 0;
+2 conn 0;failport 0;
+1 failbind 0;
+1 failnet 0;
+1 failnet ;
+1 packet;
+1 packet 1;
+1 packet 1 ;
+1 packet 1 0;
+1 packet 0 00;
+1 packet 1025 00;
+1 packet 01 00;
+2 conn 0;bytes 0 ;
+2 conn 0;bytes 0 0;
+2 conn 0;bytes 0 AA;
+2 conn 0;bytes 4294967296 00;
+2 conn 0;text 0 ;
+2 conn 0;text 0 \\t;
+2 conn 0;fill 0 61 100000 62;
+2 conn 0;fill 0 61 0 62;
+1 run 0;
+1 run 1000001;
+1 run;
+1 step 0 0;
+1 step 0 1000001;
+1 step net 0;
+1 step 4;
+2 workers 2;step 2;
+1 mtu 1279;
+1 mtu 65536;
+1 history 3;
+1 history 262145;
+1 pool 0.0.0.0/8;
+1 pool 198.51.100.1/24;
+2 pool 198.51.100.0/24;pool 198.51.100.9/32;
+2 pool 198.51.100.0/24;reach 198.51.100.9/32;
+2 reach 198.51.100.9/32;pool 198.51.100.0/24;
+1 route 192.0.2.9 192.0.2.0 0;
+1 route 192.0.2.0 192.0.2.9 256;
+2 route 192.0.2.0 192.0.2.9 0;route 192.0.2.9 192.0.2.9 0;
+1 host 192.0.2.1/32;
+1 deny udp * 0 1;
+1 deny ip * 256;
+2 conn 0;mtu 1500;
+";
+
+/// The script of a row.
+fn script_of(alloc: Global, row: &str) -> Result<Vec<u8>, AllocError> {
+    let mut script = Vec::from_slice(alloc, row.as_bytes())?;
+    for byte in script.as_mut_slice() {
+        if *byte == b';' {
+            *byte = b'\n';
+        }
+    }
+    Ok(script)
+}
 
 #[test]
 fn good_lines_print_nothing(rt: HostRuntime) -> Result<(), Fail> {
-    for &script in &GOOD {
-        prints(&rt, rt.alloc(), script, &PLAIN, Status::Done, b"")?;
+    for row in GOOD.lines() {
+        let script = script_of(rt.alloc(), row)?;
+        prints(
+            &rt,
+            rt.alloc(),
+            script.as_slice(),
+            &PLAIN,
+            Status::Done,
+            b"",
+        )?;
     }
     Ok(())
 }
 
+/// The line that names a bad one.
+fn bad_line(alloc: Global, number: &str) -> Result<Vec<u8>, AllocError> {
+    let mut line = Vec::from_slice(alloc, b"bad line ".as_slice())?;
+    line.extend_from_slice(number.as_bytes())?;
+    line.push(b'\n')?;
+    Ok(line)
+}
+
 #[test]
 fn bad_lines_are_told_by_number(rt: HostRuntime) -> Result<(), Fail> {
-    for &(script, number) in &BAD {
-        let mut want = Vec::from_slice(rt.alloc(), b"bad line ".as_slice())?;
-        want.extend_from_slice(number)?;
-        want.push(b'\n')?;
+    for row in BAD.lines() {
+        let Some((number, row)) = row.split_once(' ') else {
+            return Err(Fail::from("a row without a number"));
+        };
+        let script = script_of(rt.alloc(), row)?;
+        let want = bad_line(rt.alloc(), number)?;
         prints(
             &rt,
             rt.alloc(),
-            script,
+            script.as_slice(),
             &PLAIN,
             Status::BadScript,
             want.as_slice(),
