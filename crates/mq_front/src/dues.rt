@@ -104,7 +104,8 @@ impl Dues {
     pub fn push(&mut self, due: Due) -> Result<(), NoMemory>
         ensures { OnOk result (self.new ≡ self.old ++ due ∷ []) }
     {
-        self.items.push_back(due)?;
+        self.items.reserve(1)?;
+        self.items.push_back_reserved(due);
         Ok(())
     }
 

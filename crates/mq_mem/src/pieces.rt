@@ -40,7 +40,8 @@ impl Pieces {
         ensures ok { OnOk result (self.new ≡ self.old ++ piece ∷ []) }
         ensures err { OnErr result (self.new ≡ self.old) }
     {
-        self.queue.push_back(piece)?;
+        self.queue.reserve(1)?;
+        self.queue.push_back_reserved(piece);
         Ok(())
     }
 

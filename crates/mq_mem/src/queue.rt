@@ -100,7 +100,8 @@ impl Queue {
         ensures ok { OnOk result (self.new ≡ record self.old { arrived = self.old.arrived ++ bytes ∷ [] }) }
         ensures err { OnErr result (self.new ≡ self.old) }
     {
-        self.arrived.push_back(bytes)?;
+        self.arrived.reserve(1)?;
+        self.arrived.push_back_reserved(bytes);
         Ok(())
     }
 
