@@ -11,7 +11,9 @@ use Rattle.std.proofs.Math.Seq.{drop-cons}
 use Rattle.std.proofs.lemmas.List.{nil_from_length}
 use Rattle.std.proofs.lemmas.List.Concat.{flat_map-cons}
 use Rattle.std.proofs.lemmas.List.Folds.{find_at, find-append}
-use Rattle.std.proofs.lemmas.Option.{slice_get_past}
+use Rattle.std.proofs.lemmas.List.Sums.{fails_before_first}
+use Rattle.std.proofs.lemmas.Option.{slice_get_past, get_or_from_slice_get}
+use Rattle.mq_step.proofs.Others.{at_within}
 use Rattle.mq_conn.specs.declared.conn.Conn.{Conn as Core}
 use Rattle.mq_held.specs.declared.held.Held.{Held as HeldBy}
 use Rattle.mq_held.specs.declared.held.PortSeat.{PortSeat}
@@ -47,6 +49,29 @@ module _ {A : Type 0} (p : A → Bool) (xs : List A) where
 
   pub missing : position p xs ≡ None → find p xs ≡ None
   missing e = missing_by (position_or_len p xs) refl (nat_lt (position_or_len p xs) (length xs)) refl e
+
+  before_by : (n : ℕ) → n ≡ position_or_len p xs → (b : Bool) → nat_lt n (length xs) ≡ b → (i k : ℕ)
+      → ◌≡◌ {A = Option ℕ} (cond b (Some n) None) (Some i) → (x : A) → slice_get xs k ≡ Some x → k < i → p x ≡ false
+  before_by n is true less i k e x at low =
+      let same : n ≡ i = cc in
+      ap {B = Bool} p (sym (get_or_from_slice_get xs k x x at)) ∙ fails_before_first p xs k x (omega (arith, low, same, is))
+  before_by n is false less i k e x at low = absurd cc
+
+  -- it fails at each place before that
+  pub fails_before : (i k : ℕ) → position p xs ≡ Some i → (x : A) → slice_get xs k ≡ Some x → k < i → p x ≡ false
+  fails_before i k e x at low = before_by (position_or_len p xs) refl (nat_lt (position_or_len p xs) (length xs)) refl i k e x at low
+
+  always_by : (n : ℕ) → n ≡ position_or_len p xs → (b : Bool) → nat_lt n (length xs) ≡ b
+      → ◌≡◌ {A = Option ℕ} (cond b (Some n) None) None → (k : ℕ) (x : A) → slice_get xs k ≡ Some x → p x ≡ false
+  always_by n is true less e k x at = absurd cc
+  always_by n is false less e k x at =
+      let past = ltb-false n (length xs) less in
+      let within = at_within xs k x at in
+      ap {B = Bool} p (sym (get_or_from_slice_get xs k x x at)) ∙ fails_before_first p xs k x (omega (arith, past, within, is))
+
+  -- where none is found, it fails at each
+  pub fails_always : position p xs ≡ None → (k : ℕ) (x : A) → slice_get xs k ≡ Some x → p x ≡ false
+  fails_always e k x at = always_by (position_or_len p xs) refl (nat_lt (position_or_len p xs) (length xs)) refl e k x at
 
 -- ---- links
 

@@ -1,5 +1,5 @@
 -- The connections of a part of the ring, each in its turn.
-use Rattle.std.proofs.Common.{◌≡◌, ◌⊎◌, ◌↔◌, inl, inr, ℕ, ◌+◌, ◌<◌, ◌≤◌, Bool, List, length, slice_get, Option, Some, None, Result, Ok, Err, sym}
+use Rattle.std.proofs.Common.{◌≡◌, ◌⊎◌, ◌↔◌, inl, inr, ℕ, ◌+◌, ◌<◌, ◌≤◌, Bool, true, false, List, length, slice_get, Option, Some, None, Result, Ok, Err, sym}
 use Rattle.std.proofs.Common.{refl, ap, subst, ◌∙◌, arith}
 use Rattle.std.specs.Result.{IsErr}
 use Rattle.std.proofs.lemmas.Bool.{cases_lt}
@@ -11,7 +11,7 @@ use Rattle.mq_step.proofs.Others.{at_within}
 use Rattle.mq_actor.specs.declared.ring.Ring.{Ring}
 use Rattle.mq_actor.specs.Seen.{Words, Moment}
 use Rattle.mq_actor.specs.Holds.{HaveOwnPorts}
-use Rattle.mq_actor.specs.Passing.{InPart, Tried, Passed, LeavesRing, Acted, TryGives, PassGives}
+use Rattle.mq_actor.specs.Passing.{is_in_part, InPart, Tried, Passed, LeavesRing, Acted, TryGives, PassGives}
 use Rattle.mq_actor.proofs.Passings.{none_passed, passed_as, passed_then}
 
 -- those before this place that have their seats in this part
@@ -22,9 +22,10 @@ before upper from place i number = (i < place) × InPart upper from number
 abbrev pub alone : Bool → ℕ → ℕ → Tried
 alone upper from place i number = (i ≡ place) × InPart upper from number
 
--- before the first place is none
-pub pass_begins : {L Q : Type 0} (words : Words L Q) (m : Moment L Q) (upper : Bool) (from : ℕ) → Passed words m m (before upper from 0)
-pass_begins words m upper from = none_passed words m (before upper from 0) (λ i h at is. let less = is.0 in omega (arith, less))
+-- before the first place of this part is none of it
+pub pass_begins : {L Q : Type 0} (words : Words L Q) (m : Moment L Q) (upper : Bool) (from first : ℕ)
+    → ((i : ℕ) (h : HeldBy L) → slice_get m.conns i ≡ Some h → i < first → is_in_part upper from (h.number + 2) ≡ false) → Passed words m m (before upper from first)
+pass_begins words m upper from first none = none_passed words m (before upper from first) (λ i h at is. let no : false ≡ true = sym (none i h at is.0) ∙ is.1 in absurd cc)
 
 before_next : (upper : Bool) (from place i number : ℕ)
     → (before upper from place i number ⊎ alone upper from place i number) ↔ before upper from (place + 1) i number

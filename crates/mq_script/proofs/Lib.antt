@@ -8,3 +8,4 @@ pub mod Growth
 pub mod Checksums
 pub mod Generating
 pub mod Taking
+pub mod Digits

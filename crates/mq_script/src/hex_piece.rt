@@ -14,11 +14,15 @@ const MOST_PAYLOAD: usize = 65_527;
 /// The most bytes of a packet.
 const MOST_PACKET: usize = 65_535;
 
-/// Whether a byte is no capital hex digit.
-fn is_no_capital(digit: u8) -> bool
-    ensures { IsTrue result ↔ ((digit < 65) ⊎ (70 < digit)) }
+/// How far a byte stands behind `A`, counted on from the last byte to the first: five or less are capital hex digits.
+fn behind_capitals(digit: u8) -> u8
+    ensures { (5 < result) ↔ ((digit < 65) ⊎ (70 < digit)) }
 {
-    digit < b'A' || digit > b'F'
+    if digit < b'A' {
+        digit + 191
+    } else {
+        digit - b'A'
+    }
 }
 
 /// Whether a text has no capital hex digit, which `hex::decode` takes. It looks at each byte, so that it can look at many at
@@ -26,11 +30,11 @@ fn is_no_capital(digit: u8) -> bool
 fn lacks_capitals(text: &[u8]) -> bool
     ensures { IsTrue result ↔ All (λ digit. (digit < 65) ⊎ (70 < digit)) text.now }
 {
-    let mut lacks = true;
+    let mut least = u8::MAX;
     for digit in text {
-        lacks &= is_no_capital(*digit);
+        least = least.min(behind_capitals(*digit));
     }
-    lacks
+    least > 5
 }
 
 /// The bytes that a text spells in hex, in pairs of digits from `0` to `9` and `a` to `f`. There are some.

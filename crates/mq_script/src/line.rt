@@ -42,7 +42,7 @@ fn parse_alone(line: &[u8]) -> Option<Event>
 
 /// The setting that stands behind its first word and a space.
 #[inline(never)]
-fn parse_set(alloc: Global, first: SettingWord, rest: &[u8]) -> Result<Line, LineFault>
+fn parse_setting_line(alloc: Global, first: SettingWord, rest: &[u8]) -> Result<Line, LineFault>
     ensures { IsParsed (SaysBehind (word.Setting first) rest.now) result }
 {
     let setting = parse_setting(alloc, first, rest)?;
@@ -55,7 +55,7 @@ fn parse_behind(alloc: Global, word: Word, rest: &[u8]) -> Result<Line, LineFaul
     ensures { IsParsed (SaysBehind word rest.now) result }
 {
     match word {
-        Word::Setting(word) => parse_set(alloc, word, rest),
+        Word::Setting(word) => parse_setting_line(alloc, word, rest),
         Word::Conn => parse_conn(rest),
         Word::Bytes => parse_bytes(alloc, rest),
         Word::Text => parse_said(alloc, rest),

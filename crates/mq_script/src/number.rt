@@ -2,7 +2,7 @@
 ghost use Rattle.mq_play.specs.Lines.{IsActor, most_room};
 ghost use Rattle.mq_play.specs.Parts.{IsName, IsNumber, IsNumberOr};
 ghost use Rattle.mq_script.specs.Reading.{IsFound};
-ghost use Rattle.std.specs.Prelude.{◌≡◌, ℕ, ◌≤◌, Some, IfSome, codes};
+ghost use Rattle.std.specs.Prelude.{◌≡◌, ◌+◌, ◌∷◌, [], ℕ, ◌<◌, ◌≤◌, Some, IfSome, codes};
 ghost use Rattle.mq_text.specs.Number.{Spells};
 
 use crate::hex_piece::single;
@@ -17,23 +17,63 @@ pub const LAST_WORKER: u32 = 3;
 /// The most bytes that a link is said to take.
 const MOST_ROOM: u32 = 2_147_483_647;
 
-/// The number that a text of one digit spells.
-fn digit_of(text: &[u8]) -> Option<u64>
-    ensures { IfSome result (Spells text.now) }
+/// What a decimal digit counts.
+fn digit_of(digit: u8) -> Option<u64>
+    ensures { IfSome result (λ n. (n < 10) × (digit ≡ n + 48)) }
 {
-    let digit = single(text)?;
     if digit < b'0' || digit > b'9' {
         return None;
     }
     Some(u64::from(digit - b'0'))
 }
 
-/// The number, up to a limit, that a text spells in decimal. Most have one digit, which needs no more.
+/// Both bytes, where there are just two.
+fn both(bytes: &[u8]) -> Option<(u8, u8)>
+    ensures { IfSome result (λ p. bytes.now ≡ p.0 ∷ p.1 ∷ []) }
+{
+    match bytes {
+        [first, second] => Some((*first, *second)),
+        _ => None,
+    }
+}
+
+/// The number that a text of one digit spells.
+fn parse_digit(text: &[u8]) -> Option<u64>
+    ensures { IfSome result (λ n. (n < 10) × Spells text.now n) }
+{
+    let digit = single(text)?;
+    digit_of(digit)
+}
+
+/// The number that a text of two digits spells.
+fn parse_two(text: &[u8]) -> Option<u64>
+    ensures { IfSome result (λ n. (n < 100) × Spells text.now n) }
+{
+    let (first, second) = both(text)?;
+    let tens = digit_of(first)?;
+    let ones = digit_of(second)?;
+    if tens == 0 {
+        return None;
+    }
+    Some(10 * tens + ones)
+}
+
+/// The number that a text of one digit or two spells.
+fn parse_short(text: &[u8]) -> Option<u64>
+    ensures { IfSome result (λ n. (n < 100) × Spells text.now n) }
+{
+    match parse_digit(text) {
+        Some(number) => Some(number),
+        None => parse_two(text),
+    }
+}
+
+/// The number, up to a limit, that a text spells in decimal. Most have one digit or two, which need no more.
 fn number_up_to(limit: u64, text: &[u8]) -> Option<u64>
     ensures some { IfSome result (λ n. (n ≤ limit) × Spells text.now n) }
     ensures none { (n : ℕ) → n ≤ limit → Spells text.now n → result ≡ Some n }
 {
-    let Some(number) = digit_of(text) else {
+    let Some(number) = parse_short(text) else {
         return parse_number(limit, text);
     };
     reads_one();

@@ -1,5 +1,5 @@
 //! The words of a printed line.
-ghost use Rattle.std.specs.Prelude.{◌≡◌, ◌++◌, ◌∷◌, [], OnOk, OnErr, decimal, map};
+ghost use Rattle.std.specs.Prelude.{◌≡◌, ◌+◌, ◌<◌, ◌++◌, ◌∷◌, [], OnOk, OnErr, decimal, map};
 ghost use Rattle.hex.specs.Hex.{encode_lower};
 ghost use Rattle.mq_play.specs.Text.{bytes_text, given_text, newline, spaced};
 ghost use Rattle.mq_script.specs.Counting.{bytes_line};
@@ -49,15 +49,26 @@ fn append_digits(out: &mut Vec<u8>, number: u64) -> Result<(), NoMemory>
     append(out, buffer.format(number).as_bytes())
 }
 
-/// Appends a number in decimal; an `Err` leaves a part of it. Most numbers have one digit, which needs no buffer.
+/// Appends one decimal digit.
+fn append_digit(out: &mut Vec<u8>, digit: u64) -> Result<(), NoMemory>
+    requires { digit < 10 }
+    ensures { Appends out.old.items ((48 + digit) ∷ []) out.new.items result }
+{
+    append_byte(out, b'0' + digit as u8)
+}
+
+/// Appends a number in decimal; an `Err` leaves a part of it. Most numbers have one digit or two, which need no buffer.
 pub fn append_number(out: &mut Vec<u8>, number: u64) -> Result<(), NoMemory>
     ensures { Appends out.old.items (decimal number) out.new.items result }
 {
     if number < 10 {
-        append_byte(out, b'0' + number as u8)
-    } else {
-        append_digits(out, number)
+        return append_digit(out, number);
     }
+    if number < 100 {
+        append_digit(out, number / 10)?;
+        return append_digit(out, number % 10);
+    }
+    append_digits(out, number)
 }
 
 /// Appends bytes in hex, in twice as many digits; an `Err` leaves a part of them.

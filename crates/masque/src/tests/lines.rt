@@ -117,18 +117,21 @@ fn script_of(alloc: Global, row: &str) -> Result<Vec<u8>, AllocError> {
     Ok(script)
 }
 
+/// The script prints nothing, and no line of it is bad.
+fn is_silent(rt: &HostRuntime, script: &[u8]) -> Result<(), Fail> {
+    prints(rt, rt.alloc(), script, &PLAIN, Status::Done, b"")
+}
+
+/// The script prints this line alone, which names a bad one.
+fn is_bad(rt: &HostRuntime, script: &[u8], line: &[u8]) -> Result<(), Fail> {
+    prints(rt, rt.alloc(), script, &PLAIN, Status::BadScript, line)
+}
+
 #[test]
 fn good_lines_print_nothing(rt: HostRuntime) -> Result<(), Fail> {
     for row in GOOD.lines() {
         let script = script_of(rt.alloc(), row)?;
-        prints(
-            &rt,
-            rt.alloc(),
-            script.as_slice(),
-            &PLAIN,
-            Status::Done,
-            b"",
-        )?;
+        is_silent(&rt, script.as_slice())?;
     }
     Ok(())
 }
@@ -149,14 +152,7 @@ fn bad_lines_are_told_by_number(rt: HostRuntime) -> Result<(), Fail> {
         };
         let script = script_of(rt.alloc(), row)?;
         let want = bad_line(rt.alloc(), number)?;
-        prints(
-            &rt,
-            rt.alloc(),
-            script.as_slice(),
-            &PLAIN,
-            Status::BadScript,
-            want.as_slice(),
-        )?;
+        is_bad(&rt, script.as_slice(), want.as_slice())?;
     }
     Ok(())
 }
@@ -191,23 +187,9 @@ fn settings_of_a_form_are_bounded(rt: HostRuntime) -> Result<(), Fail> {
     ];
     for &(parts, most, want) in &cases {
         let script = many(rt.alloc(), parts, most)?;
-        prints(
-            &rt,
-            rt.alloc(),
-            script.as_slice(),
-            &PLAIN,
-            Status::Done,
-            b"",
-        )?;
+        is_silent(&rt, script.as_slice())?;
         let script = many(rt.alloc(), parts, most + 1)?;
-        prints(
-            &rt,
-            rt.alloc(),
-            script.as_slice(),
-            &PLAIN,
-            Status::BadScript,
-            want,
-        )?;
+        is_bad(&rt, script.as_slice(), want)?;
     }
     Ok(())
 }

@@ -1,7 +1,7 @@
 use Rattle.mq_script.proofs.line.parse_behind.Goals as goal
 
 pub returns-in-Setting : goal.returns-in-Setting
-returns-in-Setting c = let word = c.in-Setting.is in rw word c.parse_set.ensures
+returns-in-Setting c = let word = c.in-Setting.is in rw word c.parse_setting_line.ensures
 
 pub returns-in-Conn : goal.returns-in-Conn
 returns-in-Conn c = let word = c.in-Conn.is in rw word c.parse_conn.ensures

@@ -6,7 +6,7 @@ use Rattle.mq_step.specs.Holds.{HasInboxes}
 use Rattle.mq_step.specs.Rooms.{HasRooms}
 use Rattle.mq_actor.specs.Holds.{HaveOwnPorts}
 use Rattle.mq_actor.specs.Passing.{InPart, Passed}
-use Rattle.mq_actor.proofs.ring.Ring.pass.Given as goal
+use Rattle.mq_actor.proofs.ring.Ring.pass_from.Given as goal
 
 -- those before this place that have their seats in this part were passed over
 abbrev pub invariant-loop-place : goal.invariant-loop-place
