@@ -4,6 +4,7 @@ use super::rows::{TUNNEL, TUNNEL_PRINTS};
 use super::{PLAIN, prints, replayed};
 use mq_replay::Status;
 use std::alloc::{AllocError, Global};
+use std::process::Abort;
 use std::test::Fail;
 
 /// Scripts that print nothing, one in a row. Each `;` stands for the end of a line.
@@ -118,20 +119,20 @@ fn script_of(alloc: Global, row: &str) -> Result<Vec<u8>, AllocError> {
 }
 
 /// The script prints nothing, and no line of it is bad.
-fn is_silent(rt: &HostRuntime, script: &[u8]) -> Result<(), Fail> {
-    prints(rt, rt.alloc(), script, &PLAIN, Status::Done, b"")
+fn is_silent(rt: &impl Abort, alloc: Global, script: &[u8]) -> Result<(), Fail> {
+    prints(rt, alloc, script, &PLAIN, Status::Done, b"")
 }
 
 /// The script prints this line alone, which names a bad one.
-fn is_bad(rt: &HostRuntime, script: &[u8], line: &[u8]) -> Result<(), Fail> {
-    prints(rt, rt.alloc(), script, &PLAIN, Status::BadScript, line)
+fn is_bad(rt: &impl Abort, alloc: Global, script: &[u8], line: &[u8]) -> Result<(), Fail> {
+    prints(rt, alloc, script, &PLAIN, Status::BadScript, line)
 }
 
 #[test]
 fn good_lines_print_nothing(rt: HostRuntime) -> Result<(), Fail> {
     for row in GOOD.lines() {
         let script = script_of(rt.alloc(), row)?;
-        is_silent(&rt, script.as_slice())?;
+        is_silent(&rt, rt.alloc(), script.as_slice())?;
     }
     Ok(())
 }
@@ -152,7 +153,7 @@ fn bad_lines_are_told_by_number(rt: HostRuntime) -> Result<(), Fail> {
         };
         let script = script_of(rt.alloc(), row)?;
         let want = bad_line(rt.alloc(), number)?;
-        is_bad(&rt, script.as_slice(), want.as_slice())?;
+        is_bad(&rt, rt.alloc(), script.as_slice(), want.as_slice())?;
     }
     Ok(())
 }
@@ -187,9 +188,9 @@ fn settings_of_a_form_are_bounded(rt: HostRuntime) -> Result<(), Fail> {
     ];
     for &(parts, most, want) in &cases {
         let script = many(rt.alloc(), parts, most)?;
-        is_silent(&rt, script.as_slice())?;
+        is_silent(&rt, rt.alloc(), script.as_slice())?;
         let script = many(rt.alloc(), parts, most + 1)?;
-        is_bad(&rt, script.as_slice(), want)?;
+        is_bad(&rt, rt.alloc(), script.as_slice(), want)?;
     }
     Ok(())
 }
