@@ -1,5 +1,5 @@
 -- What the answer of a port does to a connection that wants to send.
-use Rattle.std.proofs.Common.{◌≡◌, ℕ, cond, List, [], ◌∷◌, ◌++◌, length, Option, Some, None, refl, sym, ap, subst, ◌∙◌, nat_lt, Bool, true, false, not, ◌&&◌}
+use Rattle.std.proofs.Common.{◌≡◌, inl, inr, ℕ, cond, List, [], ◌∷◌, ◌++◌, length, Option, Some, None, refl, sym, ap, subst, ◌∙◌, nat_lt, Bool, true, false, not, ◌&&◌}
 use Rattle.std.specs.Prelude.{option_map, nat_le, is_some}
 use Rattle.mq_outside.specs.Counts.{PortCounts}
 use Rattle.mq_outside.specs.Ports.{PortHolds, PortSends, empty_port, after_send}
@@ -7,7 +7,7 @@ use Rattle.mq_talk.specs.declared.place.Cause.TheVariants as cause
 use Rattle.mq_talk.specs.Mails.{IsTold}
 use Rattle.mq_machine.specs.Shared.{put_of, port_answer, port_sent}
 use Rattle.mq_machine.specs.Acting.{holds_of, holding}
-use Rattle.mq_held.specs.Ports.{SendDoes}
+use Rattle.mq_held.specs.Ports.{PortCalls, PutGives, SendDoes}
 use Rattle.mq_outside.specs.declared.PortPut.{PortPut}
 use Rattle.mq_outside.specs.declared.PortPut.TheVariants as put
 use Rattle.mq_talk.specs.declared.note.End.{End}
@@ -97,7 +97,7 @@ long_done : (s : Conn) (n : ℕ) (payload : List ℕ) (f : FrontSend s n payload
 long_done s n payload f answer limit long =
     f.does answer limit ∙ ap (λ (b : Bool). option_map settled_note (cond b (Some (dropped f.behind f.tunnel n cause.TooLong)) (sent f.behind f.tunnel n payload answer))) long
 
-pub long_some : (s : Conn) (n : ℕ) (payload : List ℕ) (f : FrontSend s n payload) (answer : PortPut) (limit : ℕ) → nat_lt limit (length payload) ≡ true
+long_some : (s : Conn) (n : ℕ) (payload : List ℕ) (f : FrontSend s n payload) (answer : PortPut) (limit : ℕ) → nat_lt limit (length payload) ≡ true
     → is_some (done s (Put answer limit)) ≡ true
 long_some s n payload f answer limit long = ap (λ (o : Done). is_some o) (long_done s n payload f answer limit long)
 
@@ -106,11 +106,11 @@ short_done : (s : Conn) (n : ℕ) (payload : List ℕ) (f : FrontSend s n payloa
 short_done s n payload f answer limit short =
     f.does answer limit ∙ ap (λ (b : Bool). option_map settled_note (cond b (Some (dropped f.behind f.tunnel n cause.TooLong)) (sent f.behind f.tunnel n payload answer))) short
 
-pub sent_some : (s : Conn) (n : ℕ) (payload : List ℕ) (f : FrontSend s n payload) (limit : ℕ) → nat_lt limit (length payload) ≡ false
+sent_some : (s : Conn) (n : ℕ) (payload : List ℕ) (f : FrontSend s n payload) (limit : ℕ) → nat_lt limit (length payload) ≡ false
     → is_some (done s (Put put.Sent limit)) ≡ true
 sent_some s n payload f limit short = ap (λ (o : Done). is_some o) (short_done s n payload f put.Sent limit short)
 
-pub failed_some : (s : Conn) (n : ℕ) (payload : List ℕ) (f : FrontSend s n payload) (limit : ℕ) → nat_lt limit (length payload) ≡ false
+failed_some : (s : Conn) (n : ℕ) (payload : List ℕ) (f : FrontSend s n payload) (limit : ℕ) → nat_lt limit (length payload) ≡ false
     → is_some (done s (Put put.Failed limit)) ≡ true
 failed_some s n payload f limit short = ap (λ (o : Done). is_some o) (short_done s n payload f put.Failed limit short)
 
@@ -141,25 +141,25 @@ keeps_long holds p payload long =
     let other : Port = cond q.send_fails (record q { send_fails = false }) (record q { sent = q.sent ++ payload ∷ [] }) in
     ap (λ (b : Bool). holds_of (cond b q other)) long
 
-pub sends_long : (holds : Option PortHolds) (counts : PortCounts) (p : Port) (s : Conn) (n : ℕ) (payload : List ℕ) (said : Note) (t : Conn) (f : FrontSend s n payload)
-    → nat_lt p.limit (length payload) ≡ true → done s (Put put.Failed p.limit) ≡ Some (said, t)
-    → SendDoes (record { holds = holds; after = holds; counts = counts; counts_after = counts }) p s payload said t
-sends_long None counts p s n payload said t f long is = record {
+sends_long : (holds after : Option PortHolds) (counts counts_after : PortCounts) (p : Port) (s : Conn) (n : ℕ) (payload : List ℕ) (said : Note) (t : Conn) (f : FrontSend s n payload)
+    → nat_lt p.limit (length payload) ≡ true → after ≡ holds → counts_after ≡ counts → done s (Put put.Failed p.limit) ≡ Some (said, t)
+    → SendDoes (record { holds = holds; after = after; counts = counts; counts_after = counts_after }) p s payload said t
+sends_long None after counts counts_after p s n payload said t f long rests same is = record {
   holds = empty_port;
   told = tt;
   goes = refl;
   does = does_long empty_port p s n payload said t f long is;
-  tells = tt;
-  counts = ap (λ (b : Bool). cond b counts (after_send counts put.Sent)) (sym long);
+  tells = let P : Option PortHolds → Type 0 = λ o. IsTold o (holds_of (port_sent payload (holding empty_port p))) in subst P (sym rests) tt;
+  counts = same ∙ ap (λ (b : Bool). cond b counts (after_send counts put.Sent)) (sym long);
   fails = λ none is. absurd cc;
 }
-sends_long (Some h) counts p s n payload said t f long is = record {
+sends_long (Some h) after counts counts_after p s n payload said t f long rests same is = record {
   holds = h;
   told = refl;
   goes = waits_long h.send_waits h.send_fails (nat_lt p.limit (length payload)) long;
   does = does_long h p s n payload said t f long is;
-  tells = keeps_long h p payload long;
-  counts = ap (λ (b : Bool). cond b counts (after_send counts (put_of (holding h p)))) (sym long);
+  tells = let P : Option PortHolds → Type 0 = λ o. IsTold o (holds_of (port_sent payload (holding h p))) in subst P (sym rests) (keeps_long h p payload long);
+  counts = same ∙ ap (λ (b : Bool). cond b counts (after_send counts (put_of (holding h p)))) (sym long);
   fails = λ none is. absurd cc;
 }
 
@@ -169,7 +169,7 @@ keeps_sent h p payload short works =
     let both : Bool → Bool → PortHolds = λ b d. holds_of (cond b q (cond d (record q { send_fails = false }) (record q { sent = q.sent ++ payload ∷ [] }))) in
     ap (λ (b : Bool). both b h.send_fails) short ∙ ap (λ (d : Bool). both false d) works
 
-pub sends_sent : (holds after : Option PortHolds) (counts counts_after : PortCounts) (p : Port) (s : Conn) (payload : List ℕ) (said : Note) (t : Conn)
+sends_sent : (holds after : Option PortHolds) (counts counts_after : PortCounts) (p : Port) (s : Conn) (payload : List ℕ) (said : Note) (t : Conn)
     → nat_lt p.limit (length payload) ≡ false → PortSends holds after put.Sent → counts_after ≡ counts → done s (Put put.Sent p.limit) ≡ Some (said, t)
     → SendDoes (record { holds = holds; after = after; counts = counts; counts_after = counts_after }) p s payload said t
 sends_sent None after counts counts_after p s payload said t short sends same is = record {
@@ -201,7 +201,7 @@ keeps_failed h p payload short fails =
     let both : Bool → Bool → PortHolds = λ b d. holds_of (cond b q (cond d (record q { send_fails = false }) (record q { sent = q.sent ++ payload ∷ [] }))) in
     ap (λ (b : Bool). both b h.send_fails) short ∙ ap (λ (d : Bool). both false d) fails
 
-pub sends_failed : (holds after : Option PortHolds) (counts counts_after : PortCounts) (p : Port) (s : Conn) (payload : List ℕ) (said : Note) (t : Conn)
+sends_failed : (holds after : Option PortHolds) (counts counts_after : PortCounts) (p : Port) (s : Conn) (payload : List ℕ) (said : Note) (t : Conn)
     → nat_lt p.limit (length payload) ≡ false → PortSends holds after put.Failed → counts_after ≡ after_send counts put.Failed → done s (Put put.Failed p.limit) ≡ Some (said, t)
     → SendDoes (record { holds = holds; after = after; counts = counts; counts_after = counts_after }) p s payload said t
 sends_failed None after counts counts_after p s payload said t short sends same is =
@@ -226,6 +226,24 @@ sends_failed (Some h) after counts counts_after p s payload said t short sends s
       counts = same ∙ ap (λ (b : Bool). cond b counts (after_send counts put.Failed)) (sym short) ∙ ap (λ (o : PortPut). cond (nat_lt p.limit (length payload)) counts (after_send counts o)) (sym put_is);
       fails = λ none is. absurd cc;
     }
+
+-- ---- how a put went
+
+pub put_some : (c : PortCalls) (s : Conn) (n : ℕ) (payload : List ℕ) (f : FrontSend s n payload) (limit : ℕ) (answer : PortPut) → PutGives c limit payload (Some answer)
+    → is_some (done s (Put answer limit)) ≡ true
+put_some c s n payload f limit answer (inl long) = long_some s n payload f answer limit long.long
+put_some c s n payload f limit put.Sent (inr puts) = sent_some s n payload f limit puts.fits
+put_some c s n payload f limit put.Failed (inr puts) = failed_some s n payload f limit puts.fits
+put_some c s n payload f limit put.NotNow (inr puts) = absurd (puts.ended refl)
+
+pub sends_put : (holds after : Option PortHolds) (counts counts_after : PortCounts) (p : Port) (s : Conn) (n : ℕ) (payload : List ℕ) (said : Note) (t : Conn) (f : FrontSend s n payload) (answer : PortPut)
+    → PutGives (record { holds = holds; after = after; counts = counts; counts_after = counts_after }) p.limit payload (Some answer) → done s (Put answer p.limit) ≡ Some (said, t)
+    → SendDoes (record { holds = holds; after = after; counts = counts; counts_after = counts_after }) p s payload said t
+sends_put holds after counts counts_after p s n payload said t f answer (inl long) is =
+    sends_long holds after counts counts_after p s n payload said t f long.long long.after long.counts (ap (λ (o : PortPut). done s (Put o p.limit)) (sym long.fails) ∙ is)
+sends_put holds after counts counts_after p s n payload said t f put.Sent (inr puts) is = sends_sent holds after counts counts_after p s payload said t puts.fits puts.sends puts.counts is
+sends_put holds after counts counts_after p s n payload said t f put.Failed (inr puts) is = sends_failed holds after counts counts_after p s payload said t puts.fits puts.sends puts.counts is
+sends_put holds after counts counts_after p s n payload said t f put.NotNow (inr puts) is = absurd (puts.ended refl)
 
 pub some_same : {A : Type 0} (a b : A) → Some a ≡ Some b → a ≡ b
 some_same a b is = cc

@@ -1,9 +1,10 @@
 -- What a connection's send and receive on one port give, as the port answers: with what the port told, or, where it told
 -- nothing, with some contents.
-use Rattle.std.specs.Prelude.{◌≡◌, ◌||◌, ⊤, ℕ, true, false, List, [], ◌∷◌, length, nat_lt, if◌then◌else◌, Option, Some, None, Result, Ok, Err}
+use Rattle.std.specs.Prelude.{◌≡◌, ◌≢◌, ◌⊎◌, ◌||◌, ⊤, ℕ, true, false, List, [], ◌∷◌, length, nat_lt, if◌then◌else◌, Option, Some, None, Result, Ok, Err}
 use Rattle.slab.specs.Slab.{Slab, get}
 use Rattle.mq_outside.specs.Counts.{risen, PortCounts}
-use Rattle.mq_outside.specs.Ports.{PortHolds, PortPast, with_last, after_send}
+use Rattle.mq_outside.specs.Ports.{PortHolds, PortPast, PortSends, with_last, after_send}
+use Rattle.mq_outside.specs.declared.PortPut.{PortPut}
 use Rattle.mq_outside.specs.declared.PortPut.TheVariants as put
 use Rattle.mq_talk.specs.declared.note.Note.{Note}
 use Rattle.mq_talk.specs.Mails.{IsTold}
@@ -42,6 +43,25 @@ pub record SendWaits (c : PortCalls) (limit : ℕ) (payload : List ℕ) : Type 0
   pub nothing : TakesNone c.holds
   pub after : c.after ≡ c.holds
   pub counts : c.counts_after ≡ record c.counts { send_waits = risen c.counts.send_waits }
+
+-- the payload is longer than the port takes, which isn't asked then
+pub record IsTooLong (c : PortCalls) (limit : ℕ) (payload : List ℕ) (answer : PortPut) : Type 0 where
+  pub long : nat_lt limit (length payload) ≡ true
+  pub fails : answer ≡ put.Failed
+  pub after : c.after ≡ c.holds
+  pub counts : c.counts_after ≡ c.counts
+
+-- it was asked to take a payload that isn't too long for it, and took it or failed
+pub record TakesOrFails (c : PortCalls) (limit : ℕ) (payload : List ℕ) (answer : PortPut) : Type 0 where
+  pub fits : nat_lt limit (length payload) ≡ false
+  pub ended : answer ≢ put.NotNow
+  pub sends : PortSends c.holds c.after answer
+  pub counts : c.counts_after ≡ after_send c.counts answer
+
+-- what putting a payload into a port gives, which takes at most so many bytes
+abbrev pub PutGives : PortCalls → (limit : ℕ) → (payload : List ℕ) → Option PortPut → Type 0
+PutGives c limit payload None = SendWaits c limit payload
+PutGives c limit payload (Some answer) = IsTooLong c limit payload answer ⊎ TakesOrFails c limit payload answer
 
 -- the payload was sent, or dropped, as the machine does on a port that holds this
 pub record SendDoes (c : PortCalls) (p : Port) (s : Conn) (payload : List ℕ) (said : Note) (t : Conn) : Type 0 where

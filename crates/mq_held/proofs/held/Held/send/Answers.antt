@@ -1,75 +1,29 @@
-use Rattle.std.proofs.Common.{◌≡◌, ◌∙◌, ℕ, true, false, List, length, nat_lt, sym, ap, subst, arith}
+use Rattle.std.proofs.Common.{◌≡◌, ◌∙◌, ℕ, List, Some, sym, ap, subst, arith}
 use Rattle.std.specs.Prelude.{is_some}
-use Rattle.std.proofs.lemmas.Bool.{lt-ltb, le-ltb}
-use Rattle.mq_outside.specs.declared.PortPut.{PortPut}
-use Rattle.mq_outside.specs.declared.PortPut.TheVariants as put
-use Rattle.mq_outside.specs.Ports.{PortSends, after_send}
 use Rattle.mq_machine.specs.Want.{Put}
 use Rattle.mq_machine.specs.Done.{done}
+use Rattle.mq_held.specs.Ports.{PortCalls, PutGives}
 use Rattle.mq_held.proofs.held.Held.send.Goals as goal
-use Rattle.mq_held.proofs.Sending.{some_same, front_send, long_some, sent_some, failed_some, sends_long, sends_sent, sends_failed}
+use Rattle.mq_held.proofs.Sending.{some_same, front_send, put_some, sends_put}
 
-pub returns-then-payload-limit-clause-gives : goal.returns-then-payload-limit-clause-gives
-returns-then-payload-limit-clause-gives g c = λ s stands tunnel n payload want was at most.
+pub returns-clause-gives : goal.returns-clause-gives
+returns-clause-gives g c = λ s stands tunnel n payload want was at most.
     let f = front_send s tunnel n payload want in
+    let answer = c.in_ok-put.put in
     let l = c.in_ok-limit.ensures in
-    let same : was ≡ l.0 = some_same was l.0 (sym at ∙ l.1) in
-    let size : length c.payload-payload.result.now ≡ length payload = ap (λ (xs : List ℕ). length xs) (c.payload-payload.ensures s stands tunnel n payload want) in (
-      was,
-      at,
+    let limit_is : c.in_ok-limit.limit ≡ g.P.P.Port.most was = l.2 ∙ ap g.P.P.Port.most (some_same l.0 was (sym l.1 ∙ at)) in
+    let gives = c.in_ok-put.ensures.gives (omega (arith, most, limit_is)) was at in
+    let calls : PortCalls = record { holds = g.P.P.Port.holds was; after = g.P.P.Port.holds gives.0; counts = g.P.P.Port.counts was; counts_after = g.P.P.Port.counts gives.0 } in (
+      gives.0,
+      gives.1,
       λ p limit.
-          let e : c.in_ok-limit.limit ≡ p.limit = l.2 ∙ ap g.P.P.Port.most (sym same) ∙ sym limit in
-          let long : nat_lt p.limit (length payload) ≡ true = lt-ltb p.limit (length payload) (omega (arith, c.if-payload-limit.true, e, size)) in
-          let d = c.sent.ensures s stands (ap (λ (k : ℕ). is_some (done s (Put put.Failed k))) e ∙ long_some s n payload f put.Failed p.limit long) in
-          (d.0, sends_long (g.P.P.Port.holds was) (g.P.P.Port.counts was) p s n payload c.sent.result d.0 f long (ap (λ (k : ℕ). done s (Put put.Failed k)) (sym e) ∙ d.2), d.1),
-    )
-
-pub returns-in-Some-Sent-clause-gives : goal.returns-in-Some-Sent-clause-gives
-returns-in-Some-Sent-clause-gives g c = λ s stands tunnel n payload want was at most.
-    let f = front_send s tunnel n payload want in
-    let l = c.in_ok-limit.ensures in
-    let same : was ≡ l.0 = some_same was l.0 (sym at ∙ l.1) in
-    let size : length c.payload-payload.result.now ≡ length payload = ap (λ (xs : List ℕ). length xs) (c.payload-payload.ensures s stands tunnel n payload want) in
-    let ch = c.in-Some-Sent.ensures.sends in
-    let here : was ≡ ch.was = some_same was ch.was (sym at ∙ ch.at) in (
-      ch.now,
-      ch.updates.changed,
-      λ p limit.
-          let e : c.in_ok-limit.limit ≡ p.limit = l.2 ∙ ap g.P.P.Port.most (sym same) ∙ sym limit in
-          let short : nat_lt p.limit (length payload) ≡ false = le-ltb p.limit (length payload) (omega (arith, c.if-payload-limit.false, e, size)) in
-          let d = c.sent-in-Some-Sent.ensures s stands (ap (λ (k : ℕ). is_some (done s (Put put.Sent k))) e ∙ sent_some s n payload f p.limit short) in
-          let P : PortPut → Type 0 = λ o. PortSends (g.P.P.Port.holds was) (g.P.P.Port.holds ch.now) o in
-          let sends = subst P c.in-Some-Sent.field-0-is (let Q : g.row.P-P.Denot → Type 0 = λ w. PortSends (g.P.P.Port.holds w) (g.P.P.Port.holds ch.now) c.in-Some-Sent.field-0 in subst Q (sym here) ch.does.0) in
-          let counts : g.P.P.Port.counts ch.now ≡ g.P.P.Port.counts was =
-          ch.does.2 ∙ ap (λ (o : PortPut). after_send (g.P.P.Port.counts ch.was) o) c.in-Some-Sent.field-0-is ∙ ap g.P.P.Port.counts (sym here) in (
+          let e : c.in_ok-limit.limit ≡ p.limit = limit_is ∙ sym limit in
+          let Q : List ℕ → Type 0 = λ xs. PutGives calls c.in_ok-limit.limit xs (Some answer) in
+          let R : ℕ → Type 0 = λ k. PutGives calls k payload (Some answer) in
+          let puts : PutGives calls p.limit payload (Some answer) = subst R e (subst Q (c.payload.ensures s stands tunnel n payload want) gives.2) in
+          let d = c.sent.ensures s stands (ap (λ (k : ℕ). is_some (done s (Put answer k))) e ∙ put_some calls s n payload f p.limit answer puts) in (
             d.0,
-            sends_sent (g.P.P.Port.holds was) (g.P.P.Port.holds ch.now) (g.P.P.Port.counts was) (g.P.P.Port.counts ch.now) p s payload c.sent-in-Some-Sent.result d.0 short sends counts
-                (ap (λ (k : ℕ). done s (Put put.Sent k)) (sym e) ∙ d.2),
-            d.1,
-          ),
-    )
-
-pub returns-in-Some-Failed-clause-gives : goal.returns-in-Some-Failed-clause-gives
-returns-in-Some-Failed-clause-gives g c = λ s stands tunnel n payload want was at most.
-    let f = front_send s tunnel n payload want in
-    let l = c.in_ok-limit.ensures in
-    let same : was ≡ l.0 = some_same was l.0 (sym at ∙ l.1) in
-    let size : length c.payload-payload.result.now ≡ length payload = ap (λ (xs : List ℕ). length xs) (c.payload-payload.ensures s stands tunnel n payload want) in
-    let ch = c.in-Some-Failed.ensures.sends in
-    let here : was ≡ ch.was = some_same was ch.was (sym at ∙ ch.at) in (
-      ch.now,
-      ch.updates.changed,
-      λ p limit.
-          let e : c.in_ok-limit.limit ≡ p.limit = l.2 ∙ ap g.P.P.Port.most (sym same) ∙ sym limit in
-          let short : nat_lt p.limit (length payload) ≡ false = le-ltb p.limit (length payload) (omega (arith, c.if-payload-limit.false, e, size)) in
-          let d = c.sent-in-Some-Failed.ensures s stands (ap (λ (k : ℕ). is_some (done s (Put put.Failed k))) e ∙ failed_some s n payload f p.limit short) in
-          let P : PortPut → Type 0 = λ o. PortSends (g.P.P.Port.holds was) (g.P.P.Port.holds ch.now) o in
-          let sends = subst P c.in-Some-Failed.field-0-is (let Q : g.row.P-P.Denot → Type 0 = λ w. PortSends (g.P.P.Port.holds w) (g.P.P.Port.holds ch.now) c.in-Some-Failed.field-0 in subst Q (sym here) ch.does.0) in
-          let counts : g.P.P.Port.counts ch.now ≡ after_send (g.P.P.Port.counts was) put.Failed =
-          ch.does.2 ∙ ap (λ (o : PortPut). after_send (g.P.P.Port.counts ch.was) o) c.in-Some-Failed.field-0-is ∙ ap (λ (w : g.row.P-P.Denot). after_send (g.P.P.Port.counts w) put.Failed) (sym here) in (
-            d.0,
-            sends_failed (g.P.P.Port.holds was) (g.P.P.Port.holds ch.now) (g.P.P.Port.counts was) (g.P.P.Port.counts ch.now) p s payload c.sent-in-Some-Failed.result d.0 short sends counts
-                (ap (λ (k : ℕ). done s (Put put.Failed k)) (sym e) ∙ d.2),
+            sends_put calls.holds calls.after calls.counts calls.counts_after p s n payload c.sent.result d.0 f answer puts (ap (λ (k : ℕ). done s (Put answer k)) (sym e) ∙ d.2),
             d.1,
           ),
     )
