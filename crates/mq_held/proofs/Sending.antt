@@ -2,16 +2,18 @@
 use Rattle.std.proofs.Common.{◌≡◌, inl, inr, ℕ, cond, List, [], ◌∷◌, ◌++◌, length, Option, Some, None, refl, sym, ap, subst, ◌∙◌, nat_lt, Bool, true, false, not, ◌&&◌}
 use Rattle.std.specs.Prelude.{option_map, nat_le, is_some}
 use Rattle.mq_outside.specs.Counts.{PortCounts}
-use Rattle.mq_outside.specs.Ports.{PortHolds, PortSends, empty_port, after_send}
+use Rattle.mq_outside.specs.Ports.{PortHolds, PortPast, PortSends, empty_port, past_sent, after_send}
 use Rattle.mq_talk.specs.declared.place.Cause.TheVariants as cause
 use Rattle.mq_talk.specs.Mails.{IsTold}
 use Rattle.mq_machine.specs.Shared.{put_of, port_answer, port_sent}
 use Rattle.mq_machine.specs.Acting.{holds_of, holding}
-use Rattle.mq_held.specs.Ports.{PortCalls, PutGives, SendDoes}
+use Rattle.mq_held.specs.Ports.{PortCalls, PutGives, SendDoes, SendsPast}
 use Rattle.mq_outside.specs.declared.PortPut.{PortPut}
 use Rattle.mq_outside.specs.declared.PortPut.TheVariants as put
 use Rattle.mq_talk.specs.declared.note.End.{End}
 use Rattle.mq_talk.specs.declared.note.Note.{Note}
+use Rattle.mq_talk.specs.declared.note.Note.TheVariants as note
+use Rattle.mq_talk.specs.declared.note.From.TheVariants as source
 use Rattle.mq_machine.specs.declared.act.Act.{Act}
 use Rattle.mq_machine.specs.declared.act.Act.TheVariants as act
 use Rattle.mq_machine.specs.declared.act.StreamAct.{StreamAct}
@@ -244,6 +246,26 @@ sends_put holds after counts counts_after p s n payload said t f answer (inl lon
 sends_put holds after counts counts_after p s n payload said t f put.Sent (inr puts) is = sends_sent holds after counts counts_after p s payload said t puts.fits puts.sends puts.counts is
 sends_put holds after counts counts_after p s n payload said t f put.Failed (inr puts) is = sends_failed holds after counts counts_after p s payload said t puts.fits puts.sends puts.counts is
 sends_put holds after counts counts_after p s n payload said t f put.NotNow (inr puts) is = absurd (puts.ended refl)
+
+-- what its note says of what the port sent
+pub sends_past : (c : PortCalls) (old new : PortPast) (s : Conn) (n : ℕ) (payload : List ℕ) (said : Note) (t : Conn) (f : FrontSend s n payload) (limit : ℕ) (answer : PortPut)
+    → PutGives c limit payload (Some answer) → new ≡ past_sent old payload answer → done s (Put answer limit) ≡ Some (said, t) → SendsPast old new (Some said)
+sends_past c old new s n payload said t f limit answer (inl long) past is =
+    let both : ◌≡◌ (Some (settled_note (dropped f.behind f.tunnel n cause.TooLong))) (Some (said, t)) = sym (long_done s n payload f answer limit long.long) ∙ is in
+    let same : settled_note (dropped f.behind f.tunnel n cause.TooLong) ≡ (said, t) = cc in
+    let P : Note × Conn → Type 0 = λ d. SendsPast old new (Some d.0) in
+    subst P same (past ∙ ap (λ (a : PortPut). past_sent old payload a) long.fails)
+sends_past c old new s n payload said t f limit put.Sent (inr puts) past is =
+    let both : ◌≡◌ (option_map settled_note (sent f.behind f.tunnel n payload put.Sent)) (Some (said, t)) = sym (short_done s n payload f put.Sent limit puts.fits) ∙ is in
+    let same : settled_note (note.Sent (source.Tunnel f.tunnel.id) n payload, f.behind) ≡ (said, t) = cc in
+    let P : Note × Conn → Type 0 = λ d. SendsPast old new (Some d.0) in
+    subst P same past
+sends_past c old new s n payload said t f limit put.Failed (inr puts) past is =
+    let both : ◌≡◌ (option_map settled_note (sent f.behind f.tunnel n payload put.Failed)) (Some (said, t)) = sym (short_done s n payload f put.Failed limit puts.fits) ∙ is in
+    let same : settled_note (dropped f.behind f.tunnel n cause.Port) ≡ (said, t) = cc in
+    let P : Note × Conn → Type 0 = λ d. SendsPast old new (Some d.0) in
+    subst P same past
+sends_past c old new s n payload said t f limit put.NotNow (inr puts) past is = absurd (puts.ended refl)
 
 pub some_same : {A : Type 0} (a b : A) → Some a ≡ Some b → a ≡ b
 some_same a b is = cc

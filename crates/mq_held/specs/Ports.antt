@@ -3,10 +3,11 @@
 use Rattle.std.specs.Prelude.{◌≡◌, ◌≢◌, ◌⊎◌, ◌||◌, ⊤, ℕ, true, false, List, [], ◌∷◌, length, nat_lt, if◌then◌else◌, Option, Some, None, Result, Ok, Err}
 use Rattle.slab.specs.Slab.{Slab, get}
 use Rattle.mq_outside.specs.Counts.{risen, PortCounts}
-use Rattle.mq_outside.specs.Ports.{PortHolds, PortPast, PortSends, with_last, after_send}
+use Rattle.mq_outside.specs.Ports.{PortHolds, PortPast, PortSends, with_last, past_sent, after_send}
 use Rattle.mq_outside.specs.declared.PortPut.{PortPut}
 use Rattle.mq_outside.specs.declared.PortPut.TheVariants as put
 use Rattle.mq_talk.specs.declared.note.Note.{Note}
+use Rattle.mq_talk.specs.declared.note.Note.TheVariants as note
 use Rattle.mq_talk.specs.Mails.{IsTold}
 use Rattle.mq_talk.specs.declared.note.From.TheVariants as source
 use Rattle.mq_wire.specs.declared.NoMemory.{NoMemory}
@@ -63,6 +64,11 @@ abbrev pub PutGives : PortCalls → (limit : ℕ) → (payload : List ℕ) → O
 PutGives c limit payload None = SendWaits c limit payload
 PutGives c limit payload (Some answer) = IsTooLong c limit payload answer ⊎ TakesOrFails c limit payload answer
 
+-- what that adds to what the port sent: the payload, where the port took it
+abbrev pub PutsPast : PortPast → PortPast → (payload : List ℕ) → Option PortPut → Type 0
+PutsPast old new payload None = new ≡ old
+PutsPast old new payload (Some answer) = new ≡ past_sent old payload answer
+
 -- the payload was sent, or dropped, as the machine does on a port that holds this
 pub record SendDoes (c : PortCalls) (p : Port) (s : Conn) (payload : List ℕ) (said : Note) (t : Conn) : Type 0 where
   pub holds : PortHolds
@@ -79,6 +85,11 @@ pub record SendDoes (c : PortCalls) (p : Port) (s : Conn) (payload : List ℕ) (
 abbrev pub SendGives : PortCalls → (Conn → Type 0) → (limit : ℕ) → Conn → (payload : List ℕ) → Option Note → Type 0
 SendGives c stands limit s payload None = SendWaits c limit payload × stands s
 SendGives c stands limit s payload (Some said) = (p : Port) → p.limit ≡ limit → (t : Conn) × SendDoes c p s payload said t × stands t
+
+-- what it adds to what the port sent: the payload that its note says was sent, and else nothing
+abbrev pub SendsPast : PortPast → PortPast → Option Note → Type 0
+SendsPast old new (Some (note.Sent from n payload)) = new ≡ record old { sent = with_last old.sent payload }
+SendsPast old new answer = new ≡ old
 
 -- the port under this key takes as long payloads as before
 abbrev pub KeepsMost : {Q : Type 0} → (Q → ℕ) → Slab Q → Slab Q → ℕ → Type 0

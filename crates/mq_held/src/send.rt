@@ -5,7 +5,7 @@ ghost use Rattle.mq_machine.specs.State as machine;
 ghost use Rattle.mq_machine.specs.Want.{want_of, Send};
 ghost use Rattle.mq_conn.specs.Conns.{IsConn};
 ghost use Rattle.mq_ports.specs.Tables.{Changes, IsBalanced};
-ghost use Rattle.mq_held.specs.Ports.{PutGives, SendGives, KeepsMost};
+ghost use Rattle.mq_held.specs.Ports.{PutGives, PutsPast, SendGives, SendsPast, KeepsMost};
 
 use crate::held::Held;
 use mq_outside::{PortPut, Ports};
@@ -22,6 +22,7 @@ fn put<P: Ports>(
 ) -> Option<PortPut>
     ensures gives { limit ≤ 65535 → (was : P.P) → get table.old.table key ≡ Some was
         → (now : P.P) × (get table.new.table key ≡ Some now) × PutGives (record { holds = P.P.holds was; after = P.P.holds now; counts = P.P.counts was; counts_after = P.P.counts now }) limit payload.now result }
+    ensures past { (was : P.P) → get table.old.table key ≡ Some was → (now : P.P) × (get table.new.table key ≡ Some now) × PutsPast (P.P.past was) (P.P.past now) payload.now result }
     ensures kept { KeepsMost P.P.most table.old.table table.new.table key }
     ensures others { (other : ℕ) → other ≢ key → get table.new.table other ≡ get table.old.table other }
     ensures ports { table.new.ports ≡ table.old.ports }
@@ -48,6 +49,9 @@ impl<L> Held<L> {
             → (was : P.P) → get table.old.table key ≡ Some was → P.P.most was ≤ 65535
             → (now : P.P) × (get table.new.table key ≡ Some now) × SendGives (record { holds = P.P.holds was; after = P.P.holds now; counts = P.P.counts was; counts_after = P.P.counts now })
             (IsConn self.new.conn) (P.P.most was) s payload result }
+        ensures past { (s : machine.Conn) → IsConn self.old.conn s → (tunnel n : ℕ) (payload : List ℕ) → want_of s ≡ Send tunnel n payload
+            → (was : P.P) → get table.old.table key ≡ Some was → P.P.most was ≤ 65535
+            → (now : P.P) × (get table.new.table key ≡ Some now) × SendsPast (P.P.past was) (P.P.past now) result }
         ensures rest { self.new ≡ record self.old { conn = self.new.conn } }
         ensures kept { KeepsMost P.P.most table.old.table table.new.table key }
         ensures others { (other : ℕ) → other ≢ key → get table.new.table other ≡ get table.old.table other }
