@@ -6,6 +6,7 @@ use Rattle.std.specs.Vec.{with_item}
 use Rattle.std.specs.VecDeque.{deque_with_item}
 use Rattle.std.specs.declared.alloc.Global.{Global}
 use Rattle.std.specs.declared.collections.VecDeque.{VecDeque}
+use Rattle.std.specs.declared.vec.Vec.{Vec}
 use Rattle.std.proofs.lemmas.Bool.{ltb-true, ltb-false}
 use Rattle.std.proofs.Math.Seq.{drop-cons}
 use Rattle.std.proofs.lemmas.List.{nil_from_length}
@@ -19,6 +20,7 @@ use Rattle.mq_held.specs.declared.held.Held.{Held as HeldBy}
 use Rattle.mq_held.specs.declared.held.PortSeat.{PortSeat}
 use Rattle.mq_actor.specs.declared.offer.Offer.{Offer as OfferBy}
 use Rattle.mq_actor.specs.declared.ring.Ring.{Ring}
+use Rattle.mq_actor.specs.Conns.{with_link_of}
 use Rattle.mq_actor.specs.Offers.{with_link_at}
 use Rattle.mq_actor.specs.Lent.{conn_at, link_at, with_link, with_conn_link, with_offer_link}
 use Rattle.mq_actor.proofs.Pointwise.{there}
@@ -76,11 +78,15 @@ module _ {A : Type 0} (p : A → Bool) (xs : List A) where
 -- ---- links
 
 module _ {L : Type 0} (r : Ring L) where
+  conn_by : (place : ℕ) (link : L) (o : Option (HeldBy L))
+      → record r { conns = option_map_or (λ (h : HeldBy L). with_item r.conns place (record h { link = link })) o r.conns }
+      ≡ option_map_or (λ (h : HeldBy L). record r { conns = with_item r.conns place (record h { link = link }) }) o r
+  conn_by place link None = refl
+  conn_by place link (Some h) = refl
+
   -- with a link of the connection at a place
-  pub conn_link : (place : ℕ) (h : HeldBy L) (link : L) → slice_get r.conns.items place ≡ Some h
-      → record r { conns = with_item r.conns place (record h { link = link }) } ≡ with_conn_link r place link
-  conn_link place h link at =
-      ap {B = Ring L} (λ (o : Option (HeldBy L)). option_map_or (λ (g : HeldBy L). record r { conns = with_item r.conns place (record g { link = link }) }) o r) (sym at)
+  pub conn_link : (place : ℕ) (link : L) → record r { conns = with_link_of r.conns place link } ≡ with_conn_link r place link
+  conn_link place link = conn_by place link (slice_get r.conns.items place)
 
   offer_by : (place : ℕ) (link : L) (o : Option (OfferBy L))
       → record r { offered = option_map_or (λ (f : OfferBy L). deque_with_item r.offered place (record f { link = link })) o r.offered }
@@ -91,6 +97,12 @@ module _ {L : Type 0} (r : Ring L) where
   -- with a link of the offer at a place
   pub offer_link : (place : ℕ) (link : L) → record r { offered = with_link_at r.offered place link } ≡ with_offer_link r place link
   offer_link place link = offer_by place link (slice_get r.offered.items place)
+
+-- the connections with a link of one of them
+pub conn_there : {L : Type 0} (hs : Vec (HeldBy L) Global) (place : ℕ) (h : HeldBy L) (link : L) → slice_get hs.items place ≡ Some h
+    → with_item hs place (record h { link = link }) ≡ with_link_of hs place link
+conn_there {L} hs place h link at =
+    ap {B = Vec (HeldBy L) Global} (λ (o : Option (HeldBy L)). option_map_or (λ (g : HeldBy L). with_item hs place (record g { link = link })) o hs) (sym at)
 
 -- the offers with a link of one of them
 pub offer_there : {L : Type 0} (fs : VecDeque (OfferBy L) Global) (place : ℕ) (f : OfferBy L) (link : L) → slice_get fs.items place ≡ Some f

@@ -49,6 +49,7 @@ pub mod Sights
 pub mod Plain
 mod Leaving
 mod Rising
+mod Beginnings
 pub mod Lending
 pub mod Lends
 pub mod Able

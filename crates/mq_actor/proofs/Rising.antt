@@ -29,8 +29,8 @@ before fs n i d point k lt =
     let less : (slice_index_or fs k d).number < n = ltb-true _ n (point.0 k d (omega arith) lt) in
     ne_eqb _ n (λ e. omega (arith, less, e))
 
-first_at : {L : Type 0} (p : OfferBy L → Bool) (fs : List (OfferBy L)) (i : ℕ) → position_or_len p fs ≡ i → position p fs ≡ cond (nat_lt i (length fs)) (Some i) None
-first_at p fs i e = ap (λ (l : ℕ). cond (nat_lt l (length fs)) (Some l) None) e
+pub first_at : {A : Type 0} (p : A → Bool) (xs : List A) (i : ℕ) → position_or_len p xs ≡ i → position p xs ≡ cond (nat_lt i (length xs)) (Some i) None
+first_at p xs i e = ap (λ (l : ℕ). cond (nat_lt l (length xs)) (Some l) None) e
 
 not_below : (l : ℕ) → nat_lt l l ≡ false
 not_below l = by (nat_lt l l) refl where

@@ -7,6 +7,9 @@ pub mod Seats
 pub mod Steps
 pub mod Plain
 pub mod Ended
+pub mod Rising
 pub mod Offers
+pub mod Conns
+pub mod Beginnings
 pub mod Lent
 pub mod Ready

@@ -1,14 +1,15 @@
 -- Offered links whose numbers rise, and one whose link became another.
-use Rattle.std.specs.Prelude.{◌≡◌, ℕ, ◌<◌, List, slice_get, Some}
+use Rattle.std.specs.Prelude.{ℕ, List, slice_get}
 use Rattle.std.specs.Option.{option_map_or}
 use Rattle.std.specs.VecDeque.{deque_with_item}
 use Rattle.std.specs.declared.alloc.Global.{Global}
 use Rattle.std.specs.declared.collections.VecDeque.{VecDeque}
 use Rattle.mq_actor.specs.declared.offer.Offer.{Offer as OfferBy}
+use Rattle.mq_actor.specs.Rising.{RiseBy}
 
 -- each has a higher number than those before it
 abbrev pub Rise : {L : Type 0} → List (OfferBy L) → Type 0
-Rise {L} fs = (i j : ℕ) (f g : OfferBy L) → slice_get fs i ≡ Some f → slice_get fs j ≡ Some g → i < j → f.number < g.number
+Rise {L} fs = RiseBy (λ (f : OfferBy L). f.number) fs
 
 -- the offers with this link of the one at a place
 abbrev pub with_link_at : {L : Type 0} → VecDeque (OfferBy L) Global → ℕ → L → VecDeque (OfferBy L) Global

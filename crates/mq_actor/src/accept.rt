@@ -40,10 +40,7 @@ impl<L: Drop> Ring<L> {
             unreachable!()
         };
         let Offer { number, link } = offer;
-        match self.conns.push(Held::new(alloc, number, conn, link)) {
-            Ok(()) => {}
-            Err(_) => unreachable!(),
-        }
+        self.conns.push(Held::new(alloc, number, conn, link));
         self.next_seat = 1;
     }
 
@@ -82,7 +79,7 @@ impl<L: Drop> Ring<L> {
             return Ok(false);
         };
         let conn = Conn::new(alloc, number, self.id)?;
-        self.conns.reserve(1)?;
+        self.conns.reserve()?;
         self.take_in(alloc, conn);
         *told = Some(Note::Accepted {
             conn: number,

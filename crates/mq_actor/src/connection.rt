@@ -22,48 +22,6 @@ use mq_wire::NoMemory;
 use std::alloc::Global;
 
 impl<L: WriteReady> Ring<L> {
-    /// The connection at a place does the first of its tries that can be done.
-    fn turn_at<P: Ports, O: Office, M: Mail>(
-        &mut self,
-        alloc: Global,
-        place: usize,
-        table: &mut PortTable<P>,
-        office: &mut O,
-        mail: &mut M,
-        told: &mut Option<Note>,
-    ) -> Result<Stepped, NoMemory>
-    where
-        P::P: ReceiveReady,
-        requires known { AreKnown (record { most = P.P.most; link = L.holds; link_counts = L.counts; port = P.P.holds; port_counts = P.P.counts }) (record { conns = self.old.conns.items; table = table.old.table; binds = binder P.holds P.faults table.old.ports; seen = O.seen office.old; boxes = M.boxes mail.old }) }
-        requires ports { HaveOwnPorts self.old.conns.items }
-        requires rooms { HasRooms self.old.rooms }
-        requires inboxes { HasInboxes (O.seen office.old) (M.count mail.old) (M.boxes mail.old) }
-        requires pump { self.old.setup.pump ≡ (O.seen office.old).config.workers }
-        requires place { place < vec_len self.old.conns }
-        ensures turns { TurnsAt (record { most = P.P.most; link = L.holds; link_counts = L.counts; port = P.P.holds; port_counts = P.P.counts }) self.old.setup place (record { conns = self.old.conns.items; table = table.old.table; binds = binder P.holds P.faults table.old.ports; seen = O.seen office.old; boxes = M.boxes mail.old }) (record { conns = self.new.conns.items; table = table.new.table; binds = binder P.holds P.faults table.new.ports; seen = O.seen office.new; boxes = M.boxes mail.new }) (stepped_with result told.new) }
-        ensures told { IfOk result (λ stepped. stepped ≢ Stepped.Quiet → is_some told.new ≡ true) }
-        ensures rest { self.new ≡ record self.old { conns = self.new.conns; rooms = self.new.rooms } }
-        ensures ports { HaveOwnPorts self.new.conns.items }
-        ensures rooms { HasRooms self.new.rooms }
-        ensures actor { (O.seen office.new).actor ≡ (O.seen office.old).actor }
-        ensures sound { IsSound (O.seen office.old) → IsSound (O.seen office.new) }
-        ensures mail { (M.actor mail.new ≡ M.actor mail.old) × (M.count mail.new ≡ M.count mail.old) × (M.missed mail.new ≡ M.missed mail.old) }
-        ensures inboxes { HasInboxes (O.seen office.new) (M.count mail.new) (M.boxes mail.new) }
-        ensures balanced { IsBalanced P.P.place (P.past table.old.ports) table.old.table.slots → IsBalanced P.P.place (P.past table.new.ports) table.new.table.slots }
-    {
-        let held = &mut self.conns[place];
-        step(
-            alloc,
-            held,
-            &self.setup,
-            &mut self.rooms,
-            table,
-            office,
-            mail,
-            told,
-        )
-    }
-
     /// The connection at a place, which is over, leaves the ring, and is kept until its link is taken.
     #[inline(never)]
     fn leave(&mut self, place: usize)
@@ -72,7 +30,7 @@ impl<L: WriteReady> Ring<L> {
         ensures kept { self.new.ended ≡ slice_get self.old.conns.items place }
         ensures rest { self.new ≡ record self.old { conns = self.new.conns; ended = self.new.ended } }
     {
-        self.ended = Some(self.conns.remove(place));
+        self.ended = Some(self.conns.take(place));
     }
 
     /// The connection at a place has its turn. Where it does something, the ring begins with the seat behind its own from then on.
@@ -105,8 +63,17 @@ impl<L: WriteReady> Ring<L> {
         ensures inboxes { HasInboxes (O.seen office.new) (M.count mail.new) (M.boxes mail.new) }
         ensures balanced { IsBalanced P.P.place (P.past table.old.ports) table.old.table.slots → IsBalanced P.P.place (P.past table.new.ports) table.new.table.slots }
     {
-        let seat = seat_of(self.conns[place].number);
-        match self.turn_at(alloc, place, table, office, mail, told)? {
+        let seat = seat_of(self.conns.at(place).number);
+        match self.conns.turn_at(
+            alloc,
+            place,
+            &self.setup,
+            &mut self.rooms,
+            table,
+            office,
+            mail,
+            told,
+        )? {
             Stepped::Quiet => Ok(false),
             Stepped::Did => {
                 self.next_seat = seat + 1;
@@ -150,7 +117,7 @@ impl<L: WriteReady> Ring<L> {
         ensures inboxes { HasInboxes (O.seen office.new) (M.count mail.new) (M.boxes mail.new) }
         ensures balanced { IsBalanced P.P.place (P.past table.old.ports) table.old.table.slots → IsBalanced P.P.place (P.past table.new.ports) table.new.table.slots }
     {
-        let seat = seat_of(self.conns[place].number);
+        let seat = seat_of(self.conns.at(place).number);
         if !is_in(seat, self.next_seat, upper) {
             return Ok(false);
         }

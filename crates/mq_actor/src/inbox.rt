@@ -1,19 +1,18 @@
 //! The turn of the inbox.
-ghost use Rattle.std.specs.Prelude.{◌≡◌, ◌<◌, true, Some, is_some};
-ghost use Rattle.std.specs.Vec.{vec_len};
+ghost use Rattle.std.specs.Prelude.{◌≡◌, true, Some, is_some};
 ghost use Rattle.mq_talk.specs.declared.note.Note.{Note as Said};
 ghost use Rattle.mq_talk.specs.declared.note.Note.TheVariants as note;
 ghost use Rattle.mq_talk.specs.declared.place.Cause.TheVariants as cause;
 ghost use Rattle.mq_machine.specs.Turn.{source_of as source_is};
 ghost use Rattle.mq_held.specs.Notes.{note_by};
 ghost use Rattle.mq_actor.specs.Passing.{is_in_part};
-ghost use Rattle.mq_actor.specs.Seats.{ComesAt, ComesTo, InboxGives, IsPlaceWith, missed_at};
+ghost use Rattle.mq_actor.specs.Seats.{ComesTo, InboxGives, IsPlaceWith, missed_at};
 
 use crate::ring::{Ring, is_in};
 use mq_talk::{Cause, From, Mail, Note, Origin, Parcel, Place};
 
 /// Whose packet it is, as a note says it.
-fn source_of(origin: Origin) -> From
+pub(crate) fn source_of(origin: Origin) -> From
     ensures { result ≡ source_is origin }
 {
     match origin {
@@ -39,22 +38,11 @@ impl<L: Drop> Ring<L> {
         ensures { IsPlaceWith self.now.conns.items tunnel result }
     {
         for place in 0..self.conns.len() {
-            if self.conns[place].conn.is_live(tunnel) {
+            if self.conns.at(place).conn.is_live(tunnel) {
                 return Some(place);
             }
         }
         None
-    }
-
-    /// A packet comes to this tunnel of the connection at a place.
-    fn come_at(&mut self, place: usize, tunnel: u32, parcel: Parcel) -> Note
-        requires { place < vec_len self.old.conns }
-        ensures comes { ComesAt place tunnel parcel self.old.conns.items self.new.conns.items result }
-        ensures rest { self.new ≡ record self.old { conns = self.new.conns } }
-    {
-        let held = &mut self.conns[place];
-        held.conn
-            .deliver(source_of(parcel.from), parcel.n, tunnel, parcel.packet)
     }
 
     /// A packet comes to its tunnel, where a connection has that.
@@ -67,7 +55,7 @@ impl<L: Drop> Ring<L> {
         };
         match self.place_with(tunnel) {
             None => gone(source_of(parcel.from), parcel.n),
-            Some(place) => self.come_at(place, tunnel, parcel),
+            Some(place) => self.conns.come_at(place, tunnel, parcel),
         }
     }
 

@@ -6,6 +6,7 @@ mod accept;
 mod actor;
 mod close;
 mod connection;
+mod conns;
 mod inbox;
 mod lend;
 mod offer;
@@ -18,6 +19,7 @@ mod seek;
 mod step;
 
 pub use actor::Actor;
+pub use conns::Conns;
 pub use offer::Offer;
 pub use offers::Offers;
 pub use ready::{ReadReady, SendReady};

@@ -1,32 +1,22 @@
 //! The connections of a part of the ring.
-ghost use Rattle.std.specs.Prelude.{◌≡◌, ◌+◌, Some, position};
+ghost use Rattle.std.specs.Prelude.{◌≡◌, Some};
 ghost use Rattle.mq_talk.specs.Offices.{IsSound};
 ghost use Rattle.mq_machine.specs.Acting.{binder};
 ghost use Rattle.mq_ports.specs.Tables.{IsBalanced};
 ghost use Rattle.mq_held.specs.Notes.{HasNote, note_with};
 ghost use Rattle.mq_step.specs.Holds.{HasInboxes};
 ghost use Rattle.mq_step.specs.Rooms.{HasRooms};
+ghost use Rattle.mq_actor.specs.Beginnings.{first_place};
 ghost use Rattle.mq_actor.specs.Holds.{HaveOwnPorts};
-ghost use Rattle.mq_actor.specs.Passing.{AreKnown, PassGives, is_in_part};
+ghost use Rattle.mq_actor.specs.Passing.{AreKnown, PassGives};
 
-use crate::ring::{Ring, is_in, seat_of};
+use crate::ring::Ring;
 use mq_held::{ReceiveReady, WriteReady};
 use mq_outside::Ports;
 use mq_ports::PortTable;
 use mq_talk::{Mail, Note, Office};
 use mq_wire::NoMemory;
 use std::alloc::Global;
-
-impl<L: Drop> Ring<L> {
-    /// The place of the first connection whose seat is in this part of the ring.
-    fn first_in(&self, upper: bool) -> Option<usize>
-        ensures { result ≡ position (λ h. is_in_part upper self.now.next_seat (h.number + 2)) self.now.conns.items }
-    {
-        self.conns
-            .iter()
-            .position(|held| is_in(seat_of(held.number), self.next_seat, upper))
-    }
-}
 
 impl<L: WriteReady> Ring<L> {
     /// From this place on, where its first connection is, the first connection of this part of the ring that can do something
@@ -44,7 +34,7 @@ impl<L: WriteReady> Ring<L> {
     ) -> Result<bool, NoMemory>
     where
         P::P: ReceiveReady,
-        requires first { position (λ h. is_in_part upper self.old.next_seat (h.number + 2)) self.old.conns.items ≡ Some first }
+        requires first { first_place upper self.old.next_seat self.old.conns.items ≡ Some first }
         requires known { AreKnown (record { most = P.P.most; link = L.holds; link_counts = L.counts; port = P.P.holds; port_counts = P.P.counts }) (record { conns = self.old.conns.items; table = table.old.table; binds = binder P.holds P.faults table.old.ports; seen = O.seen office.old; boxes = M.boxes mail.old }) }
         requires ports { HaveOwnPorts self.old.conns.items }
         requires rooms { HasRooms self.old.rooms }
@@ -98,7 +88,7 @@ impl<L: WriteReady> Ring<L> {
         ensures inboxes { HasInboxes (O.seen office.new) (M.count mail.new) (M.boxes mail.new) }
         ensures balanced { IsBalanced P.P.place (P.past table.old.ports) table.old.table.slots → IsBalanced P.P.place (P.past table.new.ports) table.new.table.slots }
     {
-        let Some(first) = self.first_in(upper) else {
+        let Some(first) = self.conns.first_in(self.next_seat, upper) else {
             return Ok(false);
         };
         self.pass_from(first, alloc, upper, table, office, mail, told)

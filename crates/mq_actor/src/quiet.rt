@@ -167,7 +167,7 @@ impl<L: WriteReady + ReadReady> Ring<L> {
             → result ≡ is_some (find (λ s. is_some (try_of s)) ss) }
     {
         for place in 0..self.conns.len() {
-            if could_act(&self.conns[place], table) {
+            if could_act(self.conns.at(place), table) {
                 return true;
             }
         }

@@ -3,6 +3,7 @@ ghost use Rattle.std.specs.Prelude.{◌≡◌, ◌+◌, ◌++◌, ◌∷◌, [],
 ghost use Rattle.mq_step.specs.Rooms.{HasRooms};
 ghost use Rattle.mq_actor.specs.Passing.{is_in_part};
 
+use crate::conns::Conns;
 use crate::offer::Offer;
 use crate::offers::Offers;
 use mq_held::Held;
@@ -24,7 +25,7 @@ pub struct Ring<L> {
     /// Oldest first.
     pub offered: Offers<L>,
     /// As they were accepted.
-    pub conns: Vec<Held<L>>,
+    pub conns: Conns<L>,
     /// The seat from which the next search begins.
     pub next_seat: u64,
     /// The connection that the last step ended, until its link is taken.
@@ -41,7 +42,7 @@ impl<L: Drop> Ring<L> {
             setup,
             rooms: Rooms::new(alloc)?,
             offered: Offers::new(alloc),
-            conns: Vec::new(alloc),
+            conns: Conns::new(alloc),
             next_seat: 0,
             ended: None,
         })

@@ -29,21 +29,13 @@ fn seat_among(seats: &[PortSeat], tunnel: u32) -> Option<PortSeat>
 }
 
 impl<L: Drop> Ring<L> {
-    /// The place of the connection with this number.
-    fn place_of(&self, number: u32) -> Option<usize>
-        ensures { result ≡ position (λ h. h.number == number) self.now.conns.items }
-    {
-        self.conns.iter().position(|held| held.number == number)
-    }
-
     /// The link of the connection at this place.
     fn link_of(&mut self, place: usize) -> &mut L
         requires { place < vec_len self.old.conns }
         ensures* writes_back { sem 𝓛 (Lends (the_row L.row) L.row self.entry result (with_conn_link self.old place)) }
         ensures value { (h : HeldBy L) → slice_get self.old.conns.items place ≡ Some h → result.now ≡ h.link }
     {
-        let held = &mut self.conns[place];
-        &mut held.link
+        self.conns.link(place)
     }
 
     /// The link of the offer at this place.
@@ -60,7 +52,7 @@ impl<L: Drop> Ring<L> {
         ensures* writes_back { sem 𝓛 (LendsIf (the_row L.row) L.row self.entry result (with_link number self.old) self.old) }
         ensures value { option_copied_mut result ≡ link_at number self.old }
     {
-        if let Some(place) = self.place_of(number) {
+        if let Some(place) = self.conns.place_of(number) {
             return Some(self.link_of(place));
         }
         let place = self.offered.place_of(number)?;
@@ -71,8 +63,8 @@ impl<L: Drop> Ring<L> {
     pub(crate) fn link_at(&self, number: u32) -> Option<&L>
         ensures { option_copied result ≡ link_at number self.now }
     {
-        if let Some(place) = self.place_of(number) {
-            return Some(&self.conns[place].link);
+        if let Some(place) = self.conns.place_of(number) {
+            return Some(&self.conns.at(place).link);
         }
         let place = self.offered.place_of(number)?;
         Some(self.offered.link_at(place))
@@ -82,8 +74,8 @@ impl<L: Drop> Ring<L> {
     pub(crate) fn conn_at(&self, number: u32) -> Option<&Conn>
         ensures { option_copied result ≡ conn_at number self.now }
     {
-        let place = self.place_of(number)?;
-        Some(&self.conns[place].conn)
+        let place = self.conns.place_of(number)?;
+        Some(&self.conns.at(place).conn)
     }
 
     /// The seat of the port of this live tunnel.
@@ -91,7 +83,7 @@ impl<L: Drop> Ring<L> {
         ensures { result ≡ seat_at tunnel self.now }
     {
         for place in 0..self.conns.len() {
-            if let Some(seat) = seat_among(self.conns[place].ports.as_slice(), tunnel) {
+            if let Some(seat) = seat_among(self.conns.at(place).ports.as_slice(), tunnel) {
                 return Some(seat);
             }
         }

@@ -5,6 +5,7 @@ use Rattle.std.specs.Vec.{with_item}
 use Rattle.std.specs.VecDeque.{deque_with_item}
 use Rattle.std.specs.declared.alloc.Global.{Global}
 use Rattle.std.specs.declared.collections.VecDeque.{VecDeque}
+use Rattle.std.specs.declared.vec.Vec.{Vec}
 use Rattle.std.proofs.lemmas.Bool.{eq-eqb, ne_eqb, eqb-true}
 use Rattle.std.proofs.lemmas.List.Elements.{All-map, All-weaker}
 use Rattle.slab.specs.Slab.{Slab}
@@ -15,12 +16,18 @@ use Rattle.mq_actor.specs.declared.offer.Offer.{Offer as OfferBy}
 use Rattle.mq_actor.specs.declared.ring.Ring.{Ring}
 use Rattle.mq_actor.specs.Ended.{conn_numbers, offer_numbers, numbers_in}
 use Rattle.mq_actor.specs.Holds.{IsWorker, AreHeld, AreOffered, numbers_of}
-use Rattle.mq_actor.specs.Lent.{link_at, with_link, with_offer_link}
+use Rattle.mq_actor.specs.Lent.{link_at, with_link, with_conn_link, with_offer_link}
 use Rattle.mq_actor.specs.Seen.{Words}
 use Rattle.mq_actor.specs.Told.{TellPorts, TellsConn, TellConns, TellOffers, TellsRing}
-use Rattle.mq_actor.proofs.Lending.{found, missing, at_conn, at_offer as offer_found, at_none, conn_link, offer_link, offer_there}
+use Rattle.mq_actor.proofs.Lending.{found, missing, at_conn, at_offer as offer_found, at_none, conn_link, conn_there, offer_link, offer_there}
 use Rattle.mq_actor.proofs.Lists.{get_map}
 use Rattle.mq_play.specs.Events.{at_offer, at_held, at_worker}
+
+-- the ring with a link of the connection at a place
+conn_put : {L : Type 0} (r : Ring L) (place : ℕ) (h : HeldBy L) (link : L) → slice_get r.conns.items place ≡ Some h
+    → record r { conns = with_item r.conns place (record h { link = link }) } ≡ with_conn_link r place link
+conn_put {L} r place h link at =
+    ap {B = Ring L} (λ (hs : Vec (HeldBy L) Global). record r { conns = hs }) (conn_there r.conns place h link at) ∙ conn_link r place link
 
 -- the ring with a link of the offer at a place
 offer_put : {L : Type 0} (r : Ring L) (place : ℕ) (f : OfferBy L) (link : L) → slice_get r.offered.items place ≡ Some f
@@ -272,7 +279,7 @@ module _ {L Q : Type 0} (words : Words L Q) (table : Slab Q) (r : Ring L) (w : W
           let links : Some f.0.link ≡ Some was = sym f.2 ∙ lent in
           let link : f.0.link ≡ was = cc in
           let F : (L → Ring L) → Type 0 = λ make. T (make now) in
-          subst F f.3 (subst T (conn_link r i f.0 now f.1) (conn_linked i f.0 f.1 (ap (λ (h : HeldBy L). h.number) (sym e) ∙ passes) link))
+          subst F f.3 (subst T (conn_put r i f.0 now f.1) (conn_linked i f.0 f.1 (ap (λ (h : HeldBy L). h.number) (sym e) ∙ passes) link))
       by_place None (Some i) at_o at_u =
           let f = offer_found r number i at_o at_u in
           let x = found (λ (g : OfferBy L). g.number == number) r.offered.items i at_u in
@@ -319,7 +326,7 @@ module _ {L : Type 0} (r : Ring L) (number : ℕ) (now : L) where
     by_place (Some i) u at_o at_u =
         let f = at_conn r number i at_o in
         let F : (L → Ring L) → Type 0 = λ make. Same (make now) in
-        subst F f.3 (subst Same (conn_link r i f.0 now f.1) (record {
+        subst F f.3 (subst Same (conn_put r i f.0 now f.1) (record {
           id = refl;
           numbers = ap (λ (ns : List ℕ). ns ++ offer_numbers r) (map_set (λ (h : HeldBy L). h.number) r.conns.items i f.0 (record f.0 { link = now }) f.1 refl);
         }))

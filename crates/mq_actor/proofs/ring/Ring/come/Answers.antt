@@ -8,5 +8,5 @@ returns-in-None-clause-comes g c =
 
 pub returns-in-Some-clause-comes : goal.returns-in-Some-clause-comes
 returns-in-Some-clause-comes g c =
-    comes_first c.args.parcel c.in-Tunnel.tunnel c.in-Tunnel.actor c.in-Some.place c.args.self.now.conns.items c.come_at.new.self.conns.items c.come_at.result
-    c.in-Tunnel.is c.in-Some.ensures c.come_at.ensures.comes
+    comes_first c.args.parcel c.in-Tunnel.tunnel c.in-Tunnel.actor c.in-Some.place c.args.self.now.conns.items c.come_at.new.self.items c.come_at.result
+    c.in-Tunnel.is c.in-Some.ensures c.come_at.ensures

@@ -1,5 +1,4 @@
-use Rattle.std.proofs.Common.{Option, Some, refl, sym, ap, ◌∙◌}
-use Rattle.std.proofs.lemmas.Option.{get_or_from_slice_get}
+use Rattle.std.proofs.Common.{◌≡◌, Option, Some, refl, sym, ap, ◌∙◌}
 use Rattle.mq_conn.specs.declared.conn.Conn.{Conn as Core}
 use Rattle.mq_held.specs.declared.held.Held.{Held as HeldBy}
 use Rattle.mq_actor.proofs.Lending.{core_there, core_none}
@@ -12,7 +11,7 @@ returns-in_err-place g c =
 
 pub returns : goal.returns
 returns g c =
-    let r = c.args.self.now in
-    let x = core_there r c.args.number c.in_ok-place.place (sym c.in_ok-place.ensures) in
-    let is = c.index.ensures ∙ get_or_from_slice_get r.conns.items c.in_ok-place.place x.0 c.index.result.now x.1 in
+    let x = core_there c.args.self.now c.args.number c.in_ok-place.place (sym c.in_ok-place.ensures) in
+    let both : ◌≡◌ (Some c.at.result.now) (Some x.0) = sym c.at.ensures ∙ x.1 in
+    let is : c.at.result.now ≡ x.0 = cc in
     ap {B = Option Core} (λ (h : HeldBy g.row.L.Denot). Some h.conn) is ∙ sym x.2

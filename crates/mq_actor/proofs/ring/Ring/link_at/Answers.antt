@@ -1,5 +1,4 @@
-use Rattle.std.proofs.Common.{Option, Some, refl, sym, ap, ◌∙◌}
-use Rattle.std.proofs.lemmas.Option.{get_or_from_slice_get}
+use Rattle.std.proofs.Common.{◌≡◌, Option, Some, refl, sym, ap, ◌∙◌}
 use Rattle.mq_held.specs.declared.held.Held.{Held as HeldBy}
 use Rattle.mq_actor.proofs.Lending.{at_conn, at_offer, at_none}
 use Rattle.mq_actor.proofs.ring.Ring.link_at.Goals as goal
@@ -8,7 +7,8 @@ pub returns-in-Some : goal.returns-in-Some
 returns-in-Some g c =
     let r = c.args.self.now in
     let x = at_conn r c.args.number c.in-Some.place (sym c.place_of.ensures ∙ c.in-Some.is) in
-    let is = c.index.ensures ∙ get_or_from_slice_get r.conns.items c.in-Some.place x.0 c.index.result.now x.1 in
+    let both : ◌≡◌ (Some c.at.result.now) (Some x.0) = sym c.at.ensures ∙ x.1 in
+    let is : c.at.result.now ≡ x.0 = cc in
     ap {B = Option g.row.L.Denot} (λ (h : HeldBy g.row.L.Denot). Some h.link) is ∙ sym x.2
 
 pub returns-in_err-place : goal.returns-in_err-place

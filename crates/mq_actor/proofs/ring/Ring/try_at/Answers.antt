@@ -1,26 +1,18 @@
-use Rattle.std.proofs.Common.{rules, ◌≡◌, false, true, length, Some, slice_get, refl, arith}
-use Rattle.std.specs.Vec.{vec_len}
-use Rattle.mq_actor.proofs.OwnPorts.{at_index}
+use Rattle.std.proofs.Common.{false, true, refl}
 use Rattle.mq_actor.proofs.Turns.{seat_part, try_skips}
 use Rattle.mq_actor.proofs.ring.Ring.try_at.Goals as goal
 
 pub returns-then-not-is_in-clause-gives : goal.returns-then-not-is_in-clause-gives
 returns-then-not-is_in-clause-gives g c =
-    let conns = c.args.self.now.conns.items in
-    let held = c.index.result.now in
-    let len : vec_len c.args.self.now.conns ≡ length conns = search rules in
-    let place = c.requires.place in
-    let at : slice_get conns c.args.place ≡ Some held = at_index conns c.args.place held (omega (arith, len, place)) c.index.ensures in
+    let held = c.at.result.now in
+    let at = c.at.ensures in
     let from = c.args.self.now.next_seat in
     let part = seat_part c.args.upper from held.number c.seat_of-seat.result c.is_in.result false c.seat_of-seat.ensures c.is_in.ensures c.if-not-is_in.true in
     (try_skips _ _ c.args.upper from c.args.place held at part, refl)
 
 pub returns-clause-gives : goal.returns-clause-gives
 returns-clause-gives g c =
-    let conns = c.args.self.now.conns.items in
-    let held = c.index.result.now in
-    let len : vec_len c.args.self.now.conns ≡ length conns = search rules in
-    let place = c.requires.place in
-    let at : slice_get conns c.args.place ≡ Some held = at_index conns c.args.place held (omega (arith, len, place)) c.index.ensures in
+    let held = c.at.result.now in
+    let at = c.at.ensures in
     let part = seat_part c.args.upper c.args.self.now.next_seat held.number c.seat_of-seat.result c.is_in.result true c.seat_of-seat.ensures c.is_in.ensures c.if-not-is_in.false in
     c.act_at.ensures.gives c.args.upper held at part
