@@ -41,12 +41,15 @@ impl Workers {
         let _legal = self.office.book().history();
     }
 
-    /// The pump takes a step, whose note is put into `told`.
+    /// The pump takes a step, whose note is put into `told`. Most of the time it has none, which is asked first.
     #[inline(never)]
     pub(crate) fn pump(&mut self, told: &mut Option<Note>) -> Acted
         requires { (s : machine.State) × IsWorld self.old s }
         ensures { (s : machine.State) → IsWorld self.old s → (t : machine.State) × IsWorld self.new t × ActorDoes s ThePump (answer_of result told.new) t }
     {
+        if self.pump_is_quiet() {
+            return Acted::Idle;
+        }
         match self.step_pump() {
             Ok(Some(note)) => {
                 *told = Some(note);
