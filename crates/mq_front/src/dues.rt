@@ -101,6 +101,7 @@ impl Dues {
     }
 
     /// Puts one more at the back. `Err` is want of memory.
+    #[inline(always)]
     pub fn push(&mut self, due: Due) -> Result<(), NoMemory>
         ensures { OnOk result (self.new ≡ self.old ++ due ∷ []) }
     {

@@ -281,7 +281,7 @@ impl Front {
         ensures { (f : machine.Front) (streams : List Stream) (owed : List ℕ) → IsFront self.old f streams owed → HasPut self.new (updating f owed) streams owed }
     {
         match self {
-            Front::Http2(many) => many.h2.end_act(),
+            Front::Http2(many) => many.end_act(),
             _ => {}
         }
     }

@@ -1,5 +1,7 @@
 //! The front end of a connection of HTTP/2: its core, and the data streams of its requests.
-ghost use Rattle.std.specs.Prelude.{◌==◌, ℕ, not, List, [], filter, OnOk, IfOk};
+ghost use Rattle.std.specs.Prelude.{◌≡◌, ◌==◌, ℕ, not, List, [], filter, OnOk, IfOk};
+ghost use Rattle.mq_h2.specs.Acts.{ends_act};
+ghost use Rattle.mq_h2.specs.Stand.{IsH2};
 ghost use Rattle.mq_h2.specs.State.{State, new_state};
 ghost use Rattle.mq_machine.specs.Http2.{grants, refuses, closes};
 ghost use Rattle.mq_machine.specs.State.{Stream};
@@ -83,6 +85,15 @@ impl Http2 {
         ensures { (h : State) (streams : List Stream) → IsHttp2 self.old h streams → IsHttp2 self.new h (filter (λ (s : Stream). not (s.id == stream)) streams) }
     {
         self.streams.retain(|d| d.id != stream);
+    }
+
+    /// The end of an act: where nothing is owed, the next WINDOW_UPDATE is put that is due. Takes no memory.
+    #[inline(never)]
+    pub fn end_act(&mut self)
+        ensures core { (s : State) → IsH2 self.old.h2 s → IsH2 self.new.h2 (ends_act s) }
+        ensures streams { self.new.streams ≡ self.old.streams }
+    {
+        self.h2.end_act();
     }
 
     /// Puts the answer to a request that is granted (RFC 9298, section 3.5).
