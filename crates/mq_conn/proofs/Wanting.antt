@@ -250,20 +250,8 @@ ends_close c reason t is at s stands = by_state c (λ (x : machine.Conn). want_o
     by_tunnels p [] e = absurd cc
     by_tunnels p (u ∷ us) e = let same : u ≡ t = (let k = e in cc) in ap (λ (v : Tunnel). Ask (call.Close v.id)) same
 
-pub ends_with : (c : Conn) (reason : End) (bytes : List ℕ) → c.ending ≡ Some reason → c.tunnels.items ≡ [] → ((s : machine.Conn) → IsConn c s → bytes ≡ owed s) → (s : machine.Conn) → IsConn c s → want_of s ≡ over_want reason bytes
-ends_with c reason bytes is none owes s stands = ending_by c reason [] bytes is none s stands (owes s stands)
-
-pub over_empty : (reason : End) (bytes : List ℕ) → (length bytes == 0) ≡ true → over_want reason bytes ≡ Over reason
-over_empty reason [] h = refl
-over_empty reason (b ∷ bytes) h = let e : length (b ∷ bytes) ≡ 0 = eqb-true (length (b ∷ bytes)) 0 h in absurd (omega (arith, e))
-
-pub over_given : (reason : End) (bytes : List ℕ) → gives_up reason ≡ true → over_want reason bytes ≡ Over reason
-over_given reason [] h = refl
-over_given reason (b ∷ bytes) h = ap (λ (v : Bool). cond v (Over reason) Nothing) h
-
-pub over_owes : (reason : End) (bytes : List ℕ) → (length bytes == 0) ≡ false → gives_up reason ≡ false → over_want reason bytes ≡ Nothing
-over_owes reason [] h k = absurd cc
-over_owes reason (b ∷ bytes) h k = ap (λ (v : Bool). cond v (Over reason) Nothing) k
+pub ends_with : (c : Conn) (reason : End) → c.ending ≡ Some reason → c.tunnels.items ≡ [] → (s : machine.Conn) → IsConn c s → want_of s ≡ over_want reason (owed s)
+ends_with c reason is none s stands = ending_by c reason [] (owed s) is none s stands refl
 
 -- whether it goes on
 pub wants_stop : (s : machine.Conn) → not (is_nothing (want_of s)) ≡ true → false ≡ can_go_on s

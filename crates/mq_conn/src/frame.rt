@@ -285,7 +285,7 @@ impl Conn {
     pub fn can_frame(&self) -> bool
         ensures { (s : machine.Conn) → IsConn self.now s → result ≡ is_some (steps.framed s) }
     {
-        self.can_go_on() && self.can_frame_any()
+        self.can_frame_any() && self.can_go_on()
     }
 
     /// Frames the capsule whose turn it is, or as much of it as there is room for.

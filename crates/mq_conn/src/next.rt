@@ -1,12 +1,12 @@
 //! What a connection wants, and what it can do beside that.
-ghost use Rattle.std.specs.Prelude.{◌≡◌, ◌≤◌, ◌∷◌, Some, None, not, ℕ, List, length};
+ghost use Rattle.std.specs.Prelude.{◌≡◌, ◌≤◌, ◌∷◌, Some, None, not, ℕ, List, length, MatchBool};
 ghost use Rattle.mq_iptun.specs.Acts.{MayAct, MayAssign, MayAdvertise};
 ghost use Rattle.mq_machine.specs.State as machine;
 ghost use Rattle.mq_machine.specs.Steps as steps;
 ghost use Rattle.mq_machine.specs.Steps.{is_nothing};
 ghost use Rattle.mq_machine.specs.Lawful.{IsUdp};
 ghost use Rattle.mq_machine.specs.Want as machine_want;
-ghost use Rattle.mq_machine.specs.Want.{want_of, act_want, due_want, stream_want, tunnel_want};
+ghost use Rattle.mq_machine.specs.Want.{want_of, act_want, due_want, over_want, stream_want, tunnel_want};
 ghost use Rattle.mq_machine.specs.declared.act.StreamAct.TheVariants as asks;
 ghost use Rattle.mq_machine.specs.declared.act.Due.{Due};
 ghost use Rattle.mq_machine.specs.declared.act.Due.TheVariants.{Do};
@@ -66,15 +66,19 @@ impl Conn {
         }
     }
 
+    /// Whether an ending connection without a tunnel is over: nothing is owed, or that is given up.
+    fn is_over(&self, why: End) -> bool
+        ensures { (s : machine.Conn) → IsConn self.now s → MatchBool result (over_want why (machine.owed s) ≡ machine_want.Over why) (over_want why (machine.owed s) ≡ machine_want.Nothing) }
+    {
+        self.owed().is_empty() || gives_up(Some(why))
+    }
+
     /// Whether an ending connection wants something.
     #[inline(never)]
     fn wants_ending(&self, why: End) -> bool
         ensures { (s : machine.Conn) → IsConn self.now s → self.now.ending ≡ Some why → result ≡ not (is_nothing (want_of s)) }
     {
-        match self.want_ending(why) {
-            Want::Nothing => false,
-            _ => true,
-        }
+        !self.tunnels.is_empty() || self.is_over(why)
     }
 
     /// The tunnel of which it wants to send a payload to the port, if that is what it wants: what `next` tells as `SendUdp`, and
@@ -157,10 +161,7 @@ impl Conn {
         match self.tunnels.first() {
             Some(tunnel) => Want::Ask(Call::Close { tunnel: tunnel.id }),
             None => {
-                if self.owed().is_empty() {
-                    return Want::Ended(why);
-                }
-                if gives_up(Some(why)) {
+                if self.is_over(why) {
                     return Want::Ended(why);
                 }
                 Want::Nothing

@@ -58,6 +58,7 @@ impl Conn {
     }
 
     /// All of a DATA frame is done.
+    #[inline(never)]
     fn spend(&mut self, stream: u32, size: u32)
         ensures spends { Spends self.old self.new stream size }
         ensures rest { (d : Due) (rest : List Due) → self.old.due ≡ d ∷ rest → self.new.due ≡ rest }
@@ -69,6 +70,7 @@ impl Conn {
     }
 
     /// It is ending, for an error of the connection.
+    #[inline(never)]
     fn fault(&mut self, code: u32)
         ensures { self.new ≡ record self.old { due = []; ending = Some (End.Protocol code) } }
     {
