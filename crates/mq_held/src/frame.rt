@@ -6,6 +6,7 @@ ghost use Rattle.mq_held.specs.Frames.{FrameGives};
 ghost use Rattle.mq_held.specs.Notes.{HasNote, note_with};
 
 use crate::held::Held;
+use crate::note::put_note;
 use mq_talk::Note;
 use mq_wire::NoMemory;
 
@@ -21,7 +22,7 @@ impl<L> Held<L> {
         }
         match self.conn.frame() {
             Ok(note) => {
-                *told = Some(note);
+                put_note(told, note);
                 Ok(true)
             }
             Err(refused) => Err(refused),

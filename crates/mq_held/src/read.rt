@@ -6,6 +6,7 @@ ghost use Rattle.mq_held.specs.Links.{calls_of, ReadGives};
 ghost use Rattle.mq_held.specs.Notes.{went_with};
 
 use crate::held::Held;
+use crate::note::put_note;
 use crate::went::{Went, size_of};
 use mq_machine::Setup;
 use mq_outside::{Link, LinkGot};
@@ -38,7 +39,7 @@ impl<L: Link> Held<L> {
             }
             LinkGot::End => {
                 self.conn.finish();
-                *told = Some(Note::Finished { conn: self.number });
+                put_note(told, Note::Finished { conn: self.number });
                 Ok(Went::Did)
             }
             LinkGot::Bytes(count) => {
@@ -46,10 +47,8 @@ impl<L: Link> Held<L> {
                 match self.conn.feed(setup, piece) {
                     Err(refused) => Err(refused),
                     Ok(()) => {
-                        *told = Some(Note::Took {
-                            conn: self.number,
-                            count,
-                        });
+                        let conn = self.number;
+                        put_note(told, Note::Took { conn, count });
                         Ok(Went::Did)
                     }
                 }

@@ -10,6 +10,7 @@ ghost use Rattle.mq_held.specs.Ports.{receive_calls, ReceiveGives, KeepsMost};
 
 use crate::datagrams::{Came, receive};
 use crate::held::{Held, PortSeat};
+use crate::note::put_note;
 use crate::ready::ReceiveReady;
 use crate::went::Went;
 use mq_outside::Ports;
@@ -56,7 +57,8 @@ impl<L> Held<L> {
             }
             Ok(Came::Datagram(packet)) => {
                 let from = From::Port(seat.tunnel);
-                *told = Some(self.conn.deliver(from, seat.received, seat.tunnel, packet));
+                let note = self.conn.deliver(from, seat.received, seat.tunnel, packet);
+                put_note(told, note);
                 Ok(Went::Did)
             }
         }

@@ -8,6 +8,7 @@ ghost use Rattle.mq_held.specs.Notes.{went_with};
 ghost use Rattle.mq_held.specs.Ready.{WouldWrite};
 
 use crate::held::Held;
+use crate::note::put_note;
 use crate::ready::WriteReady;
 use crate::went::{Went, size_of};
 use mq_outside::LinkPut;
@@ -72,10 +73,8 @@ impl<L: WriteReady> Held<L> {
                 let (first, _) = owed.split_at(size_of(count));
                 let bytes = filled(room, first);
                 self.conn.wrote(count);
-                *told = Some(Note::Wrote {
-                    conn: self.number,
-                    bytes,
-                });
+                let conn = self.number;
+                put_note(told, Note::Wrote { conn, bytes });
                 Ok(Went::Did)
             }
         }

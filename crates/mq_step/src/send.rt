@@ -12,7 +12,7 @@ ghost use Rattle.mq_step.specs.Sights.{SeesTable};
 ghost use Rattle.mq_step.specs.Wanted.{ActGives};
 
 use crate::stepped::Stepped;
-use mq_held::Held;
+use mq_held::{Held, put_note};
 use mq_outside::Ports;
 use mq_ports::PortTable;
 use mq_talk::Note;
@@ -40,7 +40,7 @@ pub fn send<L, P: Ports>(
     let seat = held.ports[place];
     match held.send(seat.key, table) {
         Some(note) => {
-            *told = Some(note);
+            put_note(told, note);
             Stepped::Did
         }
         None => Stepped::Quiet,

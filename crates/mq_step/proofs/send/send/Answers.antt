@@ -19,7 +19,7 @@ pub index-seat-requires : goal.index-seat-requires
 index-seat-requires g c = let x = c.in-Some.ensures in let lt = at_within c.args.held.now.ports.items c.in-Some.place x.0 x.1.at in search (rules, lt)
 
 pub returns-in-Some-send-clause-gives : goal.returns-in-Some-send-clause-gives
-returns-in-Some-send-clause-gives g c = λ o n so sn seen s held k payload want count mail has orders.
+returns-in-Some-send-clause-gives g c = λ o n so sn seen s held k payload want count mail has. rw (c.put_note.ensures) (λ orders.
     let m = mailed seen count mail has in
     let old = c.args.held.now in
     let new = c.send.new.self in
@@ -57,7 +57,7 @@ returns-in-Some-send-clause-gives g c = λ o n so sn seen s held k payload want 
           (ap (λ (b : Binder). b.holds) (sn.binds_are ∙ ap (binder g.P.Ports.holds g.P.Ports.faults) c.in-Some-send.ensures.ports ∙ sym so.binds_are)),
       sent_stands most g.P.P.Port.holds g.P.P.Port.counts table after old new o n s c.args.tunnel k payload sends c.in-Some-send.note d.0 d.1 d.2,
       sent_told most g.P.P.Port.holds g.P.P.Port.counts table after old new o n s c.args.tunnel k payload sends c.in-Some-send.note d.0 d.1,
-    )
+    ))
 
 pub returns-in-Some-send-clause-others : goal.returns-in-Some-send-clause-others
 returns-in-Some-send-clause-others g c = λ key port at other.

@@ -7,4 +7,4 @@ pub returns-in-Ok-clause-gives : goal.returns-in-Ok-clause-gives
 returns-in-Ok-clause-gives g c = λ s stands.
     let can : is_some (framed s) ≡ true = sym (c.can_frame.ensures s stands) ∙ c.if-not-can_frame.false in
     let f = c.in-Ok.ensures.frames s stands can in
-    (f.0, f.2, f.1)
+    rw (c.put_note.ensures) (f.0, f.2, f.1)

@@ -23,7 +23,7 @@ returns-in-End-clause-gives g c = λ s stands number.
     c.read.new.into c.in-End.ensures.reads c.in-End.ensures.past c.in-End.ensures.counts in
     let f = c.finish.ensures s stands can in
     let t : Conn = (finished s f.0).1 in
-    (can, (t, inr (f.0, does, f.1, ap {B = Note × Conn} (λ (n : ℕ). (note.Finished n, t)) number), f.2))
+    rw (c.put_note.ensures) (can, (t, inr (f.0, does, f.1, ap {B = Note × Conn} (λ (n : ℕ). (note.Finished n, t)) number), f.2))
 
 pub returns-in-Ok-clause-gives : goal.returns-in-Ok-clause-gives
 returns-in-Ok-clause-gives g c = λ s stands number.
@@ -35,4 +35,4 @@ returns-in-Ok-clause-gives g c = λ s stands number.
     c.read.new.into c.split_at.result.0.now c.in-Bytes.count size r.some.0 r.some.1 r.reads r.past r.counts piece_is in
     let f = c.in-Ok.ensures.takes (some_read c.read.new.into c.split_at.result.0.now c.in-Bytes.count r.some.0 r.some.1 piece_is) s stands can in
     let is = ap {B = Note} (λ (n : ℕ). note.Took n c.in-Bytes.count) (sym number) ∙ ap {B = Note} (λ (n : ℕ). note.Took s.number n) (size_read c.read.new.into c.split_at.result.0.now c.in-Bytes.count r.some.1 piece_is) in
-    (can, (f.0, inl (c.split_at.result.0.now, piece, f.2, is), f.1))
+    rw (c.put_note-in-Ok.ensures) (can, (f.0, inl (c.split_at.result.0.now, piece, f.2, is), f.1))

@@ -17,4 +17,4 @@ returns-in-Took-clause-gives g c = λ s stands number.
     c.owed-owed.result.now c.filled-bytes.result c.in-Took.count same e.some.0 e.some.1 c.size_of.ensures.small e.writes e.counts (c.filled-bytes.ensures ∙ c.split_at.ensures.front ∙ ap (λ (n : ℕ). take n c.owed-owed.result.now) c.size_of.ensures.size) in
     let P : ℕ → Type 0 = λ n. WriteDoes (record { holds = g.L.Link.holds old.link; after = g.L.Link.holds c.write.new.self; past = g.L.Link.past old.link; past_after = g.L.Link.past c.write.new.self; counts = g.L.Link.counts old.link; counts_after = g.L.Link.counts c.write.new.self }) s
     (note.Wrote n c.filled-bytes.result) (wrote s c.in-Took.count).1 in
-    ((wrote s c.in-Took.count).1, subst P number does, c.wrote.ensures s stands within)
+    rw (c.put_note.ensures) ((wrote s c.in-Took.count).1, subst P number does, c.wrote.ensures s stands within)
