@@ -1,16 +1,16 @@
--- Where a part of the ring begins among connections whose numbers rise, and what keeps them rising.
-use Rattle.std.proofs.Common.{refl, ◌≡◌, ◌⊎◌, inl, inr, ◌∙◌, sym, ap, subst, ℕ, zero, suc, ◌+◌, ◌-◌, ◌<◌, ◌≤◌, ◌==◌, ◌&&◌, ◌||◌, not, Bool, true, false, cond, List, [], ◌∷◌, length, remove, nat_lt, nat_le, slice_get, slice_set, slice_index_or, Option, Some, None}
+-- Where a part of the ring begins among connections whose numbers rise, where a number is, and what keeps them rising.
+use Rattle.std.proofs.Common.{refl, ◌≡◌, ◌⊎◌, inl, inr, ◌∙◌, sym, ap, subst, ℕ, zero, suc, ◌+◌, ◌-◌, ◌<◌, ◌≤◌, ◌==◌, ◌&&◌, ◌||◌, not, Bool, true, false, cond, List, [], ◌∷◌, length, position, remove, nat_lt, nat_le, slice_get, slice_set, slice_index_or, Option, Some, None}
 use Rattle.std.specs.Bool.{then_some}
 use Rattle.std.specs.Option.{option_map_or}
 use native.Mathlib.Omega.{arith}
-use Rattle.std.proofs.lemmas.Bool.{cases_eq, ltb-true, ltb-false, lt-ltb, le-ltb, le-leb, lt-leb, eqb-true}
+use Rattle.std.proofs.lemmas.Bool.{cases_eq, ltb-true, ltb-false, lt-ltb, le-ltb, le-leb, lt-leb, eqb-true, ne_eqb}
 use Rattle.std.proofs.lemmas.List.Sums.{position_or_len_is}
 use Rattle.std.proofs.lemmas.Option.{slice_get-get_or}
 use Rattle.mq_step.proofs.Others.{at_within}
 use Rattle.mq_held.specs.declared.held.Held.{Held as HeldBy}
 use Rattle.mq_actor.specs.Passing.{is_in_part}
 use Rattle.mq_actor.specs.Beginnings.{first_place, stands_before}
-use Rattle.mq_actor.specs.Conns.{NumbersRise}
+use Rattle.mq_actor.specs.Conns.{NumbersRise, stands_at}
 use Rattle.mq_actor.proofs.Lists.{get_set_same, get_set_other, get_removed}
 use Rattle.mq_actor.proofs.Rising.{first_at}
 
@@ -114,6 +114,27 @@ upper_begins {L} from hs place rises is = by (stands_before from hs place) refl 
       let within = at_within hs (place - 1) b.0 b.1 in
       at_place hs refl e (omega (arith, within)) (below b.0 b.1 b.2)
   by false e false ez false ed is = absurd cc
+
+-- ---- where a number is
+
+-- at a place where one has it
+pub has_at : {L : Type 0} (hs : List (HeldBy L)) (number place : ℕ) → NumbersRise hs → stands_at number hs place ≡ true → position (λ (h : HeldBy L). h.number == number) hs ≡ Some place
+has_at {L} hs number place rises e = by (slice_get hs place) refl e where
+  p : HeldBy L → Bool
+  p h = h.number == number
+
+  by : (o : Option (HeldBy L)) → slice_get hs place ≡ o → option_map_or p o false ≡ true → position p hs ≡ Some place
+  by None at e = absurd cc
+  by (Some h) at e =
+      let lt : place < length hs = at_within hs place h at in
+      let here : Some (slice_index_or hs place h) ≡ Some h = sym (slice_get-get_or hs place h lt) ∙ at in
+      let same : slice_index_or hs place h ≡ h = cc in
+      let is : h.number ≡ number = eqb-true h.number number e in
+      let before : (k : ℕ) → k < place → p (slice_index_or hs k h) ≡ false =
+      λ k less. let up : (slice_index_or hs k h).number < h.number = rises k place (slice_index_or hs k h) h (slice_get-get_or hs k h (omega (arith, less, lt))) at less in
+      ne_eqb (slice_index_or hs k h).number number (λ equal. omega (arith, up, is, equal)) in
+      first_at p hs place (position_or_len_is p hs place h (omega (arith, lt)) before (λ within. ap p same ∙ e))
+      ∙ ap {B = Option ℕ} (λ (b : Bool). cond b (Some place) None) (lt-ltb place (length hs) lt)
 
 -- ---- what keeps numbers rising
 

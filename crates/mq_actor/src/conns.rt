@@ -4,7 +4,7 @@ ghost use Rattle.std.specs.Prelude.{◌≡◌, ◌<◌, ◌++◌, ◌∷◌, ◌
 ghost use Rattle.std.specs.Borrow.{sem, Lends};
 ghost use Rattle.std.specs.Vec.{vec_len, vec_capacity};
 ghost use Rattle.mq_held.specs.declared.held.Held.{Held as HeldBy};
-ghost use Rattle.mq_actor.specs.Conns.{NumbersRise, with_link_of};
+ghost use Rattle.mq_actor.specs.Conns.{NumbersRise, stands_at, with_link_of};
 ghost use Rattle.mq_actor.specs.contracts.conns.Conns.{the_row};
 
 mod first;
@@ -23,6 +23,8 @@ pub struct Conns<L> {
     is_rising: bool,
     /// The place behind that of the last turn: there the next search is likely to begin.
     next: usize,
+    /// The place behind that of the link that was lent last: the next that is asked for is likely to be there.
+    asked: usize,
 }
 
 impl<L> Model for Conns<L> {
@@ -39,6 +41,16 @@ impl<L> Model for Conns<L> {
     ghost invariant = { λ s. s.is_rising ≡ true → NumbersRise s.list.items };
 }
 
+/// Whether there is one at a place, and it has this number.
+fn is_at<L>(conns: &[Held<L>], place: usize, number: u32) -> bool
+    ensures { result ≡ stands_at number conns.now place }
+{
+    match conns.get(place) {
+        None => false,
+        Some(held) => held.number == number,
+    }
+}
+
 impl<L: Drop> Conns<L> {
     /// There are none.
     pub(crate) fn new(alloc: Global) -> Conns<L>
@@ -48,6 +60,7 @@ impl<L: Drop> Conns<L> {
             list: Vec::new(alloc),
             is_rising: true,
             next: 0,
+            asked: 0,
         }
     }
 
@@ -107,10 +120,23 @@ impl<L: Drop> Conns<L> {
         self.list.remove(place)
     }
 
+    /// The place where the link that is asked for next is likely to be. Behind the last comes the first.
+    fn likely(&self) -> usize {
+        if self.asked < self.list.len() {
+            self.asked
+        } else {
+            0
+        }
+    }
+
     /// The place of the one with this number.
     pub(crate) fn place_of(&self, number: u32) -> Option<usize>
         ensures { result ≡ position (λ h. h.number == number) self.now.items }
     {
+        let likely = self.likely();
+        if self.is_rising && is_at(self.list.as_slice(), likely, number) {
+            return Some(likely);
+        }
         self.list.iter().position(|held| held.number == number)
     }
 
@@ -120,6 +146,7 @@ impl<L: Drop> Conns<L> {
         ensures* writes_back { sem 𝓛 (Lends (the_row L.row) L.row self.entry result (with_link_of self.old place)) }
         ensures value { (h : HeldBy L) → slice_get self.old.items place ≡ Some h → result.now ≡ h.link }
     {
+        self.asked = place + 1;
         let held = &mut self.list[place];
         &mut held.link
     }

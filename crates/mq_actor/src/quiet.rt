@@ -94,7 +94,7 @@ fn could_write<L: WriteReady>(held: &Held<L>) -> bool
 fn could_read<L: ReadReady>(held: &Held<L>) -> bool
     ensures { (s : machine.Conn) (link : machine.Link) → IsConn held.now.conn s → L.holds held.now.link ≡ Some link → result ≡ can_read s && can_take link }
 {
-    held.conn.can_read() && held.link.would_read()
+    held.link.would_read() && held.conn.can_read()
 }
 
 /// Whether a receive on the port under a key would do something now.
