@@ -149,6 +149,7 @@ impl Reader {
 
     /// Takes bytes until a capsule is whole or can't be one, or all of them. One that is kept, begins with the piece and is whole
     /// in it is read where it lies.
+    #[inline(always)]
     fn advance(&mut self, alloc: Global, piece: &[u8]) -> Result<Taken, NoMemory>
         ensures within { IfOk result (λ taken. taken.used ≤ length piece.now) }
         ensures some { IfOk result (λ taken. TakesByte self.old piece.now taken.used) }

@@ -232,6 +232,7 @@ impl MemLink {
     }
 
     /// Reads, as `read` does.
+    #[inline(always)]
     fn read_now(&mut self, into: &mut [u8]) -> LinkGot
         requires { 0 < length into.old }
         ensures answer { result ≡ got_of self.old (length into.old) }
@@ -287,6 +288,7 @@ impl Link for MemLink {
 
     ghost rest_counts = { λ l. l.counts };
 
+    #[inline(always)]
     fn read(&mut self, into: &mut [u8]) -> LinkGot
         requires { 0 < length into.old }
         ensures some { GivesSome into.new result }

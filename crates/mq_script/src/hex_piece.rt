@@ -38,6 +38,7 @@ fn lacks_capitals(text: &[u8]) -> bool
 }
 
 /// The bytes that a text spells in hex, in pairs of digits from `0` to `9` and `a` to `f`. There are some.
+#[inline(always)]
 pub fn parse_hex(alloc: Global, text: &[u8]) -> Result<Bytes, LineFault>
     ensures { IsParsed (IsHex text.now) result }
 {

@@ -72,6 +72,7 @@ pub fn append_number(out: &mut Vec<u8>, number: u64) -> Result<(), NoMemory>
 }
 
 /// Appends bytes in hex, in twice as many digits; an `Err` leaves a part of them.
+#[inline(always)]
 pub fn append_hex(out: &mut Vec<u8>, bytes: &[u8]) -> Result<(), NoMemory>
     ensures { Appends out.old.items (encode_lower bytes.now) out.new.items result }
 {
@@ -84,6 +85,7 @@ pub fn append_hex(out: &mut Vec<u8>, bytes: &[u8]) -> Result<(), NoMemory>
     Ok(())
 }
 
+#[inline(always)]
 fn append_bytes(out: &mut Vec<u8>, bytes: &[u8]) -> Result<(), NoMemory>
     ensures { Appends out.old.items (bytes_text bytes.now) out.new.items result }
 {
