@@ -32,8 +32,14 @@ module _ {K : Type 0} where
   prints_shown taken o p q shown next same e = prints_flushed taken o p q shown (prints_said taken o p shown same e) next
 
 -- a sink that wasn't called
-pub silent_counts : (before after : ℕ) (answer : Result (Unit {0}) Stop) → after ≡ before → IsSilent answer → StopCounts before after answer
+pub silent_counts : {A : Type 0} (before after : ℕ) (answer : Result A Stop) → after ≡ before → IsSilent answer → StopCounts before after answer
 silent_counts before after (Ok done) e s = e
 silent_counts before after (Err BadLine) e s = e
 silent_counts before after (Err NoMemory) e s = e
 silent_counts before after (Err WriteFault) e s = absurd s
+
+-- whatever the answer would have been
+pub silent_why : (A B : Type 0) (why : Stop) → IsSilent {A = A} (Err why) → IsSilent {A = B} (Err why)
+silent_why A B BadLine s = s
+silent_why A B NoMemory s = s
+silent_why A B WriteFault s = s

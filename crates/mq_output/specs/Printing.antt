@@ -49,7 +49,7 @@ Spills (Err BadLine) = ⊥
 Spills (Err NoMemory) = ⊥
 
 -- the answer is no fault of the sink
-abbrev pub IsSilent : Result (Unit {0}) Stop → Type 0
+abbrev pub IsSilent : {A : Type 0} → Result A Stop → Type 0
 IsSilent (Ok done) = Unit {0}
 IsSilent (Err BadLine) = Unit {0}
 IsSilent (Err NoMemory) = Unit {0}

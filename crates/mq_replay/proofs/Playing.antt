@@ -1,5 +1,5 @@
 -- What the parts of a line's play say of the line.
-use Rattle.std.proofs.Common.{◌≡◌, ◌≢◌, ℕ, ◌≤◌, ◌<◌, Bool, true, false, List, [], ◌∷◌, ◌++◌, length, Result, Ok, Err, refl, sym, ap, subst, inl, inr}
+use Rattle.std.proofs.Common.{◌≡◌, ◌≢◌, ℕ, ◌≤◌, ◌<◌, Bool, true, false, List, [], ◌∷◌, ◌++◌, length, Option, Some, None, Result, Ok, Err, refl, sym, ap, subst, inl, inr}
 use Rattle.std.specs.List.{AllByRecursion}
 use Rattle.std.specs.Prelude.{if◌then◌else◌}
 use Rattle.std.proofs.lemmas.Bool.{lt-ltb, le-ltb}
@@ -14,9 +14,10 @@ use Rattle.mq_play.specs.Play as spec
 use Rattle.mq_play.specs.Play.{Fate, Until, TheEnd, SomeStop, Settings, Running, opening, opened, actor_of, is_actor, Runs, Goes, LinePlays, IsBadHere, IsWrong, Plays, PlaysLine, line_limit}
 use Rattle.mq_script.specs.Settings.{Made, IsSettings, Adds}
 use Rattle.mq_replay.specs.Listening.{MayBeNone}
-use Rattle.mq_replay.specs.Playing.{Answers, LedTo, RunsTo, GoesTo, SaidTo, LineTo}
+use Rattle.mq_replay.specs.Playing.{Answers, LedTo, RunsTo, GoesTo, SaidTo, LineTo, SaidOrLeft, LineOrLeft, line_of}
 use Rattle.mq_replay.specs.Stages.{IsStage}
 use Rattle.mq_replay.specs.Telling.{IsSpoken, AreTold}
+use Rattle.mq_replay.specs.declared.play.StepsLine.{StepsLine}
 use Rattle.mq_replay.specs.declared.stage.Stage.{Stage}
 use Rattle.mq_replay.specs.declared.stage.Stage.TheVariants as stage
 use Rattle.mq_output.specs.declared.stop.Stop.{Stop}
@@ -108,6 +109,12 @@ said_any May s said shown answer x told =
     (λ until fates t. LinePlays until s said fates shown t × AllByRecursion May fates) (IsBadHere s said) (IsBadHere s said) shown answer
     (λ until fates t plays. (plays.0, none_heard May fates plays.1)) (λ t stands. stands) (λ bad. bad) told
 
+pub line_any : (May : Fate → Type 0) (s : spec.Stage) (bytes shown : List ℕ) (answer : Result (Unit {0}) Stop) (x : Stage) → LineTo MayBeNone s bytes shown answer x → LineTo May s bytes shown answer x
+line_any May s bytes shown answer x told =
+    led (λ (t : spec.Stage). t) (IsStage x) (IsStage x) (λ until fates t. PlaysLine until s bytes fates shown t × AllByRecursion MayBeNone fates)
+    (λ until fates t. PlaysLine until s bytes fates shown t × AllByRecursion May fates) (IsWrong s bytes) (IsWrong s bytes) shown answer
+    (λ until fates t plays. (plays.0, none_heard May fates plays.1)) (λ t stands. stands) (λ bad. bad) told
+
 -- a line that does nothing
 pub blank_said : {May : Fate → Type 0} (x : Stage) (s : spec.Stage) (said : Line) → said ≡ line.Blank → IsStage x s → SaidTo May s said [] (Ok tt) x
 blank_said {May = May} x s said is stands =
@@ -119,6 +126,22 @@ pub unsaid_spent : (May : Fate → Type 0) (x : Stage) (s : spec.Stage) (said : 
 unsaid_spent May x s said why e =
     let P : Stop → Type 0 = λ stop. SaidTo May s said [] (Err stop) x in
     subst P (sym e) (inl refl)
+
+-- ---- a line of steps, which is left
+
+pub line_left : (s : spec.Stage) (bytes : List ℕ) (said : Line) (was now : Stage) (result : Result (Option StepsLine) Stop) → length bytes ≤ line_limit → Says bytes said → SaidOrLeft s said was now result → LineOrLeft s bytes was now result
+line_left s bytes said was now (Ok None) fits says told = line_said MayBeNone now s bytes said [] (Ok tt) fits says told
+line_left s bytes said was now (Ok (Some steps)) fits says told = (subst (Says bytes) told.0 says, told.1)
+line_left s bytes said was now (Err why) fits says told = line_said MayBeNone now s bytes said [] (Err why) fits says told
+
+pub none_left : (s : spec.Stage) (bytes : List ℕ) (was now : Stage) (left : Option StepsLine) → left ≡ None → LineOrLeft s bytes was now (Ok left) → LineTo MayBeNone s bytes [] (Ok tt) now
+none_left s bytes was now left is told = let P : Option StepsLine → Type 0 = λ o. LineOrLeft s bytes was now (Ok o) in subst P is told
+
+pub steps_left : (s : spec.Stage) (bytes : List ℕ) (was now : Stage) (left : Option StepsLine) (given steps : StepsLine) → left ≡ Some given → given ≡ steps → LineOrLeft s bytes was now (Ok left) → Says bytes (line_of steps) × (now ≡ was)
+steps_left s bytes was now left given steps some is told =
+    let P : Option StepsLine → Type 0 = λ o. LineOrLeft s bytes was now (Ok o) in
+    let Q : StepsLine → Type 0 = λ steps. Says bytes (line_of steps) × (now ≡ was) in
+    subst Q is (subst P some told)
 
 -- ---- what happens
 

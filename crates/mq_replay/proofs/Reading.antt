@@ -117,7 +117,7 @@ read_none x script lines text r =
     subst P (sym (append-nil script)) (subst Q (sym (append-nil text)) r)
 
 -- a limit is no fault of the sink
-pub room_silent : (line count ended : ℕ) (why : Stop) → RoomTo line count ended (Err why) → IsSilent (Err why)
+pub room_silent : (line count ended : ℕ) (why : Stop) → RoomTo line count ended (Err why) → IsSilent {A = Unit {0}} (Err why)
 room_silent line count ended BadLine r = tt
 room_silent line count ended WriteFault r = absurd r
 room_silent line count ended NoMemory r = absurd r

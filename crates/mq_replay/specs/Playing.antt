@@ -4,13 +4,18 @@ use Rattle.std.specs.List.{AllByRecursion}
 use Rattle.mq_machine.specs.State.{State}
 use Rattle.mq_machine.specs.Turn.{Actor, WorkerOf, has_turn, Quiet}
 use Rattle.mq_play.specs.declared.line.Line.{Line}
+use Rattle.mq_play.specs.declared.line.Line.TheVariants as line
+use Rattle.mq_play.specs.Lines.{Says}
 use Rattle.mq_play.specs.Play as spec
 use Rattle.mq_play.specs.Play.{Fate, StepsTo, Until, TheEnd, SomeStop, Runs, Goes, place_behind, actor_of, is_actor, LinePlays, IsBadHere, PlaysLine, IsWrong}
 use Rattle.mq_replay.specs.declared.stage.Stage.{Stage}
 use Rattle.mq_output.specs.declared.stop.Stop.{Stop}
 use Rattle.mq_output.specs.declared.stop.Stop.TheVariants.{BadLine, WriteFault, NoMemory}
+use Rattle.mq_replay.specs.declared.play.StepsLine.{StepsLine}
+use Rattle.mq_replay.specs.declared.play.StepsLine.TheVariants.{Steps, Run}
 use Rattle.mq_replay.specs.declared.steps.Moved.{Moved}
 use Rattle.mq_replay.specs.declared.steps.Moved.TheVariants.{Acted, Idle}
+use Rattle.mq_replay.specs.Listening.{MayBeNone}
 use Rattle.mq_replay.specs.Stages.{IsStage}
 use Rattle.mq_world.specs.declared.stepped.Stepped.{Stepped}
 use Rattle.mq_world.specs.declared.stepped.WorldFault.{WorldFault}
@@ -96,3 +101,20 @@ SaidTo May s said shown answer x =
 abbrev pub LineTo : (Fate → Type 0) → spec.Stage → List ℕ → List ℕ → Result (Unit {0}) Stop → Stage → Type 0
 LineTo May s bytes shown answer x =
     LedTo (IsStage x) (λ until fates t. PlaysLine until s bytes fates shown t × AllByRecursion May fates) (IsWrong s bytes) shown answer
+
+-- the line by which these steps are taken
+abbrev pub line_of : StepsLine → Line
+line_of (Steps actor count) = line.Steps actor count
+line_of (Run count) = line.Run count
+
+-- what a line says was done, or these are its steps, which are left
+abbrev pub SaidOrLeft : spec.Stage → Line → Stage → Stage → Result (Option StepsLine) Stop → Type 0
+SaidOrLeft s said was now (Ok None) = SaidTo MayBeNone s said [] (Ok tt) now
+SaidOrLeft s said was now (Ok (Some steps)) = (said ≡ line_of steps) × (now ≡ was)
+SaidOrLeft s said was now (Err why) = SaidTo MayBeNone s said [] (Err why) now
+
+-- the same of a whole line
+abbrev pub LineOrLeft : spec.Stage → List ℕ → Stage → Stage → Result (Option StepsLine) Stop → Type 0
+LineOrLeft s bytes was now (Ok None) = LineTo MayBeNone s bytes [] (Ok tt) now
+LineOrLeft s bytes was now (Ok (Some steps)) = Says bytes (line_of steps) × (now ≡ was)
+LineOrLeft s bytes was now (Err why) = LineTo MayBeNone s bytes [] (Err why) now

@@ -4,7 +4,7 @@ ghost use Rattle.mq_play.specs.declared.line.Line.TheVariants as line;
 ghost use Rattle.mq_play.specs.Play as spec;
 ghost use Rattle.mq_play.specs.Play.{line_limit};
 ghost use Rattle.mq_replay.specs.Listening.{MayBeNone};
-ghost use Rattle.mq_replay.specs.Playing.{Answers, LineTo, SaidTo};
+ghost use Rattle.mq_replay.specs.Playing.{Answers, LineOrLeft, LineTo, SaidOrLeft, SaidTo};
 ghost use Rattle.mq_output.specs.Printing.{IsSilent, StopCounts};
 ghost use Rattle.mq_replay.specs.Stages.{IsStage};
 ghost use Rattle.mq_replay.specs.Telling.{IsSpoken};
@@ -19,6 +19,15 @@ use mq_play::Line;
 use mq_script::{LineFault, parse_line};
 use mq_world::{Stepped, WorldFault};
 use std::alloc::Global;
+
+/// A line by which steps are taken.
+#[derive(Clone, Copy)]
+pub enum StepsLine {
+    /// Up to so many of one actor.
+    Steps { actor: u32, count: u32 },
+    /// Up to so many of all actors in turn.
+    Run { count: u32 },
+}
 
 /// Whether the play goes on behind what was no step.
 fn answer_of(stepped: Result<Stepped, WorldFault>) -> Result<(), Stop>
@@ -46,6 +55,7 @@ fn happen(alloc: Global, stage: &mut Stage, event: Event) -> Result<(), Stop>
 }
 
 /// An actor takes steps in the world of a stage, which begins here at the latest.
+#[inline(never)]
 fn run_steps<L: Listener>(
     alloc: Global,
     stage: &mut Stage,
@@ -68,6 +78,7 @@ fn run_steps<L: Listener>(
 }
 
 /// All actors take steps in the world of a stage, which begins here at the latest.
+#[inline(never)]
 fn run_turns<L: Listener>(
     alloc: Global,
     stage: &mut Stage,
@@ -85,28 +96,43 @@ fn run_turns<L: Listener>(
     take_turns(world, count, listener)
 }
 
-/// Does what a line says.
-fn play_said<L: Listener>(
-    alloc: Global,
-    stage: &mut Stage,
-    said: Line,
-    listener: &mut L,
-) -> Result<(), Stop>
+/// Does what a line says, where that is no step; a line of steps is answered.
+fn do_said(alloc: Global, stage: &mut Stage, said: Line) -> Result<Option<StepsLine>, Stop>
     requires { IsSpoken said }
-    ensures said { (shown : List ℕ) × L.hears listener.old listener.new shown
-        × ((s : spec.Stage) → IsStage stage.old s → SaidTo L.may_hear s said shown result stage.new) }
-    ensures counts { StopCounts (L.faults listener.old) (L.faults listener.new) result }
+    ensures does { (s : spec.Stage) → IsStage stage.old s → SaidOrLeft s said stage.old stage.new result }
+    ensures silent { IsSilent result }
 {
     match said {
-        Line::Blank => Ok(()),
-        Line::Setting(setting) => stage.set(setting),
-        Line::Happens(event) => happen(alloc, stage, event),
-        Line::Steps { actor, count } => run_steps(alloc, stage, actor, count, listener),
-        Line::Run { count } => run_turns(alloc, stage, count, listener),
+        Line::Blank => Ok(None),
+        Line::Setting(setting) => {
+            stage.set(setting)?;
+            Ok(None)
+        }
+        Line::Happens(event) => {
+            happen(alloc, stage, event)?;
+            Ok(None)
+        }
+        Line::Steps { actor, count } => Ok(Some(StepsLine::Steps { actor, count })),
+        Line::Run { count } => Ok(Some(StepsLine::Run { count })),
+    }
+}
+
+/// The same for a whole line, without its newline. It stands once, whoever listens to the steps.
+#[inline(never)]
+fn do_line(alloc: Global, stage: &mut Stage, text: &[u8]) -> Result<Option<StepsLine>, Stop>
+    requires { length text.now ≤ line_limit }
+    ensures does { (s : spec.Stage) → IsStage stage.old s → LineOrLeft s text.now stage.old stage.new result }
+    ensures silent { IsSilent result }
+{
+    match parse_line(alloc, text) {
+        Ok(said) => do_said(alloc, stage, said),
+        Err(LineFault::Syntax) => Err(Stop::BadLine),
+        Err(LineFault::NoMemory) => Err(Stop::NoMemory),
     }
 }
 
 /// Does what a whole line says, without its newline.
+#[inline(always)]
 pub fn play_line<L: Listener>(
     alloc: Global,
     stage: &mut Stage,
@@ -118,9 +144,9 @@ pub fn play_line<L: Listener>(
         × ((s : spec.Stage) → IsStage stage.old s → LineTo L.may_hear s text.now shown result stage.new) }
     ensures counts { StopCounts (L.faults listener.old) (L.faults listener.new) result }
 {
-    match parse_line(alloc, text) {
-        Ok(said) => play_said(alloc, stage, said, listener),
-        Err(LineFault::Syntax) => Err(Stop::BadLine),
-        Err(LineFault::NoMemory) => Err(Stop::NoMemory),
+    match do_line(alloc, stage, text)? {
+        None => Ok(()),
+        Some(StepsLine::Steps { actor, count }) => run_steps(alloc, stage, actor, count, listener),
+        Some(StepsLine::Run { count }) => run_turns(alloc, stage, count, listener),
     }
 }
